@@ -1,0 +1,250 @@
+-- Laws of bits in octets, of laying bits over them, and of reading what was laid. Assumes nothing.
+use mathlib.Core.Path.{_≡_, refl, sym, ap, ap₂, _∙_, subst}
+use mathlib.Core.List.{List, [], _∷_, _++_, append-assoc}
+use mathlib.Core.Logic.{_≢_}
+use Prim.Native.Nat.{ℕ, zero, suc, _+_, _-_, _*_, _/_, _%_, _^_, _≤_, _<_, zero-le, suc-le-suc, min}
+use native.Mathlib.Nat.{le-of-suc-le-suc, not-suc-le-zero, mod-lt, zero-add, suc-add, add-zero, add-suc, suc-mul}
+use native.Mathlib.Numerals.{add-one}
+use native.Mathlib.Omega.{arith}
+use lib.Pow.{pow-pos, pow-mono, shl-exact}
+use lib.Bits.{bitAnd, bitXor, differ, and-mask, xor-lt}
+use lib.ListN.{length, getD, take, drop, set, length-append, List·getD-append, List·getD-eq-default, length-set, length-take, length-drop, take-append-drop}
+use lib.Seq.{getD-append-add, set-append-left, set-out, getD-drop, getD-take, getD-set-same, getD-set-other, length-take-le, ext-getD, sets, length-sets, sets-eq, take-at, drop-at, take-suc, take-all}
+use Rattle.octets.specs.Bits.{digitsOf, valueOf, bitsOf, octetsOf, bitOf, part, laid}
+use Rattle.octets.proofs.Digits.{Bits, append-bits, take-bits, drop-bits, digits-length, digits-bits, digits-at, flip, digits-value, value-digits, value-next, value-grows}
+
+-- every element of s is an octet
+abbrev pub Octets : List ℕ → Type 0
+Octets s = (i : ℕ) → getD s i 0 < 256
+
+-- ---- bits of octets
+
+pub bits-length : (s : List ℕ) → length (bitsOf s) ≡ 8 * length s
+unfolding bitsOf
+bits-length [] = refl
+bits-length (o ∷ os) = length-append (digitsOf 8 o) (bitsOf os) ∙ omega (arith, digits-length 8 o, bits-length os)
+
+pub bits-bits : (s : List ℕ) → Bits (bitsOf s)
+unfolding bitsOf
+bits-bits [] i = suc-le-suc zero-le
+bits-bits (o ∷ os) i = append-bits (digitsOf 8 o) (bitsOf os) (digits-bits 8 o) (bits-bits os) i
+
+bits-at : (s : List ℕ) (j k : ℕ) → j < length s → k < 8 → getD (bitsOf s) (j * 8 + k) 0 ≡ getD (digitsOf 8 (getD s j 0)) k 0
+unfolding bitsOf
+bits-at [] j k h l = absurd (not-suc-le-zero h)
+bits-at (o ∷ os) zero k h l =
+    ap (λ (x : ℕ). getD (digitsOf 8 o ++ bitsOf os) x 0) (zero-add k)
+    ∙ List·getD-append (digitsOf 8 o) (bitsOf os) 0 k (omega (arith, digits-length 8 o))
+bits-at (o ∷ os) (suc j) k h l =
+    ap (λ (x : ℕ). getD (digitsOf 8 o ++ bitsOf os) x 0) (omega (arith, digits-length 8 o))
+    ∙ getD-append-add (digitsOf 8 o) (bitsOf os) (j * 8 + k) 0
+    ∙ bits-at os j k (le-of-suc-le-suc h) l
+
+-- document 01: bit n has weight 2 to the power (n-1) mod 8 in octet (n-1)/8
+pub weight : (s : List ℕ) (n : ℕ) → 1 ≤ n → n ≤ 8 * length s → bitOf s (n - 1) ≡ getD s ((n - 1) / 8) 0 / 2 ^ ((n - 1) % 8) % 2
+weight s n h l =
+    ap (λ (x : ℕ). getD (bitsOf s) x 0) (omega arith)
+    ∙ bits-at s ((n - 1) / 8) ((n - 1) % 8) (omega arith) (omega arith)
+    ∙ digits-at 8 (getD s ((n - 1) / 8) 0) ((n - 1) % 8) (omega arith)
+
+set-append-add : (xs ys : List ℕ) (n a : ℕ) → set (xs ++ ys) (length xs + n) a ≡ xs ++ set ys n a
+set-append-add [] ys n a = ap (λ (k : ℕ). set ys k a) (zero-add n)
+set-append-add (x ∷ xs) ys n a =
+    ap (λ (k : ℕ). set (x ∷ (xs ++ ys)) k a) (suc-add (length xs) n) ∙ ap (λ (l : List ℕ). x ∷ l) (set-append-add xs ys n a)
+
+bits-set : (s : List ℕ) (j k v b : ℕ) → j < length s → k < 8 → digitsOf 8 v ≡ set (digitsOf 8 (getD s j 0)) k b
+    → bitsOf (set s j v) ≡ set (bitsOf s) (j * 8 + k) b
+unfolding bitsOf
+bits-set [] j k v b h l e = absurd (not-suc-le-zero h)
+bits-set (o ∷ os) zero k v b h l e =
+    ap (λ (x : List ℕ). x ++ bitsOf os) e
+    ∙ sym (set-append-left (digitsOf 8 o) (bitsOf os) k b (omega (arith, digits-length 8 o)))
+    ∙ ap (λ (x : ℕ). set (digitsOf 8 o ++ bitsOf os) x b) (sym (zero-add k))
+bits-set (o ∷ os) (suc j) k v b h l e =
+    ap (λ (x : List ℕ). digitsOf 8 o ++ x) (bits-set os j k v b (le-of-suc-le-suc h) l e)
+    ∙ sym (set-append-add (digitsOf 8 o) (bitsOf os) (j * 8 + k) b)
+    ∙ ap (λ (x : ℕ). set (digitsOf 8 o ++ bitsOf os) x b) (omega (arith, digits-length 8 o))
+
+and-one : (x : ℕ) → bitAnd x 1 ≡ x % 2
+and-one x = and-mask x 1
+
+-- ---- one bit, as the code reads and writes it, k places behind the first bit of octet j
+
+module _ (s : List ℕ) (j k : ℕ) where
+  abbrev spot : ℕ
+  spot = j + k / 8
+
+  pub read : spot < length s → bitAnd (getD s spot 0 / 2 ^ (k % 8)) 1 ≡ bitOf s (8 * j + k)
+  read h =
+      and-one (getD s spot 0 / 2 ^ (k % 8))
+      ∙ sym (digits-at 8 (getD s spot 0) (k % 8) (omega arith))
+      ∙ sym (bits-at s spot (k % 8) h (omega arith))
+      ∙ ap (λ (x : ℕ). getD (bitsOf s) x 0) (omega arith)
+
+  pub read-past : length s ≤ spot → 0 ≡ bitOf s (8 * j + k)
+  read-past h = sym (List·getD-eq-default (bitsOf s) 0 (omega (arith, bits-length s)))
+
+  -- the octet with that bit made b, as the code makes it
+  abbrev pub changed : ℕ → ℕ
+  changed b = bitXor (getD s spot 0) (bitXor (bitAnd (getD s spot 0 / 2 ^ (k % 8)) 1) b * 2 ^ (k % 8) % 2 ^ 8)
+
+  pub write : (b : ℕ) → b < 2 → spot < length s → bitsOf (set s spot (changed b)) ≡ set (bitsOf s) (8 * j + k) b
+  write b l h =
+      let o = getD s spot 0 in
+      let m = k % 8 in
+      let hm : m < 8 = omega arith in
+      let x = o / 2 ^ m % 2 in
+      let hx : x < 2 = mod-lt (o / 2 ^ m) (suc-le-suc zero-le) in
+      let d = bitXor x b in
+      let hd : d < 2 = xor-lt 1 x b hx l in
+      let fit : d * 2 ^ m % 2 ^ 8 ≡ d * 2 ^ m = shl-exact 1 m 8 hd (omega arith) in
+      bits-set s spot m (changed b) b h hm
+      (ap (λ (y : ℕ). digitsOf 8 (bitXor o (bitXor y b * 2 ^ m % 2 ^ 8))) (and-one (o / 2 ^ m))
+      ∙ ap (λ (y : ℕ). digitsOf 8 (bitXor o y)) fit
+      ∙ flip 8 o m d hd hm
+      ∙ ap (λ (y : ℕ). set (digitsOf 8 o) m y) (differ-twice x b hx l))
+      ∙ ap (λ (y : ℕ). set (bitsOf s) y b) (omega arith)
+    where
+      differ-twice : (c b : ℕ) → c < 2 → b < 2 → differ c (bitXor c b) ≡ b
+      differ-twice zero b h l = refl
+      differ-twice (suc zero) zero h l = refl
+      differ-twice (suc zero) (suc zero) h l = refl
+      differ-twice (suc zero) (suc (suc b)) h l = absurd (not-suc-le-zero (le-of-suc-le-suc (le-of-suc-le-suc l)))
+      differ-twice (suc (suc c)) b h l = absurd (not-suc-le-zero (le-of-suc-le-suc (le-of-suc-le-suc h)))
+
+  pub write-past : (b : ℕ) → length s ≤ spot → bitsOf s ≡ set (bitsOf s) (8 * j + k) b
+  write-past b h = sym (set-out (bitsOf s) (8 * j + k) b (omega (arith, bits-length s)))
+
+-- ---- octets of bits, and bits of octets
+
+pub octets-length : (n : ℕ) (bs : List ℕ) → length (octetsOf n bs) ≡ n
+unfolding octetsOf
+octets-length zero bs = refl
+octets-length (suc n) bs = ap suc (octets-length n (drop 8 bs))
+
+pub bits-octets : (n : ℕ) (bs : List ℕ) → length bs ≡ 8 * n → Bits bs → bitsOf (octetsOf n bs) ≡ bs
+unfolding octetsOf bitsOf
+bits-octets zero [] h l = refl
+bits-octets zero (b ∷ bs) h l = absurd (omega arith)
+bits-octets (suc n) bs h l =
+    let e : length (take 8 bs) ≡ 8 = length-take-le 8 bs (omega arith) in
+    let f : digitsOf 8 (valueOf (take 8 bs)) ≡ take 8 bs =
+    ap (λ (k : ℕ). digitsOf k (valueOf (take 8 bs))) (sym e) ∙ digits-value (take 8 bs) (take-bits 8 bs l) in
+    ap₂ _++_ f (bits-octets n (drop 8 bs) (length-drop 8 bs ∙ omega arith) (drop-bits 8 bs l)) ∙ take-append-drop 8 bs
+
+pub octets-bits : (s : List ℕ) → Octets s → octetsOf (length s) (bitsOf s) ≡ s
+unfolding octetsOf bitsOf
+octets-bits [] h = refl
+octets-bits (o ∷ os) h =
+    ap₂ (λ (x : ℕ) (y : List ℕ). x ∷ y)
+    (ap valueOf (take-at (digitsOf 8 o) (bitsOf os) 8 (digits-length 8 o)) ∙ value-digits 8 o ∙ omega (arith, h 0))
+    (ap (octetsOf (length os)) (drop-at (digitsOf 8 o) (bitsOf os) 8 (digits-length 8 o)) ∙ octets-bits os (λ i. h (suc i)))
+
+-- octets that have known bits are those bits laid in octets
+pub octets-are : (s bs : List ℕ) (n : ℕ) → length s ≡ n → Octets s → bitsOf s ≡ bs → s ≡ octetsOf n bs
+octets-are s bs n e h f = sym (octets-bits s h) ∙ ap₂ octetsOf e f
+
+-- ---- bits laid over octets
+
+sets-bits : (l : List ℕ) (i : ℕ) (bs : List ℕ) → Bits l → Bits bs → Bits (sets l i bs)
+sets-bits l i [] h k = h
+sets-bits l i (b ∷ bs) h k = sets-bits (set l i b) (suc i) bs (one l i h) (λ j. k (suc j))
+  where
+    one : (l : List ℕ) (i : ℕ) → Bits l → Bits (set l i b)
+    one [] i h j = h j
+    one (x ∷ l) zero h zero = k 0
+    one (x ∷ l) zero h (suc j) = h (suc j)
+    one (x ∷ l) (suc i) h zero = h 0
+    one (x ∷ l) (suc i) h (suc j) = one l i (λ m. h (suc m)) j
+
+sets-more : (l : List ℕ) (i : ℕ) (bs : List ℕ) (b : ℕ) → sets l i (bs ++ (b ∷ [])) ≡ set (sets l i bs) (i + length bs) b
+sets-more l i [] b = ap (λ (n : ℕ). set l n b) (sym (add-zero i))
+sets-more l i (x ∷ bs) b =
+    sets-more (set l i x) (suc i) bs b
+    ∙ ap (λ (n : ℕ). set (sets (set l i x) (suc i) bs) n b) (suc-add i (length bs) ∙ sym (add-suc i (length bs)))
+
+pub laid-length : (s : List ℕ) (at : ℕ) (bs : List ℕ) → length (laid s at bs) ≡ length s
+unfolding laid
+laid-length s at bs = octets-length (length s) (sets (bitsOf s) at bs)
+
+pub laid-bits : (s : List ℕ) (at : ℕ) (bs : List ℕ) → Bits bs → bitsOf (laid s at bs) ≡ sets (bitsOf s) at bs
+unfolding laid
+laid-bits s at bs h =
+    bits-octets (length s) (sets (bitsOf s) at bs) (length-sets (bitsOf s) at bs ∙ bits-length s) (sets-bits (bitsOf s) at bs (bits-bits s) h)
+
+-- s is what s₀ was with the bits bs laid over it so far
+pub record LaidSo (s₀ : List ℕ) (at : ℕ) (bs s : List ℕ) : Type 0 where
+  pub size : length s ≡ length s₀
+  pub octets : Octets s
+  pub bits : bitsOf s ≡ sets (bitsOf s₀) at bs
+
+pub laid-none : (s : List ℕ) (at : ℕ) → Octets s → LaidSo s at [] s
+laid-none s at h = record { size = refl; octets = h; bits = refl }
+
+-- one bit more, at the next place, as put_bit_in puts it
+pub laid-more : {s₀ bs s : List ℕ} (at k b : ℕ) (t : List ℕ) → LaidSo s₀ at bs s → length bs ≡ k → Octets t → length t ≡ length s
+    → bitsOf t ≡ set (bitsOf s) (8 * (at / 8) + (at % 8 + k)) b → LaidSo s₀ at (bs ++ (b ∷ [])) t
+laid-more {s₀} {bs} {s} at k b t h e o l f =
+    let p : 8 * (at / 8) + (at % 8 + k) ≡ at + length bs = omega arith in
+    record {
+      size = l ∙ h .size;
+      octets = o;
+      bits = f ∙ ap₂ (λ (x : List ℕ) (n : ℕ). set x n b) (h .bits) p ∙ sym (sets-more (bitsOf s₀) at bs b);
+    }
+
+pub laid-done : {s₀ bs s : List ℕ} {at : ℕ} → LaidSo s₀ at bs s → s ≡ laid s₀ at bs
+unfolding laid
+laid-done {s₀} {bs} {s} {at} h = octets-are s (sets (bitsOf s₀) at bs) (length s₀) (h .size) (h .octets) (h .bits)
+
+-- ---- what a loop that copies bits has laid: as many of the source's as it has passed
+
+module _ (source : List ℕ) (from n : ℕ) where
+  abbrev given : List ℕ
+  given = part from n (bitsOf source)
+
+  given-length : length given ≡ min n (8 * length source - from)
+  given-length = length-take n (drop from (bitsOf source)) ∙ ap (min n) (length-drop from (bitsOf source) ∙ ap (λ (k : ℕ). k - from) (bits-length source))
+
+  pub copied-none : (s : List ℕ) (at : ℕ) → Octets s → LaidSo s at (take 0 given) s
+  copied-none s at h = laid-none s at h
+
+  pub copied-length : (k : ℕ) → k ≤ n → from + k ≤ 8 * length source → length (take k given) ≡ k
+  copied-length k h l = length-take-le k given (omega (arith, given-length))
+
+  pub copied-next : (k b : ℕ) → k < n → from + k < 8 * length source → b ≡ bitOf source (8 * (from / 8) + (from % 8 + k))
+      → take k given ++ (b ∷ []) ≡ take (k + 1) given
+  copied-next k b h l e =
+      let p : 8 * (from / 8) + (from % 8 + k) ≡ from + k = omega arith in
+      let g : b ≡ getD given k 0 =
+      e ∙ ap (λ (i : ℕ). getD (bitsOf source) i 0) p ∙ sym (getD-drop from (bitsOf source) k 0) ∙ sym (getD-take n (drop from (bitsOf source)) k 0 h) in
+      ap (λ (x : ℕ). take k given ++ (x ∷ [])) g ∙ sym (take-suc given k 0 (omega (arith, given-length))) ∙ ap (λ (m : ℕ). take m given) (sym (add-one k))
+
+  pub copied-all : (k : ℕ) → k ≡ n → take k given ≡ given
+  copied-all k e = take-all k given (omega (arith, given-length))
+
+  pub copied-past : (k : ℕ) → 8 * length source ≤ from + k → take k given ≡ given
+  copied-past k h = take-all k given (omega (arith, given-length))
+
+-- ---- what a loop that looks for a 1 has seen: bits of value 0
+
+module _ (s : List ℕ) (at : ℕ) where
+  place-of : (k : ℕ) → getD (drop at (bitsOf s)) k 0 ≡ bitOf s (8 * (at / 8) + (at % 8 + k))
+  place-of k = getD-drop at (bitsOf s) k 0 ∙ ap (λ (i : ℕ). getD (bitsOf s) i 0) (omega arith)
+
+  pub clear-next : (k : ℕ) → valueOf (part at k (bitsOf s)) ≡ 0 → bitOf s (8 * (at / 8) + (at % 8 + k)) ≡ 0
+      → valueOf (part at (k + 1) (bitsOf s)) ≡ 0
+  clear-next k e z =
+      ap (λ (n : ℕ). valueOf (part at n (bitsOf s))) (add-one k)
+      ∙ value-next (drop at (bitsOf s)) k
+      ∙ ap₂ (λ (x y : ℕ). x * 2 ^ k + y) (place-of k ∙ z) e
+      ∙ omega arith
+
+  pub clear-not : (n k : ℕ) → k < n → (bitOf s (8 * (at / 8) + (at % 8 + k)) ≡ 0 → ⊥) → valueOf (part at n (bitsOf s)) ≡ 0 → ⊥
+  clear-not n k h z e =
+      let L = drop at (bitsOf s) in
+      let g : valueOf (take (suc k) L) ≤ valueOf (take n L) = value-grows L (suc k) n h in
+      z (sym (place-of k) ∙ none (getD L k 0) (2 ^ k) (valueOf (take k L)) (pow-pos k) (omega (arith, value-next L k)))
+    where
+      none : (b p v : ℕ) → 0 < p → b * p + v ≡ 0 → b ≡ 0
+      none zero p v h e = refl
+      none (suc b) p v h e = absurd (omega (arith, suc-mul b p))

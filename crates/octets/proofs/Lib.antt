@@ -1,0 +1,6 @@
+pub mod Xor
+pub mod Digits
+pub mod Laws
+pub mod Complement
+pub mod Fields
+pub mod One

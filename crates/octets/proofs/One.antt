@@ -1,0 +1,52 @@
+-- One result per call: two results or exit memories that a function's promise allows for the same call are equal. Assumes nothing.
+use mathlib.Core.Path.{_≡_, sym, _∙_}
+use mathlib.Core.Bool.{Bool}
+use mathlib.Core.List.{List}
+use Prim.Native.Nat.{ℕ}
+use lib.IntN.{ℤ}
+use Rattle.octets.specs.declared.Place.{Place}
+use Rattle.octets.specs.declared.Taken.{Taken}
+use Rattle.octets.specs.declared.SignedTaken.{SignedTaken}
+use Rattle.octets.specs.Promises.{BitRead, BitPut, FieldRead, FieldPut, SignedRead, SignedPut, Turned, Copied, Cleared, IsClear, IsStart, FieldTaken, SignedFieldTaken}
+
+both : {A : Type 0} {x y z : A} → x ≡ z → y ≡ z → x ≡ y
+both p q = p ∙ sym q
+
+pub bit-one : (s : List ℕ) (i r r′ : ℕ) → BitRead s i r → BitRead s i r′ → r ≡ r′
+bit-one s i r r′ p q = both p q
+
+pub put-bit-one : (s : List ℕ) (i b : ℕ) (t t′ : List ℕ) → BitPut s i b t → BitPut s i b t′ → t ≡ t′
+put-bit-one s i b t t′ p q = both p q
+
+pub field-one : (s : List ℕ) (at w r r′ : ℕ) → FieldRead s at w r → FieldRead s at w r′ → r ≡ r′
+field-one s at w r r′ p q = both p q
+
+pub put-field-one : (s : List ℕ) (at w v : ℕ) (t t′ : List ℕ) → FieldPut s at w v t → FieldPut s at w v t′ → t ≡ t′
+put-field-one s at w v t t′ p q = both p q
+
+pub signed-field-one : (s : List ℕ) (at w : ℕ) (r r′ : ℤ) → SignedRead s at w r → SignedRead s at w r′ → r ≡ r′
+signed-field-one s at w r r′ p q = both p q
+
+pub put-signed-field-one : (s : List ℕ) (at w : ℕ) (v : ℤ) (t t′ : List ℕ) → SignedPut s at w v t → SignedPut s at w v t′ → t ≡ t′
+put-signed-field-one s at w v t t′ p q = both p q
+
+pub turned-one : (w v r r′ : ℕ) → Turned w v r → Turned w v r′ → r ≡ r′
+turned-one w v r r′ p q = both p q
+
+pub copy-one : (s : List ℕ) (at : ℕ) (source : List ℕ) (from n : ℕ) (t t′ : List ℕ) → Copied s at source from n t → Copied s at source from n t′ → t ≡ t′
+copy-one s at source from n t t′ p q = both p q
+
+pub clear-one : (s : List ℕ) (at n : ℕ) (t t′ : List ℕ) → Cleared s at n t → Cleared s at n t′ → t ≡ t′
+clear-one s at n t t′ p q = both p q
+
+pub is-clear-one : (s : List ℕ) (at n : ℕ) (r r′ : Bool) → IsClear s at n r → IsClear s at n r′ → r ≡ r′
+is-clear-one s at n r r′ p q = both p q
+
+pub start-one : (r r′ : Place) → IsStart r → IsStart r′ → r ≡ r′
+start-one r r′ p q = both p q
+
+pub take-one : (s : List ℕ) (p : Place) (w : ℕ) (r r′ : Taken) → FieldTaken s p w r → FieldTaken s p w r′ → r ≡ r′
+take-one s p w r r′ a b = both a b
+
+pub take-signed-one : (s : List ℕ) (p : Place) (w : ℕ) (r r′ : SignedTaken) → SignedFieldTaken s p w r → SignedFieldTaken s p w r′ → r ≡ r′
+take-signed-one s p w r r′ a b = both a b

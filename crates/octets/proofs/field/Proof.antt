@@ -1,0 +1,114 @@
+-- `octets::field` meets its contract. The loop goes down: v is the value of the field's bits from the one at place at + k on.
+use borrow.Author.Needs.{needs}
+use mathlib.Core.Path.{_≡_, sym, ap, ap₂, subst, _∙_}
+use Prim.Native.Nat.{ℕ, suc, _+_, _-_, _*_, _/_, _%_, _^_, _≤_, _<_, min}
+use native.Mathlib.Omega.{arith}
+use lib.ListN.{drop}
+use lib.Pow.{pow-mono}
+use Rattle.octets.specs.Bits.{bitsOf, bitOf, valueOf, part}
+use Rattle.octets.proofs.Digits.{drop-bits, value-part, value-head}
+use Rattle.octets.proofs.Laws.{bits-bits}
+use Rattle.octets.proofs.field.Statement.{statement}
+use Rattle.octets.proofs.field.Tie as tie
+
+abbrev Inv-loop : tie.InvT-loop
+Inv-loop s at w octet n v₀ k₀ v k = (k ≤ n) × (n ≡ min w 32) × (v ≡ valueOf (part (at + k) (n - k) (bitsOf s)))
+
+abbrev μ-loop : tie.MeasureT-loop
+μ-loop s at w octet n v₀ k₀ v k = k
+
+width-requires : tie.Need-width-requires Inv-loop μ-loop
+width-requires c κs = search needs
+
+cast-n : tie.Need-cast-n Inv-loop μ-loop
+cast-n c = omega arith
+
+loop-holds : tie.Need-loop-holds Inv-loop μ-loop
+unfolding valueOf
+loop-holds c =
+    let a = c .before .before .args in
+    let e : 0 ≡ c .width .result - c .width .result = omega arith in
+    (omega arith, c .width .ensures, ap (λ (n : ℕ). valueOf (part (a .at + c .width .result) n (bitsOf (a .s .now)))) e)
+
+sub-bit-in : tie.Need-sub-bit-in Inv-loop μ-loop
+sub-bit-in c = omega arith
+
+add-bit-in : tie.Need-add-bit-in Inv-loop μ-loop
+add-bit-in c = omega arith
+
+bit-in-requires : tie.Need-bit-in-requires Inv-loop μ-loop
+bit-in-requires c κs = omega arith
+
+-- the value with one bit more
+value : (c : tie.After-bit-in Inv-loop μ-loop)
+    → let a = c .before .before .before .before .before .args in let l = c .before .before .loop in
+    l .v * 2 + c .bit-in .result ≡ valueOf (part (a .at + (l .k - 1)) (c .before .before .before .width .result - (l .k - 1)) (bitsOf (a .s .now)))
+value c =
+    let a = c .before .before .before .before .before .args in
+    let l = c .before .before .loop in
+    let B = bitsOf (a .s .now) in
+    let n = c .before .before .before .width .result in
+    let j = l .k - 1 in
+    let p : 8 * (a .at / 8) + (a .at % 8 + j) ≡ a .at + j = omega arith in
+    let q : a .at + l .k ≡ suc (a .at + j) = omega arith in
+    let r : suc (n - l .k) ≡ n - j = omega arith in
+    ap₂ (λ (x y : ℕ). x * 2 + y) (l .inv .2 ∙ ap (λ (i : ℕ). valueOf (part i (n - l .k) B)) q)
+    (c .bit-in .ensures ∙ ap (bitOf (a .s .now)) p)
+    ∙ value-head B (a .at + j) (n - l .k)
+    ∙ ap (λ (i : ℕ). valueOf (part (a .at + j) i B)) r
+
+fits : (c : tie.After-bit-in Inv-loop μ-loop) → c .before .before .loop .v * 2 + c .bit-in .result < 2 ^ 32
+fits c =
+    let a = c .before .before .before .before .before .args in
+    let j = c .before .before .loop .k - 1 in
+    let n = c .before .before .before .width .result - j in
+    let h : n ≤ 32 = omega arith in
+    let B = drop (a .at + j) (bitsOf (a .s .now)) in
+    let b : valueOf (part (a .at + j) n (bitsOf (a .s .now))) < 2 ^ n = value-part n B (drop-bits (a .at + j) (bitsOf (a .s .now)) (bits-bits (a .s .now))) in
+    subst (λ (x : ℕ). x < 2 ^ 32) (sym (value c)) (omega (arith, b, pow-mono h))
+
+mul-v : tie.Need-mul-v Inv-loop μ-loop
+mul-v c = omega (arith, fits c)
+
+cast-v : tie.Need-cast-v Inv-loop μ-loop
+cast-v c = search needs
+
+add-v : tie.Need-add-v Inv-loop μ-loop
+add-v c = omega (arith, fits c)
+
+sub-k : tie.Need-sub-k Inv-loop μ-loop
+sub-k c = omega arith
+
+loop-less : tie.Need-loop-less Inv-loop μ-loop
+loop-less c = omega arith
+
+loop-again : tie.Need-loop-again Inv-loop μ-loop
+loop-again c = (omega arith, c .before .before .loop .inv .1, value c)
+
+returns : tie.Need-returns Inv-loop μ-loop
+returns c =
+    let a = c .before .before .before .before .args in
+    let l = c .before .loop in
+    let p : a .at + l .k ≡ a .at = omega arith in
+    let q : c .before .before .width .result - l .k ≡ min (a .w) 32 = omega arith in
+    l .inv .2 ∙ ap₂ (λ (x y : ℕ). valueOf (part x y (bitsOf (a .s .now)))) p q
+
+pub field-spec : {M : Type 1} → statement M
+field-spec =
+    tie.close
+    (tie.spec
+    Inv-loop
+    μ-loop
+    width-requires
+    cast-n
+    loop-holds
+    sub-bit-in
+    add-bit-in
+    bit-in-requires
+    mul-v
+    cast-v
+    add-v
+    sub-k
+    loop-less
+    loop-again
+    returns)

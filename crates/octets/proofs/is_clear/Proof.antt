@@ -1,0 +1,73 @@
+-- `octets::is_clear` meets its contract. The k bits passed have the value 0.
+use mathlib.Core.Path.{_≡_, refl, sym, ap, subst, _∙_}
+use Prim.Native.Nat.{ℕ, suc, _+_, _-_, _*_, _/_, _%_, _^_, _≤_, _<_}
+use native.Mathlib.Numerals.{add-one}
+use native.Mathlib.Omega.{arith}
+use borrow.Author.Tests.{eq-eqb, ne-eqb}
+use lib.ListN.{drop}
+use lib.Dec.{eqb}
+use Rattle.octets.specs.Bits.{bitsOf, bitOf, valueOf, part}
+use Rattle.octets.proofs.Laws.{clear-next, clear-not}
+use Rattle.octets.proofs.is_clear.Statement.{statement}
+use Rattle.octets.proofs.is_clear.Tie as tie
+
+abbrev Inv-loop : tie.InvT-loop
+Inv-loop s at n octet k₀ k = (k ≤ n) × (valueOf (part at k (bitsOf s)) ≡ 0)
+
+abbrev μ-loop : tie.MeasureT-loop
+μ-loop s at n octet k₀ k = n - k
+
+loop-holds : tie.Need-loop-holds Inv-loop μ-loop
+unfolding valueOf
+loop-holds c =
+    (omega arith, refl)
+
+cast-bit-in : tie.Need-cast-bit-in Inv-loop μ-loop
+cast-bit-in c = omega arith
+
+add-bit-in : tie.Need-add-bit-in Inv-loop μ-loop
+add-bit-in c = omega arith
+
+bit-in-requires : tie.Need-bit-in-requires Inv-loop μ-loop
+bit-in-requires c κs = omega arith
+
+returns : tie.Need-returns Inv-loop μ-loop
+returns c =
+    let a = c .before .before .before .before .before .args in
+    let l = c .before .before .before .loop in
+    sym (ne-eqb _ _ (clear-not (a .s .now) (a .at) (a .n) (l .k) (omega arith) (λ z. c .if1 .taken (c .before .bit-in .ensures ∙ z))))
+
+add-k : tie.Need-add-k Inv-loop μ-loop
+add-k c = omega arith
+
+loop-less : tie.Need-loop-less Inv-loop μ-loop
+loop-less c = omega arith
+
+loop-again : tie.Need-loop-again Inv-loop μ-loop
+loop-again c =
+    let a = c .before .before .before .before .before .args in
+    let l = c .before .before .before .loop in
+    (omega arith, clear-next (a .s .now) (a .at) (l .k) (l .inv .1) (sym (c .before .bit-in .ensures) ∙ c .if1 .left))
+
+returns-2 : tie.Need-returns-2 Inv-loop μ-loop
+returns-2 c =
+    let a = c .before .before .before .args in
+    let l = c .before .loop in
+    let e : l .k ≡ a .n = omega arith in
+    sym (eq-eqb _ _ (subst (λ (k : ℕ). valueOf (part (a .at) k (bitsOf (a .s .now))) ≡ 0) e (l .inv .1)))
+
+pub is-clear-spec : {M : Type 1} → statement M
+is-clear-spec =
+    tie.close
+    (tie.spec
+    Inv-loop
+    μ-loop
+    loop-holds
+    cast-bit-in
+    add-bit-in
+    bit-in-requires
+    returns
+    add-k
+    loop-less
+    loop-again
+    returns-2)

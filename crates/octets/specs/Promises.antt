@@ -1,0 +1,74 @@
+-- What each function of the crate promises: of its arguments, its result r and what lent octets hold at exit.
+use mathlib.Core.Path.{_≡_}
+use mathlib.Core.Bool.{Bool}
+use mathlib.Core.List.{List, [], _∷_, reverse}
+use Prim.Native.Nat.{ℕ, _+_, _-_, _%_, _^_, min}
+use lib.Dec.{eqb}
+use lib.IntN.{ℤ}
+use lib.ListN.{replicate}
+use Rattle.octets.specs.Bits.{digitsOf, valueOf, bitsOf, bitOf, part, laid}
+use Rattle.octets.specs.Signed.{signedOf, twosOf}
+use Rattle.octets.specs.declared.Place.{Place}
+use Rattle.octets.specs.declared.Taken.{Taken}
+use Rattle.octets.specs.declared.SignedTaken.{SignedTaken}
+
+-- bit
+abbrev pub BitRead : List ℕ → ℕ → ℕ → Type 0
+BitRead s i r = r ≡ bitOf s i
+
+-- put_bit
+abbrev pub BitPut : List ℕ → ℕ → ℕ → List ℕ → Type 0
+BitPut s i b exit = exit ≡ laid s i (b % 2 ∷ [])
+
+-- field
+abbrev pub FieldRead : List ℕ → ℕ → ℕ → ℕ → Type 0
+FieldRead s at w r = r ≡ valueOf (part at (min w 32) (bitsOf s))
+
+-- put_field
+abbrev pub FieldPut : List ℕ → ℕ → ℕ → ℕ → List ℕ → Type 0
+FieldPut s at w v exit = exit ≡ laid s at (digitsOf (min w 32) v)
+
+-- signed_field
+abbrev pub SignedRead : List ℕ → ℕ → ℕ → ℤ → Type 0
+SignedRead s at w r = r ≡ signedOf (min w 32) (valueOf (part at (min w 32) (bitsOf s)))
+
+-- put_signed_field
+abbrev pub SignedPut : List ℕ → ℕ → ℕ → ℤ → List ℕ → Type 0
+SignedPut s at w v exit = exit ≡ laid s at (digitsOf (min w 32) (twosOf (min w 32) v))
+
+-- turned: the w low digits of v, the other end first
+abbrev pub Turned : ℕ → ℕ → ℕ → Type 0
+Turned w v r = r ≡ valueOf (reverse (digitsOf (min w 32) v))
+
+-- copy
+abbrev pub Copied : List ℕ → ℕ → List ℕ → ℕ → ℕ → List ℕ → Type 0
+Copied s at source from n exit = exit ≡ laid s at (part from n (bitsOf source))
+
+-- clear
+abbrev pub Cleared : List ℕ → ℕ → ℕ → List ℕ → Type 0
+Cleared s at n exit = exit ≡ laid s at (replicate n 0)
+
+-- is_clear
+abbrev pub IsClear : List ℕ → ℕ → ℕ → Bool → Type 0
+IsClear s at n r = r ≡ eqb (valueOf (part at n (bitsOf s))) 0
+
+-- Place::start
+abbrev pub IsStart : Place → Type 0
+IsStart r = r ≡ record { at = 0 }
+
+-- the place behind a field of w bits; the last place that a number can name where there is none
+abbrev pub behindOf : ℕ → ℕ → ℕ
+behindOf at w = min (at + min w 32) (2 ^ 64 - 1)
+
+-- Place::take
+abbrev pub FieldTaken : List ℕ → Place → ℕ → Taken → Type 0
+FieldTaken s p w r =
+    r ≡ record { value = valueOf (part (p .at) (min w 32) (bitsOf s)); next = record { at = behindOf (p .at) w } }
+
+-- Place::take_signed
+abbrev pub SignedFieldTaken : List ℕ → Place → ℕ → SignedTaken → Type 0
+SignedFieldTaken s p w r =
+    r ≡ record {
+      value = signedOf (min w 32) (valueOf (part (p .at) (min w 32) (bitsOf s)));
+      next = record { at = behindOf (p .at) w };
+    }

@@ -1,0 +1,255 @@
+// Bits in octets, and fields of them (document 01, "The activation frame"): bit n of the paper stands at place n - 1, with
+// weight 2 to the power (n-1) mod 8 in octet (n-1)/8. Every function takes every input: what lies past the end reads 0 and
+// is not written, and a field's width over 32 counts as 32.
+ghost use mathlib.Core.Path.{_≡_};
+ghost use Prim.Native.Nat.{_+_, _*_, _^_, _<_, _≤_, min};
+ghost use lib.ListN.{length, set};
+ghost use Rattle.octets.specs.Bits.{bitOf, bitsOf};
+ghost use Rattle.octets.specs.Signed.{signedOf, twosOf};
+ghost use Rattle.octets.specs.Promises.{BitRead, BitPut, FieldRead, FieldPut, SignedRead, SignedPut, Turned, Copied, Cleared, IsClear, IsStart, behindOf, FieldTaken, SignedFieldTaken};
+
+// The widest field.
+const WIDEST: u32 = 32;
+
+// The last place that a number can name.
+const LAST: usize = 18446744073709551615;
+
+// The bit k places behind the first bit of an octet.
+fn bit_in(s: &[u8], octet: usize, k: usize) -> u8
+    requires { ⌜ (octet < 2 ^ 61) × (k < 2 ^ 33) ⌝ }
+    ensures { λ r. ⌜ r ≡ bitOf (now (s .entry)) (8 * octet + k) ⌝ }
+{
+    let at = octet + k / 8;
+    if at < s.len() {
+        (s[at] >> (k % 8)) & 1
+    } else {
+        0
+    }
+}
+
+// The same bit becomes b.
+fn put_bit_in(s: &mut [u8], octet: usize, k: usize, b: u8)
+    requires { ⌜ (octet < 2 ^ 61) × (k < 2 ^ 33) × (b < 2) ⌝ }
+    ensures { λ r. ⌜ bitsOf (now (s .exit)) ≡ set (bitsOf (now (s .entry))) (8 * octet + k) b ⌝ }
+{
+    let at = octet + k / 8;
+    if at < s.len() {
+        let o = s[at];
+        s[at] = o ^ ((((o >> (k % 8)) & 1) ^ b) << (k % 8));
+    }
+}
+
+// The bit at place i.
+pub fn bit(s: &[u8], i: usize) -> u8
+    ensures { λ r. ⌜ BitRead (now (s .entry)) i r ⌝ }
+{
+    bit_in(s, i / 8, i % 8)
+}
+
+// The bit at place i becomes the lowest digit of b.
+pub fn put_bit(s: &mut [u8], i: usize, b: u8)
+    ensures { λ r. ⌜ BitPut (now (s .entry)) i b (now (s .exit)) ⌝ }
+{
+    put_bit_in(s, i / 8, i % 8, b % 2);
+}
+
+// A width as it counts.
+fn width(w: u32) -> u32
+    ensures { λ r. ⌜ r ≡ min w 32 ⌝ }
+{
+    if w < WIDEST { w } else { WIDEST }
+}
+
+// The field of w bits from place `at` on, the first bit lowest.
+pub fn field(s: &[u8], at: usize, w: u32) -> u32
+    ensures { λ r. ⌜ FieldRead (now (s .entry)) at w r ⌝ }
+{
+    let octet = at / 8;
+    let n = width(w) as usize;
+    let mut v: u32 = 0;
+    let mut k = n;
+    while 0 < k {
+        let b = bit_in(s, octet, at % 8 + (k - 1));
+        v = v * 2 + (b as u32);
+        k -= 1;
+    }
+    v
+}
+
+// The field of w bits from place `at` on becomes the w low digits of v, the lowest first.
+pub fn put_field(s: &mut [u8], at: usize, w: u32, v: u32)
+    ensures { λ r. ⌜ FieldPut (now (s .entry)) at w v (now (s .exit)) ⌝ }
+{
+    let octet = at / 8;
+    let count = width(w) as usize;
+    let mut rest = v;
+    let mut k: usize = 0;
+    while k < count {
+        put_bit_in(s, octet, at % 8 + k, (rest % 2) as u8);
+        rest = rest / 2;
+        k += 1;
+    }
+}
+
+// The whole number that w digits of value n stand for in two's complement.
+fn signed(w: u32, n: u32) -> i32
+    requires { ⌜ (w ≤ 32) × (n < 2 ^ w) ⌝ }
+    ensures { λ r. ⌜ r ≡ signedOf w n ⌝ }
+{
+    if w == 0 {
+        return 0;
+    }
+    let half = 1u32 << (w - 1);
+    if n < half {
+        return n as i32;
+    }
+    -1 - ((half - 1 - (n - half)) as i32)
+}
+
+// The value of the 32 digits of v in two's complement.
+fn twos(v: i32) -> u32
+    ensures { λ r. ⌜ r ≡ twosOf 32 v ⌝ }
+{
+    if v < 0 {
+        4294967295 - ((-1 - v) as u32)
+    } else {
+        v as u32
+    }
+}
+
+// The field of w bits from place `at` on, in two's complement.
+pub fn signed_field(s: &[u8], at: usize, w: u32) -> i32
+    ensures { λ r. ⌜ SignedRead (now (s .entry)) at w r ⌝ }
+{
+    signed(width(w), field(s, at, w))
+}
+
+// The field of w bits from place `at` on becomes the w low digits of v in two's complement.
+pub fn put_signed_field(s: &mut [u8], at: usize, w: u32, v: i32)
+    ensures { λ r. ⌜ SignedPut (now (s .entry)) at w v (now (s .exit)) ⌝ }
+{
+    put_field(s, at, w, twos(v));
+}
+
+// The w low digits of v, the other end first.
+pub fn turned(w: u32, v: u32) -> u32
+    ensures { λ r. ⌜ Turned w v r ⌝ }
+{
+    let n = width(w);
+    let mut r: u32 = 0;
+    let mut rest = v;
+    let mut k: u32 = 0;
+    while k < n {
+        r = r * 2 + rest % 2;
+        rest = rest / 2;
+        k += 1;
+    }
+    r
+}
+
+// The n bits from place `at` on become those of the source from place `from` on; past the source's end they stay.
+pub fn copy(s: &mut [u8], at: usize, source: &[u8], from: usize, n: u32)
+    ensures { λ r. ⌜ Copied (now (s .entry)) at (now (source .entry)) from n (now (s .exit)) ⌝ }
+{
+    let octet = at / 8;
+    let first = from / 8;
+    let mut k: u32 = 0;
+    while k < n {
+        let j = from % 8 + (k as usize);
+        if source.len() <= first + j / 8 {
+            return;
+        }
+        let b = bit_in(source, first, j);
+        put_bit_in(s, octet, at % 8 + (k as usize), b);
+        k += 1;
+    }
+}
+
+// The n bits from place `at` on become 0.
+pub fn clear(s: &mut [u8], at: usize, n: u32)
+    ensures { λ r. ⌜ Cleared (now (s .entry)) at n (now (s .exit)) ⌝ }
+{
+    let octet = at / 8;
+    let mut k: u32 = 0;
+    while k < n {
+        put_bit_in(s, octet, at % 8 + (k as usize), 0);
+        k += 1;
+    }
+}
+
+// Whether the n bits from place `at` on are all 0.
+pub fn is_clear(s: &[u8], at: usize, n: u32) -> bool
+    ensures { λ r. ⌜ IsClear (now (s .entry)) at n r ⌝ }
+{
+    let octet = at / 8;
+    let mut k: u32 = 0;
+    while k < n {
+        if bit_in(s, octet, at % 8 + (k as usize)) != 0 {
+            return false;
+        }
+        k += 1;
+    }
+    true
+}
+
+// The field reader: the place of the next field, beside the slice that it walks.
+pub struct Place {
+    pub at: usize,
+}
+
+// A field and the place behind it.
+pub struct Taken {
+    pub value: u32,
+    pub next: Place,
+}
+
+// A field in two's complement and the place behind it.
+pub struct SignedTaken {
+    pub value: i32,
+    pub next: Place,
+}
+
+impl Place {
+    // The first place.
+    pub fn start() -> Place
+        ensures { λ r. ⌜ IsStart r ⌝ }
+    {
+        Place { at: 0 }
+    }
+
+    // The place w bits behind; the last one where there is none.
+    fn behind(self, w: u32) -> Place
+        ensures { λ r. ⌜ r .at ≡ behindOf (self .at) w ⌝ }
+    {
+        let n = width(w) as usize;
+        if LAST - n < self.at {
+            Place { at: LAST }
+        } else {
+            Place { at: self.at + n }
+        }
+    }
+
+    // The field of w bits at the place.
+    pub fn take(self, s: &[u8], w: u32) -> Taken
+        ensures { λ r. ⌜ FieldTaken (now (s .entry)) self w r ⌝ }
+    {
+        let at = self.at;
+        let next = self.behind(w);
+        Taken {
+            value: field(s, at, w),
+            next,
+        }
+    }
+
+    // The field of w bits at the place, in two's complement.
+    pub fn take_signed(self, s: &[u8], w: u32) -> SignedTaken
+        ensures { λ r. ⌜ SignedFieldTaken (now (s .entry)) self w r ⌝ }
+    {
+        let at = self.at;
+        let next = self.behind(w);
+        SignedTaken {
+            value: signed_field(s, at, w),
+            next,
+        }
+    }
+}
