@@ -8,7 +8,7 @@ use native.Mathlib.Omega.{arith}
 use lib.Arith.{digits-div, digits-mod, mod-mul}
 use lib.Pow.{pow-pos, pow-mono}
 use lib.Bits.{bitAnd, bitXor, differ, and-mask, xor-step, xor-zero-r, shifted-half, shifted-even}
-use lib.ListN.{length, getD, take, drop, set, length-append, length-reverse}
+use lib.ListN.{length, getD, take, drop, set, length-append, length-reverse, replicate}
 use lib.Seq.{getD-drop, take-nil}
 use Rattle.octets.proofs.Xor.{differ-lt}
 use Rattle.octets.specs.Bits.{digitsOf, valueOf}
@@ -44,6 +44,11 @@ pub reverse-bits : (l : List ℕ) → Bits l → Bits (reverse l)
 reverse-bits [] h = nil-bits
 reverse-bits (x ∷ l) h =
     subst Bits (sym (reverse-cons x l)) (append-bits (reverse l) (x ∷ []) (reverse-bits l (λ i. h (suc i))) (cons-bits x [] (h 0) nil-bits))
+
+pub zeros-bits : (n : ℕ) → Bits (replicate n 0)
+zeros-bits zero i = nil-bits i
+zeros-bits (suc n) zero = suc-le-suc zero-le
+zeros-bits (suc n) (suc i) = zeros-bits n i
 
 -- ---- digits
 

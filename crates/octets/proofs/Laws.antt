@@ -1,11 +1,14 @@
 -- Laws of bits in octets, of laying bits over them, and of reading what was laid. Assumes nothing.
 use mathlib.Core.Path.{_≡_, refl, sym, ap, ap₂, _∙_, subst}
 use mathlib.Core.List.{List, [], _∷_, _++_, append-assoc}
-use mathlib.Core.Logic.{_≢_}
+use mathlib.Core.Bool.{true, false}
 use Prim.Native.Nat.{ℕ, zero, suc, _+_, _-_, _*_, _/_, _%_, _^_, _≤_, _<_, zero-le, suc-le-suc, min}
 use native.Mathlib.Nat.{le-of-suc-le-suc, not-suc-le-zero, mod-lt, zero-add, suc-add, add-zero, add-suc, suc-mul}
 use native.Mathlib.Numerals.{add-one}
 use native.Mathlib.Omega.{arith}
+use native.Mathlib.Decide.{decLt}
+use borrow.Author.Tests.{lt-ltb, le-ltb, ltb-true, ltb-false}
+use lib.Dec.{ltb}
 use lib.Pow.{pow-pos, pow-mono, shl-exact}
 use lib.Bits.{bitAnd, bitXor, differ, and-mask, xor-lt}
 use lib.ListN.{length, getD, take, drop, set, length-append, List·getD-append, List·getD-eq-default, length-set, length-take, length-drop, take-append-drop}
@@ -68,37 +71,41 @@ bits-set (o ∷ os) (suc j) k v b h l e =
 and-one : (x : ℕ) → bitAnd x 1 ≡ x % 2
 and-one x = and-mask x 1
 
--- ---- one bit, as the code reads and writes it, k places behind the first bit of octet j
+-- ---- one bit, as the code reads and writes it, k places behind place `at`
 
-module _ (s : List ℕ) (j k : ℕ) where
-  abbrev spot : ℕ
-  spot = j + k / 8
+module _ (s : List ℕ) (at k : ℕ) where
+  -- how far the bit lies behind the first bit of its place's octet, and the octet that holds it
+  abbrev behind : ℕ
+  behind = at % 8 + k
 
-  pub read : spot < length s → bitAnd (getD s spot 0 / 2 ^ (k % 8)) 1 ≡ bitOf s (8 * j + k)
+  abbrev pub holder : ℕ
+  holder = at / 8 + behind / 8
+
+  pub read : holder < length s → bitAnd (getD s holder 0 / 2 ^ (behind % 8)) 1 ≡ bitOf s (at + k)
   read h =
-      and-one (getD s spot 0 / 2 ^ (k % 8))
-      ∙ sym (digits-at 8 (getD s spot 0) (k % 8) (omega arith))
-      ∙ sym (bits-at s spot (k % 8) h (omega arith))
+      and-one (getD s holder 0 / 2 ^ (behind % 8))
+      ∙ sym (digits-at 8 (getD s holder 0) (behind % 8) (omega arith))
+      ∙ sym (bits-at s holder (behind % 8) h (omega arith))
       ∙ ap (λ (x : ℕ). getD (bitsOf s) x 0) (omega arith)
 
-  pub read-past : length s ≤ spot → 0 ≡ bitOf s (8 * j + k)
+  pub read-past : length s ≤ holder → 0 ≡ bitOf s (at + k)
   read-past h = sym (List·getD-eq-default (bitsOf s) 0 (omega (arith, bits-length s)))
 
   -- the octet with that bit made b, as the code makes it
   abbrev pub changed : ℕ → ℕ
-  changed b = bitXor (getD s spot 0) (bitXor (bitAnd (getD s spot 0 / 2 ^ (k % 8)) 1) b * 2 ^ (k % 8) % 2 ^ 8)
+  changed b = bitXor (getD s holder 0) (bitXor (bitAnd (getD s holder 0 / 2 ^ (behind % 8)) 1) b * 2 ^ (behind % 8) % 2 ^ 8)
 
-  pub write : (b : ℕ) → b < 2 → spot < length s → bitsOf (set s spot (changed b)) ≡ set (bitsOf s) (8 * j + k) b
+  pub write : (b : ℕ) → b < 2 → holder < length s → bitsOf (set s holder (changed b)) ≡ set (bitsOf s) (at + k) b
   write b l h =
-      let o = getD s spot 0 in
-      let m = k % 8 in
+      let o = getD s holder 0 in
+      let m = behind % 8 in
       let hm : m < 8 = omega arith in
       let x = o / 2 ^ m % 2 in
       let hx : x < 2 = mod-lt (o / 2 ^ m) (suc-le-suc zero-le) in
       let d = bitXor x b in
       let hd : d < 2 = xor-lt 1 x b hx l in
       let fit : d * 2 ^ m % 2 ^ 8 ≡ d * 2 ^ m = shl-exact 1 m 8 hd (omega arith) in
-      bits-set s spot m (changed b) b h hm
+      bits-set s holder m (changed b) b h hm
       (ap (λ (y : ℕ). digitsOf 8 (bitXor o (bitXor y b * 2 ^ m % 2 ^ 8))) (and-one (o / 2 ^ m))
       ∙ ap (λ (y : ℕ). digitsOf 8 (bitXor o y)) fit
       ∙ flip 8 o m d hd hm
@@ -112,8 +119,28 @@ module _ (s : List ℕ) (j k : ℕ) where
       differ-twice (suc zero) (suc (suc b)) h l = absurd (not-suc-le-zero (le-of-suc-le-suc (le-of-suc-le-suc l)))
       differ-twice (suc (suc c)) b h l = absurd (not-suc-le-zero (le-of-suc-le-suc (le-of-suc-le-suc h)))
 
-  pub write-past : (b : ℕ) → length s ≤ spot → bitsOf s ≡ set (bitsOf s) (8 * j + k) b
-  write-past b h = sym (set-out (bitsOf s) (8 * j + k) b (omega (arith, bits-length s)))
+  changed-octet : Octets s → (b : ℕ) → changed b < 256
+  changed-octet h b =
+      xor-lt 8 (getD s holder 0) (bitXor (bitAnd (getD s holder 0 / 2 ^ (behind % 8)) 1) b * 2 ^ (behind % 8) % 2 ^ 8) (h holder)
+      (mod-lt (bitXor (bitAnd (getD s holder 0 / 2 ^ (behind % 8)) 1) b * 2 ^ (behind % 8)) (pow-pos 8))
+
+pub has-bit : (s : List ℕ) (at k : ℕ) → ltb (holder s at k) (length s) ≡ ltb (at + k) (length (bitsOf s))
+has-bit s at k = pick (decLt (holder s at k) (length s))
+  where
+    pick : Dec (holder s at k < length s) → ltb (holder s at k) (length s) ≡ ltb (at + k) (length (bitsOf s))
+    pick (yes h) = lt-ltb (holder s at k) (length s) h ∙ sym (lt-ltb (at + k) (length (bitsOf s)) (omega (arith, bits-length s)))
+    pick (no h) = le-ltb (holder s at k) (length s) (omega arith) ∙ sym (le-ltb (at + k) (length (bitsOf s)) (omega (arith, bits-length s)))
+
+-- where there is such a bit, its octet is one of s; else it lies past the end
+pub held-in : (s : List ℕ) (at k : ℕ) → ltb (at + k) (length (bitsOf s)) ≡ true → holder s at k < length s
+held-in s at k e = ltb-true (holder s at k) (length s) (has-bit s at k ∙ e)
+
+pub held-out : (s : List ℕ) (at k : ℕ) → ltb (at + k) (length (bitsOf s)) ≡ false → length s ≤ holder s at k
+held-out s at k e = ltb-false (holder s at k) (length s) (has-bit s at k ∙ e)
+
+-- any part of the bits of octets is bits
+pub part-bits : (s : List ℕ) (at n k : ℕ) → Bits (take k (part at n (bitsOf s)))
+part-bits s at n k = take-bits k (part at n (bitsOf s)) (take-bits n (drop at (bitsOf s)) (drop-bits at (bitsOf s) (bits-bits s)))
 
 -- ---- octets of bits, and bits of octets
 
@@ -172,29 +199,39 @@ unfolding laid
 laid-bits s at bs h =
     bits-octets (length s) (sets (bitsOf s) at bs) (length-sets (bitsOf s) at bs ∙ bits-length s) (sets-bits (bitsOf s) at bs (bits-bits s) h)
 
--- s is what s₀ was with the bits bs laid over it so far
-pub record LaidSo (s₀ : List ℕ) (at : ℕ) (bs s : List ℕ) : Type 0 where
-  pub size : length s ≡ length s₀
-  pub octets : Octets s
-  pub bits : bitsOf s ≡ sets (bitsOf s₀) at bs
-
-pub laid-none : (s : List ℕ) (at : ℕ) → Octets s → LaidSo s at [] s
-laid-none s at h = record { size = refl; octets = h; bits = refl }
-
--- one bit more, at the next place, as put_bit_in puts it
-pub laid-more : {s₀ bs s : List ℕ} (at k b : ℕ) (t : List ℕ) → LaidSo s₀ at bs s → length bs ≡ k → Octets t → length t ≡ length s
-    → bitsOf t ≡ set (bitsOf s) (8 * (at / 8) + (at % 8 + k)) b → LaidSo s₀ at (bs ++ (b ∷ [])) t
-laid-more {s₀} {bs} {s} at k b t h e o l f =
-    let p : 8 * (at / 8) + (at % 8 + k) ≡ at + length bs = omega arith in
-    record {
-      size = l ∙ h .size;
-      octets = o;
-      bits = f ∙ ap₂ (λ (x : List ℕ) (n : ℕ). set x n b) (h .bits) p ∙ sym (sets-more (bitsOf s₀) at bs b);
-    }
-
-pub laid-done : {s₀ bs s : List ℕ} {at : ℕ} → LaidSo s₀ at bs s → s ≡ laid s₀ at bs
+-- no bit laid
+pub laid-none : (s : List ℕ) (at : ℕ) → Octets s → s ≡ laid s at []
 unfolding laid
-laid-done {s₀} {bs} {s} {at} h = octets-are s (sets (bitsOf s₀) at bs) (length s₀) (h .size) (h .octets) (h .bits)
+laid-none s at h = sym (octets-bits s h)
+
+-- one bit more, laid at the next place
+pub laid-more : (s₀ : List ℕ) (at : ℕ) (bs : List ℕ) (k b : ℕ) {s t : List ℕ} → Bits bs → length bs ≡ k → s ≡ laid s₀ at bs → t ≡ laid s (at + k) (b ∷ [])
+    → t ≡ laid s₀ at (bs ++ (b ∷ []))
+unfolding laid
+laid-more s₀ at bs k b {s} {t} h l e f =
+    f ∙ ap (λ (x : List ℕ). octetsOf (length x) (set (bitsOf x) (at + k) b)) e
+    ∙ ap₂ (λ (n : ℕ) (x : List ℕ). octetsOf n (set x (at + k) b)) (laid-length s₀ at bs) (laid-bits s₀ at bs h)
+    ∙ ap (λ (n : ℕ). octetsOf (length s₀) (set (sets (bitsOf s₀) at bs) (at + n) b)) (sym l)
+    ∙ ap (octetsOf (length s₀)) (sym (sets-more (bitsOf s₀) at bs b))
+
+module _ (s : List ℕ) (at k b : ℕ) (o : Octets s) (hb : b < 2) where
+  pub written : holder s at k < length s → set s (holder s at k) (changed s at k b) ≡ laid s (at + k) (b ∷ [])
+  unfolding laid
+  written h =
+      let t = set s (holder s at k) (changed s at k b) in
+      octets-are t (set (bitsOf s) (at + k) b) (length s) (length-set s (holder s at k) (changed s at k b))
+      (set-octets s (holder s at k) (changed s at k b) o (changed-octet s at k o b)) (write s at k b hb h)
+    where
+      set-octets : (s : List ℕ) (i v : ℕ) → Octets s → v < 256 → Octets (set s i v)
+      set-octets [] i v h l j = h j
+      set-octets (x ∷ s) zero v h l zero = l
+      set-octets (x ∷ s) zero v h l (suc j) = h (suc j)
+      set-octets (x ∷ s) (suc i) v h l zero = h 0
+      set-octets (x ∷ s) (suc i) v h l (suc j) = set-octets s i v (λ m. h (suc m)) l j
+
+  pub unwritten : length s ≤ holder s at k → s ≡ laid s (at + k) (b ∷ [])
+  unfolding laid
+  unwritten h = sym (octets-bits s o) ∙ ap (octetsOf (length s)) (sym (set-out (bitsOf s) (at + k) b (omega (arith, bits-length s))))
 
 -- ---- what a loop that copies bits has laid: as many of the source's as it has passed
 
@@ -205,18 +242,14 @@ module _ (source : List ℕ) (from n : ℕ) where
   given-length : length given ≡ min n (8 * length source - from)
   given-length = length-take n (drop from (bitsOf source)) ∙ ap (min n) (length-drop from (bitsOf source) ∙ ap (λ (k : ℕ). k - from) (bits-length source))
 
-  pub copied-none : (s : List ℕ) (at : ℕ) → Octets s → LaidSo s at (take 0 given) s
-  copied-none s at h = laid-none s at h
-
   pub copied-length : (k : ℕ) → k ≤ n → from + k ≤ 8 * length source → length (take k given) ≡ k
   copied-length k h l = length-take-le k given (omega (arith, given-length))
 
-  pub copied-next : (k b : ℕ) → k < n → from + k < 8 * length source → b ≡ bitOf source (8 * (from / 8) + (from % 8 + k))
+  pub copied-next : (k b : ℕ) → k < n → from + k < 8 * length source → b ≡ bitOf source (from + k)
       → take k given ++ (b ∷ []) ≡ take (k + 1) given
   copied-next k b h l e =
-      let p : 8 * (from / 8) + (from % 8 + k) ≡ from + k = omega arith in
       let g : b ≡ getD given k 0 =
-      e ∙ ap (λ (i : ℕ). getD (bitsOf source) i 0) p ∙ sym (getD-drop from (bitsOf source) k 0) ∙ sym (getD-take n (drop from (bitsOf source)) k 0 h) in
+      e ∙ sym (getD-drop from (bitsOf source) k 0) ∙ sym (getD-take n (drop from (bitsOf source)) k 0 h) in
       ap (λ (x : ℕ). take k given ++ (x ∷ [])) g ∙ sym (take-suc given k 0 (omega (arith, given-length))) ∙ ap (λ (m : ℕ). take m given) (sym (add-one k))
 
   pub copied-all : (k : ℕ) → k ≡ n → take k given ≡ given
@@ -228,22 +261,18 @@ module _ (source : List ℕ) (from n : ℕ) where
 -- ---- what a loop that looks for a 1 has seen: bits of value 0
 
 module _ (s : List ℕ) (at : ℕ) where
-  place-of : (k : ℕ) → getD (drop at (bitsOf s)) k 0 ≡ bitOf s (8 * (at / 8) + (at % 8 + k))
-  place-of k = getD-drop at (bitsOf s) k 0 ∙ ap (λ (i : ℕ). getD (bitsOf s) i 0) (omega arith)
-
-  pub clear-next : (k : ℕ) → valueOf (part at k (bitsOf s)) ≡ 0 → bitOf s (8 * (at / 8) + (at % 8 + k)) ≡ 0
-      → valueOf (part at (k + 1) (bitsOf s)) ≡ 0
+  pub clear-next : (k : ℕ) → valueOf (part at k (bitsOf s)) ≡ 0 → bitOf s (at + k) ≡ 0 → valueOf (part at (k + 1) (bitsOf s)) ≡ 0
   clear-next k e z =
       ap (λ (n : ℕ). valueOf (part at n (bitsOf s))) (add-one k)
       ∙ value-next (drop at (bitsOf s)) k
-      ∙ ap₂ (λ (x y : ℕ). x * 2 ^ k + y) (place-of k ∙ z) e
+      ∙ ap₂ (λ (x y : ℕ). x * 2 ^ k + y) (getD-drop at (bitsOf s) k 0 ∙ z) e
       ∙ omega arith
 
-  pub clear-not : (n k : ℕ) → k < n → (bitOf s (8 * (at / 8) + (at % 8 + k)) ≡ 0 → ⊥) → valueOf (part at n (bitsOf s)) ≡ 0 → ⊥
+  pub clear-not : (n k : ℕ) → k < n → (bitOf s (at + k) ≡ 0 → ⊥) → valueOf (part at n (bitsOf s)) ≡ 0 → ⊥
   clear-not n k h z e =
       let L = drop at (bitsOf s) in
       let g : valueOf (take (suc k) L) ≤ valueOf (take n L) = value-grows L (suc k) n h in
-      z (sym (place-of k) ∙ none (getD L k 0) (2 ^ k) (valueOf (take k L)) (pow-pos k) (omega (arith, value-next L k)))
+      z (sym (getD-drop at (bitsOf s) k 0) ∙ none (getD L k 0) (2 ^ k) (valueOf (take k L)) (pow-pos k) (omega (arith, value-next L k)))
     where
       none : (b p v : ℕ) → 0 < p → b * p + v ≡ 0 → b ≡ 0
       none zero p v h e = refl

@@ -7,16 +7,19 @@ use lib.IntN.{ℤ}
 use Rattle.octets.specs.declared.Place.{Place}
 use Rattle.octets.specs.declared.Taken.{Taken}
 use Rattle.octets.specs.declared.SignedTaken.{SignedTaken}
-use Rattle.octets.specs.Promises.{BitRead, BitPut, FieldRead, FieldPut, SignedRead, SignedPut, Turned, Copied, Cleared, IsClear, IsStart, FieldTaken, SignedFieldTaken}
+use Rattle.octets.specs.Promises.{BitRead, BitPut, HasBit, FieldRead, FieldPut, SignedRead, SignedPut, Turned, Copied, Cleared, IsClear, IsStart, FieldTaken, SignedFieldTaken}
 
 both : {A : Type 0} {x y z : A} → x ≡ z → y ≡ z → x ≡ y
 both p q = p ∙ sym q
 
-pub bit-one : (s : List ℕ) (i r r′ : ℕ) → BitRead s i r → BitRead s i r′ → r ≡ r′
-bit-one s i r r′ p q = both p q
+pub bit-one : (s : List ℕ) (at k r r′ : ℕ) → BitRead s at k r → BitRead s at k r′ → r ≡ r′
+bit-one s at k r r′ p q = both p q
 
-pub put-bit-one : (s : List ℕ) (i b : ℕ) (t t′ : List ℕ) → BitPut s i b t → BitPut s i b t′ → t ≡ t′
-put-bit-one s i b t t′ p q = both p q
+pub put-bit-one : (s : List ℕ) (at k b : ℕ) (t t′ : List ℕ) → BitPut s at k b t → BitPut s at k b t′ → t ≡ t′
+put-bit-one s at k b t t′ p q = both p q
+
+pub has-one : (s : List ℕ) (at k : ℕ) (r r′ : Bool) → HasBit s at k r → HasBit s at k r′ → r ≡ r′
+has-one s at k r r′ p q = both p q
 
 pub field-one : (s : List ℕ) (at w r r′ : ℕ) → FieldRead s at w r → FieldRead s at w r′ → r ≡ r′
 field-one s at w r r′ p q = both p q

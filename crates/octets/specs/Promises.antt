@@ -3,9 +3,9 @@ use mathlib.Core.Path.{_≡_}
 use mathlib.Core.Bool.{Bool}
 use mathlib.Core.List.{List, [], _∷_, reverse}
 use Prim.Native.Nat.{ℕ, _+_, _-_, _%_, _^_, min}
-use lib.Dec.{eqb}
+use lib.Dec.{eqb, ltb}
 use lib.IntN.{ℤ}
-use lib.ListN.{replicate}
+use lib.ListN.{length, replicate}
 use Rattle.octets.specs.Bits.{digitsOf, valueOf, bitsOf, bitOf, part, laid}
 use Rattle.octets.specs.Signed.{signedOf, twosOf}
 use Rattle.octets.specs.declared.Place.{Place}
@@ -13,12 +13,16 @@ use Rattle.octets.specs.declared.Taken.{Taken}
 use Rattle.octets.specs.declared.SignedTaken.{SignedTaken}
 
 -- bit
-abbrev pub BitRead : List ℕ → ℕ → ℕ → Type 0
-BitRead s i r = r ≡ bitOf s i
+abbrev pub BitRead : List ℕ → ℕ → ℕ → ℕ → Type 0
+BitRead s at k r = r ≡ bitOf s (at + k)
 
 -- put_bit
-abbrev pub BitPut : List ℕ → ℕ → ℕ → List ℕ → Type 0
-BitPut s i b exit = exit ≡ laid s i (b % 2 ∷ [])
+abbrev pub BitPut : List ℕ → ℕ → ℕ → ℕ → List ℕ → Type 0
+BitPut s at k b exit = exit ≡ laid s (at + k) (b % 2 ∷ [])
+
+-- has
+abbrev pub HasBit : List ℕ → ℕ → ℕ → Bool → Type 0
+HasBit s at k r = r ≡ ltb (at + k) (length (bitsOf s))
 
 -- field
 abbrev pub FieldRead : List ℕ → ℕ → ℕ → ℕ → Type 0

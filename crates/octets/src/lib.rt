@@ -2,11 +2,9 @@
 // weight 2 to the power (n-1) mod 8 in octet (n-1)/8. Every function takes every input: what lies past the end reads 0 and
 // is not written, and a field's width over 32 counts as 32.
 ghost use mathlib.Core.Path.{_≡_};
-ghost use Prim.Native.Nat.{_+_, _*_, _^_, _<_, _≤_, min};
-ghost use lib.ListN.{length, set};
-ghost use Rattle.octets.specs.Bits.{bitOf, bitsOf};
+ghost use Prim.Native.Nat.{_^_, _<_, _≤_, min};
 ghost use Rattle.octets.specs.Signed.{signedOf, twosOf};
-ghost use Rattle.octets.specs.Promises.{BitRead, BitPut, FieldRead, FieldPut, SignedRead, SignedPut, Turned, Copied, Cleared, IsClear, IsStart, behindOf, FieldTaken, SignedFieldTaken};
+ghost use Rattle.octets.specs.Promises.{BitRead, BitPut, HasBit, FieldRead, FieldPut, SignedRead, SignedPut, Turned, Copied, Cleared, IsClear, IsStart, behindOf, FieldTaken, SignedFieldTaken};
 
 // The widest field.
 const WIDEST: u32 = 32;
@@ -14,43 +12,35 @@ const WIDEST: u32 = 32;
 // The last place that a number can name.
 const LAST: usize = 18446744073709551615;
 
-// The bit k places behind the first bit of an octet.
-fn bit_in(s: &[u8], octet: usize, k: usize) -> u8
-    requires { ⌜ (octet < 2 ^ 61) × (k < 2 ^ 33) ⌝ }
-    ensures { λ r. ⌜ r ≡ bitOf (now (s .entry)) (8 * octet + k) ⌝ }
+// Whether there is a bit k places behind place `at`.
+pub fn has(s: &[u8], at: usize, k: u32) -> bool
+    ensures { λ r. ⌜ HasBit (now (s .entry)) at k r ⌝ }
 {
-    let at = octet + k / 8;
-    if at < s.len() {
-        (s[at] >> (k % 8)) & 1
+    at / 8 + (at % 8 + (k as usize)) / 8 < s.len()
+}
+
+// The bit k places behind place `at`.
+pub fn bit(s: &[u8], at: usize, k: u32) -> u8
+    ensures { λ r. ⌜ BitRead (now (s .entry)) at k r ⌝ }
+{
+    if has(s, at, k) {
+        let j = at % 8 + (k as usize);
+        (s[at / 8 + j / 8] >> (j % 8)) & 1
     } else {
         0
     }
 }
 
-// The same bit becomes b.
-fn put_bit_in(s: &mut [u8], octet: usize, k: usize, b: u8)
-    requires { ⌜ (octet < 2 ^ 61) × (k < 2 ^ 33) × (b < 2) ⌝ }
-    ensures { λ r. ⌜ bitsOf (now (s .exit)) ≡ set (bitsOf (now (s .entry))) (8 * octet + k) b ⌝ }
+// The bit k places behind place `at` becomes the lowest digit of b.
+pub fn put_bit(s: &mut [u8], at: usize, k: u32, b: u8)
+    ensures { λ r. ⌜ BitPut (now (s .entry)) at k b (now (s .exit)) ⌝ }
 {
-    let at = octet + k / 8;
-    if at < s.len() {
-        let o = s[at];
-        s[at] = o ^ ((((o >> (k % 8)) & 1) ^ b) << (k % 8));
+    if has(s, at, k) {
+        let j = at % 8 + (k as usize);
+        let octet = at / 8 + j / 8;
+        let o = s[octet];
+        s[octet] = o ^ ((((o >> (j % 8)) & 1) ^ (b % 2)) << (j % 8));
     }
-}
-
-// The bit at place i.
-pub fn bit(s: &[u8], i: usize) -> u8
-    ensures { λ r. ⌜ BitRead (now (s .entry)) i r ⌝ }
-{
-    bit_in(s, i / 8, i % 8)
-}
-
-// The bit at place i becomes the lowest digit of b.
-pub fn put_bit(s: &mut [u8], i: usize, b: u8)
-    ensures { λ r. ⌜ BitPut (now (s .entry)) i b (now (s .exit)) ⌝ }
-{
-    put_bit_in(s, i / 8, i % 8, b % 2);
 }
 
 // A width as it counts.
@@ -64,12 +54,11 @@ fn width(w: u32) -> u32
 pub fn field(s: &[u8], at: usize, w: u32) -> u32
     ensures { λ r. ⌜ FieldRead (now (s .entry)) at w r ⌝ }
 {
-    let octet = at / 8;
-    let n = width(w) as usize;
+    let n = width(w);
     let mut v: u32 = 0;
     let mut k = n;
     while 0 < k {
-        let b = bit_in(s, octet, at % 8 + (k - 1));
+        let b = bit(s, at, k - 1);
         v = v * 2 + (b as u32);
         k -= 1;
     }
@@ -80,12 +69,11 @@ pub fn field(s: &[u8], at: usize, w: u32) -> u32
 pub fn put_field(s: &mut [u8], at: usize, w: u32, v: u32)
     ensures { λ r. ⌜ FieldPut (now (s .entry)) at w v (now (s .exit)) ⌝ }
 {
-    let octet = at / 8;
-    let count = width(w) as usize;
+    let count = width(w);
     let mut rest = v;
-    let mut k: usize = 0;
+    let mut k: u32 = 0;
     while k < count {
-        put_bit_in(s, octet, at % 8 + k, (rest % 2) as u8);
+        put_bit(s, at, k, (rest % 2) as u8);
         rest = rest / 2;
         k += 1;
     }
@@ -151,16 +139,13 @@ pub fn turned(w: u32, v: u32) -> u32
 pub fn copy(s: &mut [u8], at: usize, source: &[u8], from: usize, n: u32)
     ensures { λ r. ⌜ Copied (now (s .entry)) at (now (source .entry)) from n (now (s .exit)) ⌝ }
 {
-    let octet = at / 8;
-    let first = from / 8;
     let mut k: u32 = 0;
     while k < n {
-        let j = from % 8 + (k as usize);
-        if source.len() <= first + j / 8 {
+        if !has(source, from, k) {
             return;
         }
-        let b = bit_in(source, first, j);
-        put_bit_in(s, octet, at % 8 + (k as usize), b);
+        let b = bit(source, from, k);
+        put_bit(s, at, k, b);
         k += 1;
     }
 }
@@ -169,10 +154,9 @@ pub fn copy(s: &mut [u8], at: usize, source: &[u8], from: usize, n: u32)
 pub fn clear(s: &mut [u8], at: usize, n: u32)
     ensures { λ r. ⌜ Cleared (now (s .entry)) at n (now (s .exit)) ⌝ }
 {
-    let octet = at / 8;
     let mut k: u32 = 0;
     while k < n {
-        put_bit_in(s, octet, at % 8 + (k as usize), 0);
+        put_bit(s, at, k, 0);
         k += 1;
     }
 }
@@ -181,10 +165,9 @@ pub fn clear(s: &mut [u8], at: usize, n: u32)
 pub fn is_clear(s: &[u8], at: usize, n: u32) -> bool
     ensures { λ r. ⌜ IsClear (now (s .entry)) at n r ⌝ }
 {
-    let octet = at / 8;
     let mut k: u32 = 0;
     while k < n {
-        if bit_in(s, octet, at % 8 + (k as usize)) != 0 {
+        if bit(s, at, k) != 0 {
             return false;
         }
         k += 1;

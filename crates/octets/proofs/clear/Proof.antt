@@ -1,32 +1,26 @@
 -- `octets::clear` meets its contract. After k turns k zeros are laid.
-use mathlib.Core.Path.{_≡_, refl, ap, subst, _∙_}
-use mathlib.Core.List.{List, [], _∷_, _++_}
+use borrow.Author.Needs.{needs}
+use mathlib.Core.Path.{_≡_, ap, _∙_}
 use Prim.Native.Nat.{ℕ, _+_, _-_, _≤_}
 use native.Mathlib.Omega.{arith}
-use lib.ListN.{replicate, length-replicate, replicate-append-replicate}
-use Rattle.octets.proofs.Laws.{LaidSo, laid-none, laid-more, laid-done}
+use lib.ListN.{length, replicate, length-replicate, replicate-append-replicate}
+use Rattle.octets.specs.Bits.{laid}
+use Rattle.octets.proofs.Digits.{zeros-bits}
+use Rattle.octets.proofs.Laws.{laid-none, laid-more, laid-length}
 use Rattle.octets.proofs.clear.Statement.{statement}
 use Rattle.octets.proofs.clear.Tie as tie
 
 abbrev Inv-loop : tie.InvT-loop
-Inv-loop s₀ at n octet k₀ s k = (k ≤ n) × LaidSo s₀ at (replicate k 0) s
+Inv-loop s₀ at n k₀ s k = (k ≤ n) × (s ≡ laid s₀ at (replicate k 0))
 
 abbrev μ-loop : tie.MeasureT-loop
-μ-loop s₀ at n octet k₀ s k = n - k
+μ-loop s₀ at n k₀ s k = n - k
 
 loop-holds : tie.Need-loop-holds Inv-loop μ-loop
-loop-holds c =
-    let a = c .before .args in
-    (omega arith, laid-none (a .s .now) (a .at) (λ j. omega (arith, c .slice-known .given j)))
+loop-holds c = let a = c .before .args in (omega arith, laid-none (a .s .now) (a .at) (λ i. omega (arith, c .slice-known .given i)))
 
-cast-put-bit-in : tie.Need-cast-put-bit-in Inv-loop μ-loop
-cast-put-bit-in c = omega arith
-
-add-put-bit-in : tie.Need-add-put-bit-in Inv-loop μ-loop
-add-put-bit-in c = omega arith
-
-put-bit-in-requires : tie.Need-put-bit-in-requires Inv-loop μ-loop
-put-bit-in-requires c κs = omega arith
+put-bit-requires : tie.Need-put-bit-requires Inv-loop μ-loop
+put-bit-requires c κs = search needs
 
 add-k : tie.Need-add-k Inv-loop μ-loop
 add-k c = omega arith
@@ -37,23 +31,21 @@ loop-less c = omega arith
 loop-again : tie.Need-loop-again Inv-loop μ-loop
 loop-again c =
     let a = c .before .before .before .before .before .before .before .args in
-    let l = c .before .before .before .before .before .loop in
-    let q = c .before .before .put-bit-in in (
+    let l = c .before .before .before .before .before .loop in (
       omega arith,
-      subst (λ (x : List ℕ). LaidSo (a .s .now) (a .at) x (q .last .0)) (replicate-append-replicate (l .k) 1 0)
-          (laid-more (a .at) (l .k) 0 (q .last .0) (l .inv .1) (length-replicate (l .k) 0)
-          (λ j. omega (arith, c .slice-known2 .given j)) (q .kept .0) (q .ensures)),
+      laid-more (a .s .now) (a .at) (replicate (l .k) 0) (l .k) 0 (zeros-bits (l .k)) (length-replicate (l .k) 0) (l .inv .1) (c .before .before .put-bit .ensures)
+          ∙ ap (laid (a .s .now) (a .at)) (replicate-append-replicate (l .k) 1 0),
     )
 
 same-length : tie.Need-same-length Inv-loop μ-loop
-same-length c = c .before .loop .inv .1 .size
+same-length c = let a = c .before .before .before .args in ap length (c .before .loop .inv .1) ∙ laid-length (a .s .now) (a .at) _
 
 returns : tie.Need-returns Inv-loop μ-loop
 returns c =
     let a = c .before .before .before .args in
     let l = c .before .loop in
     let e : l .k ≡ a .n = omega arith in
-    laid-done (subst (λ (k : ℕ). LaidSo (a .s .now) (a .at) (replicate k 0) (l .s)) e (l .inv .1))
+    l .inv .1 ∙ ap (λ (k : ℕ). laid (a .s .now) (a .at) (replicate k 0)) e
 
 pub clear-spec : {M : Type 1} → statement M
 clear-spec =
@@ -62,9 +54,7 @@ clear-spec =
     Inv-loop
     μ-loop
     loop-holds
-    cast-put-bit-in
-    add-put-bit-in
-    put-bit-in-requires
+    put-bit-requires
     add-k
     loop-less
     loop-again

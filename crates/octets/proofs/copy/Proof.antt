@@ -1,54 +1,44 @@
 -- `octets::copy` meets its contract. After k turns the first k of the bits to be copied are laid.
+use borrow.Author.Needs.{needs}
+use borrow.Author.Tests.{not-true, not-false, ltb-true, ltb-false}
 use mathlib.Core.Path.{_≡_, refl, sym, ap, subst, _∙_}
-use mathlib.Core.List.{List, [], _∷_, _++_}
-use Prim.Native.Nat.{ℕ, _+_, _-_, _*_, _/_, _%_, _≤_, _<_}
+use mathlib.Core.List.{List, [], _∷_}
+use Prim.Native.Nat.{ℕ, _+_, _-_, _*_, _%_, _≤_, _<_}
+use native.Mathlib.Nat.{mod-eq-of-lt}
 use native.Mathlib.Omega.{arith}
 use lib.ListN.{length, take}
-use Rattle.octets.specs.Bits.{bitsOf, bitOf, part}
-use Rattle.octets.proofs.Laws.{LaidSo, laid-none, laid-more, laid-done, copied-none, copied-length, copied-next, copied-all, copied-past, bits-bits}
+use Rattle.octets.specs.Bits.{bitsOf, part, laid}
+use Rattle.octets.proofs.Laws.{laid-none, laid-more, laid-length, bits-bits, bits-length, part-bits, copied-length, copied-next, copied-all, copied-past}
 use Rattle.octets.proofs.copy.Statement.{statement}
 use Rattle.octets.proofs.copy.Tie as tie
 
 abbrev Inv-loop : tie.InvT-loop
-Inv-loop s₀ at source from n octet first k₀ s k = (k ≤ n) × (length (take k (part from n (bitsOf source))) ≡ k) × LaidSo s₀ at (take k (part from n (bitsOf source))) s
+Inv-loop s₀ at source from n k₀ s k = (k ≤ n) × (length (take k (part from n (bitsOf source))) ≡ k) × (s ≡ laid s₀ at (take k (part from n (bitsOf source))))
 
 abbrev μ-loop : tie.MeasureT-loop
-μ-loop s₀ at source from n octet first k₀ s k = n - k
+μ-loop s₀ at source from n k₀ s k = n - k
 
 loop-holds : tie.Need-loop-holds Inv-loop μ-loop
-loop-holds c =
-    let a = c .before .before .args in
-    (omega arith, refl, copied-none (a .source .now) (a .from) (a .n) (a .s .now) (a .at) (λ j. omega (arith, c .before .slice-known .given j)))
+loop-holds c = let a = c .before .before .args in (omega arith, refl, laid-none (a .s .now) (a .at) (λ i. omega (arith, c .before .slice-known .given i)))
 
-cast-j : tie.Need-cast-j Inv-loop μ-loop
-cast-j c = omega arith
-
-add-j : tie.Need-add-j Inv-loop μ-loop
-add-j c = omega arith
-
-add-if1 : tie.Need-add-if1 Inv-loop μ-loop
-add-if1 c = omega arith
+has-requires : tie.Need-has-requires Inv-loop μ-loop
+has-requires c κs = search needs
 
 same-length : tie.Need-same-length Inv-loop μ-loop
-same-length c = c .before .before .loop .inv .2 .size
+same-length c = let a = c .before .before .before .before .before .before .args in ap length (c .before .before .before .loop .inv .2) ∙ laid-length (a .s .now) (a .at) _
 
 returns : tie.Need-returns Inv-loop μ-loop
 returns c =
-    let a = c .before .before .before .before .before .args in
-    let l = c .before .before .loop in
-    laid-done (subst (λ (x : List ℕ). LaidSo (a .s .now) (a .at) x (l .s)) (copied-past (a .source .now) (a .from) (a .n) (l .k) (omega arith)) (l .inv .2))
+    let a = c .before .before .before .before .before .before .args in
+    let l = c .before .before .before .loop in
+    let h : length (bitsOf (a .source .now)) ≤ a .from + l .k = ltb-false _ _ (sym (c .before .has .ensures) ∙ not-true _ (c .if1 .taken)) in
+    l .inv .2 ∙ ap (laid (a .s .now) (a .at)) (copied-past (a .source .now) (a .from) (a .n) (l .k) (omega (arith, bits-length (a .source .now))))
 
-bit-in-requires : tie.Need-bit-in-requires Inv-loop μ-loop
-bit-in-requires c κs = omega arith
+bit-requires : tie.Need-bit-requires Inv-loop μ-loop
+bit-requires c κs = search needs
 
-cast-put-bit-in : tie.Need-cast-put-bit-in Inv-loop μ-loop
-cast-put-bit-in c = omega arith
-
-add-put-bit-in : tie.Need-add-put-bit-in Inv-loop μ-loop
-add-put-bit-in c = omega arith
-
-put-bit-in-requires : tie.Need-put-bit-in-requires Inv-loop μ-loop
-put-bit-in-requires c κs = (omega arith, omega arith, subst (λ (b : ℕ). b < 2) (sym (c .before .bit-in .ensures)) (bits-bits _ _))
+put-bit-requires : tie.Need-put-bit-requires Inv-loop μ-loop
+put-bit-requires c κs = search needs
 
 add-k : tie.Need-add-k Inv-loop μ-loop
 add-k c = omega arith
@@ -58,30 +48,30 @@ loop-less c = omega arith
 
 loop-again : tie.Need-loop-again Inv-loop μ-loop
 loop-again c =
-    let a = c .before .before .before .before .before .before .before .before .before .before .args in
-    let l = c .before .before .before .before .before .before .before .loop in
-    let b = c .before .before .before .before .bit-in in
-    let q = c .before .before .put-bit-in in
-    let h : l .k < a .n = omega arith in
-    let i : a .from + l .k < 8 * length (a .source .now) = omega arith in
-    let n : length (take (l .k + 1) (part (a .from) (a .n) (bitsOf (a .source .now)))) ≡ l .k + 1 =
-    copied-length (a .source .now) (a .from) (a .n) (l .k + 1) (omega arith) (omega arith) in (
+    let a = c .before .before .before .before .before .before .before .before .before .before .before .args in
+    let l = c .before .before .before .before .before .before .before .before .loop in
+    let g = c .before .before .before .before .before .before .has in
+    let b = c .before .before .before .before .bit in
+    let q = c .before .before .put-bit in
+    let S = bitsOf (a .source .now) in
+    let h : a .from + l .k < length S = ltb-true _ _ (sym (g .ensures) ∙ not-false _ (c .before .before .before .before .before .if1 .left)) in
+    let i : a .from + l .k < 8 * length (a .source .now) = omega (arith, bits-length (a .source .now)) in
+    let e : b .result % 2 ≡ b .result = mod-eq-of-lt (subst (λ (x : ℕ). x < 2) (sym (b .ensures)) (bits-bits (a .source .now) (a .from + l .k))) in (
       omega arith,
-      n,
-      subst (λ (x : List ℕ). LaidSo (a .s .now) (a .at) x (q .last .0))
-          (copied-next (a .source .now) (a .from) (a .n) (l .k) (b .result) h i (b .ensures))
-          (laid-more (a .at) (l .k) (b .result) (q .last .0) (l .inv .2) (l .inv .1)
-          (λ j. omega (arith, c .slice-known2 .given j)) (q .kept .0) (q .ensures)),
+      copied-length (a .source .now) (a .from) (a .n) (l .k + 1) (omega arith) (omega arith),
+      laid-more (a .s .now) (a .at) (take (l .k) (part (a .from) (a .n) S)) (l .k) (b .result) (part-bits (a .source .now) (a .from) (a .n) (l .k)) (l .inv .1) (l .inv .2)
+          (q .ensures ∙ ap (λ (x : ℕ). laid (l .s) (a .at + l .k) (x ∷ [])) e)
+          ∙ ap (laid (a .s .now) (a .at)) (copied-next (a .source .now) (a .from) (a .n) (l .k) (b .result) (omega arith) i (b .ensures)),
     )
 
 same-length-2 : tie.Need-same-length-2 Inv-loop μ-loop
-same-length-2 c = c .before .loop .inv .2 .size
+same-length-2 c = let a = c .before .before .before .before .args in ap length (c .before .loop .inv .2) ∙ laid-length (a .s .now) (a .at) _
 
 returns-2 : tie.Need-returns-2 Inv-loop μ-loop
 returns-2 c =
     let a = c .before .before .before .before .args in
     let l = c .before .loop in
-    laid-done (subst (λ (x : List ℕ). LaidSo (a .s .now) (a .at) x (l .s)) (copied-all (a .source .now) (a .from) (a .n) (l .k) (omega arith)) (l .inv .2))
+    l .inv .2 ∙ ap (laid (a .s .now) (a .at)) (copied-all (a .source .now) (a .from) (a .n) (l .k) (omega arith))
 
 pub copy-spec : {M : Type 1} → statement M
 copy-spec =
@@ -90,15 +80,11 @@ copy-spec =
     Inv-loop
     μ-loop
     loop-holds
-    cast-j
-    add-j
-    add-if1
+    has-requires
     same-length
     returns
-    bit-in-requires
-    cast-put-bit-in
-    add-put-bit-in
-    put-bit-in-requires
+    bit-requires
+    put-bit-requires
     add-k
     loop-less
     loop-again

@@ -1,7 +1,7 @@
 -- `octets::field` meets its contract. The loop goes down: v is the value of the field's bits from the one at place at + k on.
 use borrow.Author.Needs.{needs}
 use mathlib.Core.Path.{_≡_, sym, ap, ap₂, subst, _∙_}
-use Prim.Native.Nat.{ℕ, suc, _+_, _-_, _*_, _/_, _%_, _^_, _≤_, _<_, min}
+use Prim.Native.Nat.{ℕ, suc, _+_, _-_, _*_, _^_, _≤_, _<_, min}
 use native.Mathlib.Omega.{arith}
 use lib.ListN.{drop}
 use lib.Pow.{pow-mono}
@@ -12,16 +12,13 @@ use Rattle.octets.proofs.field.Statement.{statement}
 use Rattle.octets.proofs.field.Tie as tie
 
 abbrev Inv-loop : tie.InvT-loop
-Inv-loop s at w octet n v₀ k₀ v k = (k ≤ n) × (n ≡ min w 32) × (v ≡ valueOf (part (at + k) (n - k) (bitsOf s)))
+Inv-loop s at w n v₀ k₀ v k = (k ≤ n) × (n ≡ min w 32) × (v ≡ valueOf (part (at + k) (n - k) (bitsOf s)))
 
 abbrev μ-loop : tie.MeasureT-loop
-μ-loop s at w octet n v₀ k₀ v k = k
+μ-loop s at w n v₀ k₀ v k = k
 
 width-requires : tie.Need-width-requires Inv-loop μ-loop
 width-requires c κs = search needs
-
-cast-n : tie.Need-cast-n Inv-loop μ-loop
-cast-n c = omega arith
 
 loop-holds : tie.Need-loop-holds Inv-loop μ-loop
 unfolding valueOf
@@ -30,41 +27,36 @@ loop-holds c =
     let e : 0 ≡ c .width .result - c .width .result = omega arith in
     (omega arith, c .width .ensures, ap (λ (n : ℕ). valueOf (part (a .at + c .width .result) n (bitsOf (a .s .now)))) e)
 
-sub-bit-in : tie.Need-sub-bit-in Inv-loop μ-loop
-sub-bit-in c = omega arith
+sub-bit : tie.Need-sub-bit Inv-loop μ-loop
+sub-bit c = omega arith
 
-add-bit-in : tie.Need-add-bit-in Inv-loop μ-loop
-add-bit-in c = omega arith
+bit-requires : tie.Need-bit-requires Inv-loop μ-loop
+bit-requires c κs = search needs
 
-bit-in-requires : tie.Need-bit-in-requires Inv-loop μ-loop
-bit-in-requires c κs = omega arith
-
--- the value with one bit more
-value : (c : tie.After-bit-in Inv-loop μ-loop)
-    → let a = c .before .before .before .before .before .args in let l = c .before .before .loop in
-    l .v * 2 + c .bit-in .result ≡ valueOf (part (a .at + (l .k - 1)) (c .before .before .before .width .result - (l .k - 1)) (bitsOf (a .s .now)))
+-- the value with one bit more, and that it fits
+value : (c : tie.After-bit Inv-loop μ-loop)
+    → let a = c .before .before .before .before .before .args in let l = c .before .before .loop in let n = c .before .before .before .width .result in
+    l .v * 2 + c .bit .result ≡ valueOf (part (a .at + (l .k - 1)) (n - (l .k - 1)) (bitsOf (a .s .now)))
 value c =
     let a = c .before .before .before .before .before .args in
     let l = c .before .before .loop in
-    let B = bitsOf (a .s .now) in
     let n = c .before .before .before .width .result in
+    let B = bitsOf (a .s .now) in
     let j = l .k - 1 in
-    let p : 8 * (a .at / 8) + (a .at % 8 + j) ≡ a .at + j = omega arith in
     let q : a .at + l .k ≡ suc (a .at + j) = omega arith in
     let r : suc (n - l .k) ≡ n - j = omega arith in
-    ap₂ (λ (x y : ℕ). x * 2 + y) (l .inv .2 ∙ ap (λ (i : ℕ). valueOf (part i (n - l .k) B)) q)
-    (c .bit-in .ensures ∙ ap (bitOf (a .s .now)) p)
+    ap₂ (λ (x y : ℕ). x * 2 + y) (l .inv .2 ∙ ap (λ (i : ℕ). valueOf (part i (n - l .k) B)) q) (c .bit .ensures)
     ∙ value-head B (a .at + j) (n - l .k)
     ∙ ap (λ (i : ℕ). valueOf (part (a .at + j) i B)) r
 
-fits : (c : tie.After-bit-in Inv-loop μ-loop) → c .before .before .loop .v * 2 + c .bit-in .result < 2 ^ 32
+fits : (c : tie.After-bit Inv-loop μ-loop) → c .before .before .loop .v * 2 + c .bit .result < 2 ^ 32
 fits c =
     let a = c .before .before .before .before .before .args in
     let j = c .before .before .loop .k - 1 in
     let n = c .before .before .before .width .result - j in
     let h : n ≤ 32 = omega arith in
-    let B = drop (a .at + j) (bitsOf (a .s .now)) in
-    let b : valueOf (part (a .at + j) n (bitsOf (a .s .now))) < 2 ^ n = value-part n B (drop-bits (a .at + j) (bitsOf (a .s .now)) (bits-bits (a .s .now))) in
+    let B = bitsOf (a .s .now) in
+    let b : valueOf (part (a .at + j) n B) < 2 ^ n = value-part n (drop (a .at + j) B) (drop-bits (a .at + j) B (bits-bits (a .s .now))) in
     subst (λ (x : ℕ). x < 2 ^ 32) (sym (value c)) (omega (arith, b, pow-mono h))
 
 mul-v : tie.Need-mul-v Inv-loop μ-loop
@@ -100,11 +92,9 @@ field-spec =
     Inv-loop
     μ-loop
     width-requires
-    cast-n
     loop-holds
-    sub-bit-in
-    add-bit-in
-    bit-in-requires
+    sub-bit
+    bit-requires
     mul-v
     cast-v
     add-v

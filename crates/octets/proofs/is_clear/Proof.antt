@@ -1,4 +1,5 @@
 -- `octets::is_clear` meets its contract. The k bits passed have the value 0.
+use borrow.Author.Needs.{needs}
 use mathlib.Core.Path.{_≡_, refl, sym, ap, subst, _∙_}
 use Prim.Native.Nat.{ℕ, suc, _+_, _-_, _*_, _/_, _%_, _^_, _≤_, _<_}
 use native.Mathlib.Numerals.{add-one}
@@ -12,30 +13,23 @@ use Rattle.octets.proofs.is_clear.Statement.{statement}
 use Rattle.octets.proofs.is_clear.Tie as tie
 
 abbrev Inv-loop : tie.InvT-loop
-Inv-loop s at n octet k₀ k = (k ≤ n) × (valueOf (part at k (bitsOf s)) ≡ 0)
+Inv-loop s at n k₀ k = (k ≤ n) × (valueOf (part at k (bitsOf s)) ≡ 0)
 
 abbrev μ-loop : tie.MeasureT-loop
-μ-loop s at n octet k₀ k = n - k
+μ-loop s at n k₀ k = n - k
 
 loop-holds : tie.Need-loop-holds Inv-loop μ-loop
 unfolding valueOf
-loop-holds c =
-    (omega arith, refl)
+loop-holds c = (omega arith, refl)
 
-cast-bit-in : tie.Need-cast-bit-in Inv-loop μ-loop
-cast-bit-in c = omega arith
-
-add-bit-in : tie.Need-add-bit-in Inv-loop μ-loop
-add-bit-in c = omega arith
-
-bit-in-requires : tie.Need-bit-in-requires Inv-loop μ-loop
-bit-in-requires c κs = omega arith
+bit-requires : tie.Need-bit-requires Inv-loop μ-loop
+bit-requires c κs = search needs
 
 returns : tie.Need-returns Inv-loop μ-loop
 returns c =
     let a = c .before .before .before .before .before .args in
     let l = c .before .before .before .loop in
-    sym (ne-eqb _ _ (clear-not (a .s .now) (a .at) (a .n) (l .k) (omega arith) (λ z. c .if1 .taken (c .before .bit-in .ensures ∙ z))))
+    sym (ne-eqb _ _ (clear-not (a .s .now) (a .at) (a .n) (l .k) (omega arith) (λ z. c .if1 .taken (c .before .bit .ensures ∙ z))))
 
 add-k : tie.Need-add-k Inv-loop μ-loop
 add-k c = omega arith
@@ -47,7 +41,7 @@ loop-again : tie.Need-loop-again Inv-loop μ-loop
 loop-again c =
     let a = c .before .before .before .before .before .args in
     let l = c .before .before .before .loop in
-    (omega arith, clear-next (a .s .now) (a .at) (l .k) (l .inv .1) (sym (c .before .bit-in .ensures) ∙ c .if1 .left))
+    (omega arith, clear-next (a .s .now) (a .at) (l .k) (l .inv .1) (sym (c .before .bit .ensures) ∙ c .if1 .left))
 
 returns-2 : tie.Need-returns-2 Inv-loop μ-loop
 returns-2 c =
@@ -59,15 +53,4 @@ returns-2 c =
 pub is-clear-spec : {M : Type 1} → statement M
 is-clear-spec =
     tie.close
-    (tie.spec
-    Inv-loop
-    μ-loop
-    loop-holds
-    cast-bit-in
-    add-bit-in
-    bit-in-requires
-    returns
-    add-k
-    loop-less
-    loop-again
-    returns-2)
+    (tie.spec Inv-loop μ-loop loop-holds bit-requires returns add-k loop-less loop-again returns-2)
