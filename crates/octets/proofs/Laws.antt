@@ -233,7 +233,7 @@ module _ (s : List ℕ) (at k b : ℕ) (o : Octets s) (hb : b < 2) where
   unfolding laid
   unwritten h = sym (octets-bits s o) ∙ ap (octetsOf (length s)) (sym (set-out (bitsOf s) (at + k) b (omega (arith, bits-length s))))
 
--- ---- what a loop that copies bits has laid: as many of the source's as it has passed
+-- ---- a part of the bits of octets, taken one after the other
 
 module _ (source : List ℕ) (from n : ℕ) where
   abbrev given : List ℕ
@@ -242,21 +242,21 @@ module _ (source : List ℕ) (from n : ℕ) where
   given-length : length given ≡ min n (8 * length source - from)
   given-length = length-take n (drop from (bitsOf source)) ∙ ap (min n) (length-drop from (bitsOf source) ∙ ap (λ (k : ℕ). k - from) (bits-length source))
 
-  pub copied-length : (k : ℕ) → k ≤ n → from + k ≤ 8 * length source → length (take k given) ≡ k
-  copied-length k h l = length-take-le k given (omega (arith, given-length))
+  pub part-length : (k : ℕ) → k ≤ n → from + k ≤ 8 * length source → length (take k given) ≡ k
+  part-length k h l = length-take-le k given (omega (arith, given-length))
 
-  pub copied-next : (k b : ℕ) → k < n → from + k < 8 * length source → b ≡ bitOf source (from + k)
+  pub part-next : (k b : ℕ) → k < n → from + k < 8 * length source → b ≡ bitOf source (from + k)
       → take k given ++ (b ∷ []) ≡ take (k + 1) given
-  copied-next k b h l e =
+  part-next k b h l e =
       let g : b ≡ getD given k 0 =
       e ∙ sym (getD-drop from (bitsOf source) k 0) ∙ sym (getD-take n (drop from (bitsOf source)) k 0 h) in
       ap (λ (x : ℕ). take k given ++ (x ∷ [])) g ∙ sym (take-suc given k 0 (omega (arith, given-length))) ∙ ap (λ (m : ℕ). take m given) (sym (add-one k))
 
-  pub copied-all : (k : ℕ) → k ≡ n → take k given ≡ given
-  copied-all k e = take-all k given (omega (arith, given-length))
+  pub part-all : (k : ℕ) → k ≡ n → take k given ≡ given
+  part-all k e = take-all k given (omega (arith, given-length))
 
-  pub copied-past : (k : ℕ) → 8 * length source ≤ from + k → take k given ≡ given
-  copied-past k h = take-all k given (omega (arith, given-length))
+  pub part-past : (k : ℕ) → 8 * length source ≤ from + k → take k given ≡ given
+  part-past k h = take-all k given (omega (arith, given-length))
 
 -- ---- what a loop that looks for a 1 has seen: bits of value 0
 

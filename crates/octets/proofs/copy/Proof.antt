@@ -8,7 +8,7 @@ use native.Mathlib.Nat.{mod-eq-of-lt}
 use native.Mathlib.Omega.{arith}
 use lib.ListN.{length, take}
 use Rattle.octets.specs.Bits.{bitsOf, part, laid}
-use Rattle.octets.proofs.Laws.{laid-none, laid-more, laid-length, bits-bits, bits-length, part-bits, copied-length, copied-next, copied-all, copied-past}
+use Rattle.octets.proofs.Laws.{laid-none, laid-more, laid-length, bits-bits, bits-length, part-bits, part-length, part-next, part-all, part-past}
 use Rattle.octets.proofs.copy.Statement.{statement}
 use Rattle.octets.proofs.copy.Tie as tie
 
@@ -32,7 +32,7 @@ returns c =
     let a = c .before .before .before .before .before .before .args in
     let l = c .before .before .before .loop in
     let h : length (bitsOf (a .source .now)) ≤ a .from + l .k = ltb-false _ _ (sym (c .before .has .ensures) ∙ not-true _ (c .if1 .taken)) in
-    l .inv .2 ∙ ap (laid (a .s .now) (a .at)) (copied-past (a .source .now) (a .from) (a .n) (l .k) (omega (arith, bits-length (a .source .now))))
+    l .inv .2 ∙ ap (laid (a .s .now) (a .at)) (part-past (a .source .now) (a .from) (a .n) (l .k) (omega (arith, bits-length (a .source .now))))
 
 bit-requires : tie.Need-bit-requires Inv-loop μ-loop
 bit-requires c κs = search needs
@@ -58,10 +58,10 @@ loop-again c =
     let i : a .from + l .k < 8 * length (a .source .now) = omega (arith, bits-length (a .source .now)) in
     let e : b .result % 2 ≡ b .result = mod-eq-of-lt (subst (λ (x : ℕ). x < 2) (sym (b .ensures)) (bits-bits (a .source .now) (a .from + l .k))) in (
       omega arith,
-      copied-length (a .source .now) (a .from) (a .n) (l .k + 1) (omega arith) (omega arith),
+      part-length (a .source .now) (a .from) (a .n) (l .k + 1) (omega arith) (omega arith),
       laid-more (a .s .now) (a .at) (take (l .k) (part (a .from) (a .n) S)) (l .k) (b .result) (part-bits (a .source .now) (a .from) (a .n) (l .k)) (l .inv .1) (l .inv .2)
           (q .ensures ∙ ap (λ (x : ℕ). laid (l .s) (a .at + l .k) (x ∷ [])) e)
-          ∙ ap (laid (a .s .now) (a .at)) (copied-next (a .source .now) (a .from) (a .n) (l .k) (b .result) (omega arith) i (b .ensures)),
+          ∙ ap (laid (a .s .now) (a .at)) (part-next (a .source .now) (a .from) (a .n) (l .k) (b .result) (omega arith) i (b .ensures)),
     )
 
 same-length-2 : tie.Need-same-length-2 Inv-loop μ-loop
@@ -71,7 +71,7 @@ returns-2 : tie.Need-returns-2 Inv-loop μ-loop
 returns-2 c =
     let a = c .before .before .before .before .args in
     let l = c .before .loop in
-    l .inv .2 ∙ ap (laid (a .s .now) (a .at)) (copied-all (a .source .now) (a .from) (a .n) (l .k) (omega arith))
+    l .inv .2 ∙ ap (laid (a .s .now) (a .at)) (part-all (a .source .now) (a .from) (a .n) (l .k) (omega arith))
 
 pub copy-spec : {M : Type 1} → statement M
 copy-spec =

@@ -1,0 +1,149 @@
+-- What a checking reader relies on: message and check bits together are a multiple of the generator exactly where the check bits are the
+-- message's remainder, and any one changed bit is seen, for every message length. Assumes nothing.
+use mathlib.Core.Path.{_≡_, refl, sym, ap, ap₂, _∙_, subst}
+use mathlib.Core.Bool.{Bool, true, false}
+use mathlib.Core.Logic.{_⊎_, inl, inr, _↔_}
+use mathlib.Core.List.{List, [], _∷_, _++_, reverse, reverse-append, reverse-cons, reverse-reverse}
+use Prim.Native.Nat.{ℕ, zero, suc, _+_, _-_, _*_, _/_, _%_, _^_, _≤_, _<_, zero-le, suc-le-suc}
+use native.Mathlib.Nat.{le-of-suc-le-suc, not-suc-le-zero, mod-eq-of-lt, pow-suc, mul-mod-left}
+use native.Mathlib.Omega.{arith}
+use lib.Bits.{bitXor, differ, xor-self, xor-zero-r, xor-zero-l, xor-block, xor-shifted}
+use lib.Pow.{pow-pos, pow-lt, pow-mono}
+use lib.ListN.{length, getD, set, length-append, length-set, length-reverse}
+use Rattle.octets.specs.Bits.{digitsOf, valueOf}
+use Rattle.octets.proofs.Digits.{Bits, value-append, value-lt, value-digits, reverse-bits, digits-length, append-bits}
+use Rattle.octets.proofs.Xor.{xor-assoc, odd, no-two}
+use Rattle.remainder.specs.Division.{scale, times, polynomial, checkBits, Degree, Remainder, Multiple, generator}
+use Rattle.remainder.specs.Errors.{flipped}
+use Rattle.remainder.proofs.Division.{add, distrib, multiple}
+
+-- ---- a message and what follows it
+
+pub polynomial-lt : (bs : List ℕ) → Bits bs → polynomial bs < 2 ^ length bs
+polynomial-lt bs h = subst (λ (n : ℕ). polynomial bs < 2 ^ n) (length-reverse bs) (value-lt (reverse bs) (reverse-bits bs h))
+
+pub polynomial-append : (m c : List ℕ) → Bits c → polynomial (m ++ c) ≡ bitXor (polynomial m * 2 ^ length c) (polynomial c)
+polynomial-append m c h =
+    ap valueOf (reverse-append m c) ∙ value-append (reverse c) (reverse m)
+    ∙ ap (λ (n : ℕ). polynomial m * 2 ^ n + polynomial c) (length-reverse c)
+    ∙ sym (xor-shifted (polynomial m) (length c) (polynomial c) (polynomial-lt c h))
+
+-- check bits as they stand, c1 first
+pub check-value : (k r : ℕ) → r < 2 ^ k → polynomial (checkBits k r) ≡ r
+check-value k r h = ap valueOf (reverse-reverse (digitsOf k r)) ∙ value-digits k r ∙ mod-eq-of-lt h
+
+-- twice the same adds nothing
+twice-same : (a b : ℕ) → bitXor (bitXor a b) b ≡ a
+twice-same a b = xor-assoc a b b ∙ ap (bitXor a) (xor-self b) ∙ xor-zero-r a
+
+-- message and check bits are a multiple of the generator exactly where the check bits are the remainder
+pub divisible : (k g : ℕ) (m c : List ℕ) → Bits c → length c ≡ k → Remainder k g m (polynomial c) ↔ Multiple g (polynomial (m ++ c))
+divisible k g m c h e = (to, from)
+  where
+    whole : polynomial (m ++ c) ≡ bitXor (polynomial m * 2 ^ k) (polynomial c)
+    whole = polynomial-append m c h ∙ ap (λ (n : ℕ). bitXor (polynomial m * 2 ^ n) (polynomial c)) e
+
+    to : Remainder k g m (polynomial c) → Multiple g (polynomial (m ++ c))
+    to d =
+        record {
+          quotient = d .quotient;
+          product = whole ∙ ap (λ (n : ℕ). bitXor n (polynomial c)) (d .divided) ∙ twice-same (times (d .quotient) g) (polynomial c);
+        }
+
+    from : Multiple g (polynomial (m ++ c)) → Remainder k g m (polynomial c)
+    from d =
+        record {
+          quotient = d .quotient;
+          divided = sym (twice-same (polynomial m * 2 ^ k) (polynomial c)) ∙ ap (λ (n : ℕ). bitXor n (polynomial c)) (sym whole ∙ d .product);
+          below = subst (λ (n : ℕ). polynomial c < 2 ^ n) e (polynomial-lt c h);
+        }
+
+-- ---- one bit turned over
+
+pub polynomial-cons : (x : ℕ) (bs : List ℕ) → polynomial (x ∷ bs) ≡ x * 2 ^ length bs + polynomial bs
+unfolding valueOf
+polynomial-cons x bs =
+    ap valueOf (reverse-cons x bs) ∙ value-append (reverse bs) (x ∷ [])
+    ∙ ap₂ (λ (n p : ℕ). n * 2 ^ p + polynomial bs) (omega arith) (length-reverse bs)
+
+-- it adds its power of D
+pub polynomial-flipped : (bs : List ℕ) (i : ℕ) → Bits bs → i < length bs → polynomial (flipped bs i) ≡ bitXor (polynomial bs) (2 ^ (length bs - 1 - i))
+polynomial-flipped [] i h l = absurd (not-suc-le-zero l)
+polynomial-flipped (x ∷ bs) zero h l =
+    let n = length bs in
+    let p : suc n - 1 - 0 ≡ n = omega arith in
+    let one : 1 * 2 ^ n + 0 ≡ 2 ^ n = omega arith in
+    polynomial-cons (1 - x) bs
+    ∙ ap₂ (λ (a b : ℕ). a * 2 ^ n + b) (sym (other x (h 0))) (sym (xor-zero-r (polynomial bs)))
+    ∙ sym (xor-block n x 1 (polynomial bs) 0 (polynomial-lt bs (λ j. h (suc j))) (pow-pos n))
+    ∙ ap₂ bitXor (sym (polynomial-cons x bs)) (one ∙ ap (λ (e : ℕ). 2 ^ e) (sym p))
+  where
+    other : (x : ℕ) → x < 2 → bitXor x 1 ≡ 1 - x
+    other zero h = refl
+    other (suc zero) h = refl
+    other (suc (suc x)) h = no-two x h
+polynomial-flipped (x ∷ bs) (suc i) h l =
+    let n = length bs in
+    let e = n - 1 - i in
+    let p : suc n - 1 - suc i ≡ e = omega arith in
+    let less : e < n = omega arith in
+    let none : 0 * 2 ^ n + 2 ^ e ≡ 2 ^ e = omega arith in
+    polynomial-cons x (flipped bs i)
+    ∙ ap₂ (λ (m b : ℕ). x * 2 ^ m + b) (length-set bs i (1 - getD bs i 0)) (polynomial-flipped bs i (λ j. h (suc j)) (le-of-suc-le-suc l))
+    ∙ ap (λ (a : ℕ). a * 2 ^ n + bitXor (polynomial bs) (2 ^ e)) (sym (xor-zero-r x))
+    ∙ sym (xor-block n x 0 (polynomial bs) (2 ^ e) (polynomial-lt bs (λ j. h (suc j))) (pow-lt less))
+    ∙ ap₂ bitXor (sym (polynomial-cons x bs)) (none ∙ ap (λ (a : ℕ). 2 ^ a) (sym p))
+
+-- the sum of two multiples is one
+pub sum-multiple : (g a b : ℕ) → Multiple g a → Multiple g b → Multiple g (bitXor a b)
+sum-multiple g a b p q =
+    record { quotient = add (p .quotient) (q .quotient); product = ap₂ bitXor (p .product) (q .product) ∙ distrib (p .quotient) (q .quotient) g }
+
+-- no power of D is a multiple of a generator with a constant term
+pub no-power : (k g : ℕ) → 1 ≤ k → Degree g k → g % 2 ≡ 1 → (e : ℕ) → Multiple g (2 ^ e) → ⊥
+unfolding times
+no-power k g hk d o e m = go (m .quotient) e (sym (m .product))
+  where
+    even : (n : ℕ) → n * 2 % 2 ≡ 0
+    even n = omega arith
+
+    go : (q : List Bool) (e : ℕ) → times q g ≡ 2 ^ e → ⊥
+    go [] e f = omega (arith, pow-pos e)
+    go (c ∷ q) zero f = pick (multiple k g d (c ∷ q))
+      where
+        pick : (times (c ∷ q) g ≡ 0) ⊎ (2 ^ k ≤ times (c ∷ q) g) → ⊥
+        pick (inl z) = omega arith
+        pick (inr l) = omega (arith, pow-mono hk)
+    go (true ∷ q) (suc e) f =
+        let x : bitXor (times q g * 2) g % 2 ≡ 1 = odd (times q g * 2) g ∙ ap₂ differ (even (times q g)) o in
+        let y : bitXor (times q g * 2) g % 2 ≡ 0 = ap (λ (n : ℕ). n % 2) (f ∙ pow-suc 2 e) ∙ even (2 ^ e) in
+        omega arith
+    go (false ∷ q) (suc e) f =
+        let x : times q g * 2 ≡ 2 ^ e * 2 = sym (xor-zero-r (times q g * 2)) ∙ f ∙ pow-suc 2 e in
+        go q e (omega arith)
+
+-- any one changed bit of message or check bits is seen
+pub one-flip : (k g : ℕ) → 1 ≤ k → Degree g k → g % 2 ≡ 1 → (w : List ℕ) (i : ℕ) → Bits w → i < length w
+    → Multiple g (polynomial w) → Multiple g (polynomial (flipped w i)) → ⊥
+one-flip k g hk d o w i h l p q =
+    let e = length w - 1 - i in
+    let P = polynomial w in
+    let only : bitXor P (polynomial (flipped w i)) ≡ 2 ^ e =
+    ap (bitXor P) (polynomial-flipped w i h l) ∙ sym (xor-assoc P P (2 ^ e)) ∙ ap (λ (n : ℕ). bitXor n (2 ^ e)) (xor-self P) ∙ xor-zero-l (2 ^ e) in
+    no-power k g hk d o e (subst (Multiple g) only (sum-multiple g P (polynomial (flipped w i)) p q))
+
+-- the same of a message m with check bits c that came to be m′ and c′
+pub one-flip-seen : (k g : ℕ) → 1 ≤ k → Degree g k → g % 2 ≡ 1 → (m c m′ c′ : List ℕ) → Bits m → Bits c → Bits c′ → length c ≡ k → length c′ ≡ k
+    → (i : ℕ) → i < length (m ++ c) → m′ ++ c′ ≡ flipped (m ++ c) i
+    → Remainder k g m (polynomial c) → Remainder k g m′ (polynomial c′) → ⊥
+one-flip-seen k g hk d o m c m′ c′ hm hc hc′ e e′ i l f a b =
+    one-flip k g hk d o (m ++ c) i (append-bits m c hm hc) l (divisible k g m c hc e .0 a)
+    (subst (λ (w : List ℕ). Multiple g (polynomial w)) f (divisible k g m′ c′ hc′ e′ .0 b))
+
+-- ---- the generator of document 01
+
+pub generator-degree : Degree generator 16
+generator-degree = record { reached = lib.Dec.lit≤ tt; within = lib.Dec.lit< tt }
+
+pub generator-odd : generator % 2 ≡ 1
+generator-odd = refl

@@ -1,0 +1,4 @@
+pub mod Division
+pub mod Register
+pub mod Errors
+pub mod Promises
