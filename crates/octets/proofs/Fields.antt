@@ -3,11 +3,11 @@ use mathlib.Core.Path.{_≡_, refl, sym, ap, ap₂, _∙_, subst}
 use mathlib.Core.List.{List, [], _∷_, _++_, append-assoc}
 use mathlib.Core.Logic.{_⊎_, inl, inr}
 use Prim.Native.Nat.{ℕ, zero, suc, _+_, _-_, _*_, _%_, _^_, _≤_, _<_, min}
-use native.Mathlib.Nat.{mod-eq-of-lt}
+use native.Mathlib.Nat.{mod-eq-of-lt, zero-add, suc-add}
 use native.Mathlib.Omega.{arith}
 use lib.IntN.{ℤ}
 use lib.ListN.{length, getD, take, drop, set, length-set, length-take, length-drop}
-use lib.Seq.{sets, sets-eq, length-sets, length-take-le, take-at, drop-at, getD-take, getD-drop, getD-set-other, ext-getD}
+use lib.Seq.{sets, sets-eq, length-sets, length-take-le, take-at, drop-at, drop-append-add, drop-append-le, take-append-le, take-take, take-nil, drop-drop, getD-take, getD-drop, getD-set-other, ext-getD}
 use lib.Signed.{mag}
 use Rattle.octets.specs.Bits.{digitsOf, valueOf, bitsOf, bitOf, part, laid}
 use Rattle.octets.specs.Signed.{signedOf, twosOf}
@@ -38,6 +38,33 @@ part-same l m at n e h =
 
     place : (x : List ℕ) (i : ℕ) → i < n → getD (part at n x) i 0 ≡ getD x (at + i) 0
     place x i b = getD-take n (drop at x) i 0 b ∙ getD-drop at x i 0
+
+-- a part that lies behind p
+pub part-behind : (p l : List ℕ) (at n k : ℕ) → length p + at ≡ k → part k n (p ++ l) ≡ part at n l
+part-behind p l at n k e = ap (λ (i : ℕ). part i n (p ++ l)) (sym e) ∙ ap (take n) (drop-append-add p l at)
+
+-- a part that lies before r
+pub part-before : (m r : List ℕ) (at n : ℕ) → at + n ≤ length m → part at n (m ++ r) ≡ part at n m
+part-before m r at n h =
+    ap (take n) (drop-append-le at m r (omega arith)) ∙ take-append-le n (drop at m) r (omega (arith, length-drop at m))
+
+drop-take : (i k : ℕ) (l : List ℕ) → drop i (take (i + k) l) ≡ take k (drop i l)
+drop-take zero k l = ap (λ (n : ℕ). take n l) (zero-add k)
+drop-take (suc i) k [] = ap (λ (n : ℕ). drop (suc i) (take n [])) (suc-add i k) ∙ sym (take-nil k)
+drop-take (suc i) k (x ∷ l) = ap (λ (n : ℕ). drop (suc i) (take n (x ∷ l))) (suc-add i k) ∙ drop-take i k l
+
+-- a part of a part
+pub part-part : (l : List ℕ) (at n p m k : ℕ) → at + n ≤ m → p + at ≡ k → part at n (part p m l) ≡ part k n l
+part-part l at n p m k h e =
+    let f : m ≡ at + (m - at) = omega arith in
+    ap (λ (i : ℕ). part at n (take i (drop p l))) f
+    ∙ ap (take n) (drop-take at (m - at) (drop p l))
+    ∙ take-take n (m - at) (drop at (drop p l)) (omega arith)
+    ∙ ap (take n) (drop-drop at p l ∙ ap (λ (i : ℕ). drop i l) e)
+
+-- the part that begins behind p and is x
+pub part-is : (p x r : List ℕ) (at n : ℕ) → length p ≡ at → length x ≡ n → part at n (p ++ (x ++ r)) ≡ x
+part-is p x r at n e f = ap (take n) (drop-at p (x ++ r) at e) ∙ take-at x r n f
 
 module _ (s : List ℕ) (at : ℕ) (bs : List ℕ) (ok : Bits bs) where
   -- every other bit stays

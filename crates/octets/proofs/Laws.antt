@@ -1,6 +1,6 @@
 -- Laws of bits in octets, of laying bits over them, and of reading what was laid. Assumes nothing.
 use mathlib.Core.Path.{_≡_, refl, sym, ap, ap₂, _∙_, subst}
-use mathlib.Core.List.{List, [], _∷_, _++_, append-assoc}
+use mathlib.Core.List.{List, [], _∷_, _++_, append-nil}
 use mathlib.Core.Bool.{true, false}
 use Prim.Native.Nat.{ℕ, zero, suc, _+_, _-_, _*_, _/_, _%_, _^_, _≤_, _<_, zero-le, suc-le-suc, min}
 use native.Mathlib.Nat.{le-of-suc-le-suc, not-suc-le-zero, mod-lt, zero-add, suc-add, add-zero, add-suc, suc-mul}
@@ -11,7 +11,7 @@ use borrow.Author.Tests.{lt-ltb, le-ltb, ltb-true, ltb-false}
 use lib.Dec.{ltb}
 use lib.Pow.{pow-pos, pow-mono, shl-exact}
 use lib.Bits.{bitAnd, bitXor, differ, and-mask, xor-lt}
-use lib.ListN.{length, getD, take, drop, set, length-append, List·getD-append, List·getD-eq-default, length-set, length-take, length-drop, take-append-drop}
+use lib.ListN.{length, getD, take, drop, set, length-append, List·getD-append, List·getD-eq-default, length-set, length-take, length-drop, take-append-drop, drop-of-length-le}
 use lib.Seq.{getD-append-add, set-append-left, set-out, getD-drop, getD-take, getD-set-same, getD-set-other, length-take-le, ext-getD, sets, length-sets, sets-eq, take-at, drop-at, take-suc, take-all}
 use Rattle.octets.specs.Bits.{digitsOf, valueOf, bitsOf, octetsOf, bitOf, part, laid}
 use Rattle.octets.proofs.Digits.{Bits, append-bits, take-bits, drop-bits, digits-length, digits-bits, digits-at, flip, digits-value, value-digits, value-next, value-grows}
@@ -184,11 +184,11 @@ sets-bits l i (b ∷ bs) h k = sets-bits (set l i b) (suc i) bs (one l i h) (λ 
     one (x ∷ l) (suc i) h zero = h 0
     one (x ∷ l) (suc i) h (suc j) = one l i (λ m. h (suc m)) j
 
-sets-more : (l : List ℕ) (i : ℕ) (bs : List ℕ) (b : ℕ) → sets l i (bs ++ (b ∷ [])) ≡ set (sets l i bs) (i + length bs) b
-sets-more l i [] b = ap (λ (n : ℕ). set l n b) (sym (add-zero i))
-sets-more l i (x ∷ bs) b =
-    sets-more (set l i x) (suc i) bs b
-    ∙ ap (λ (n : ℕ). set (sets (set l i x) (suc i) bs) n b) (suc-add i (length bs) ∙ sym (add-suc i (length bs)))
+sets-append : (l : List ℕ) (at : ℕ) (xs ys : List ℕ) → sets l at (xs ++ ys) ≡ sets (sets l at xs) (at + length xs) ys
+sets-append l at [] ys = ap (λ (n : ℕ). sets l n ys) (sym (add-zero at))
+sets-append l at (x ∷ xs) ys =
+    sets-append (set l at x) (suc at) xs ys
+    ∙ ap (λ (n : ℕ). sets (sets (set l at x) (suc at) xs) n ys) (suc-add at (length xs) ∙ sym (add-suc at (length xs)))
 
 pub laid-length : (s : List ℕ) (at : ℕ) (bs : List ℕ) → length (laid s at bs) ≡ length s
 unfolding laid
@@ -204,15 +204,33 @@ pub laid-none : (s : List ℕ) (at : ℕ) → Octets s → s ≡ laid s at []
 unfolding laid
 laid-none s at h = sym (octets-bits s h)
 
+-- bits laid behind bits
+pub laid-append : (s : List ℕ) (at : ℕ) (xs ys : List ℕ) → Bits xs → laid (laid s at xs) (at + length xs) ys ≡ laid s at (xs ++ ys)
+unfolding laid
+laid-append s at xs ys h =
+    ap₂ (λ (n : ℕ) (l : List ℕ). octetsOf n (sets l (at + length xs) ys)) (laid-length s at xs) (laid-bits s at xs h)
+    ∙ ap (octetsOf (length s)) (sym (sets-append (bitsOf s) at xs ys))
+
+-- the same of what stands so far: t is s with ys laid at place p, behind the xs laid from `at` on
+pub laid-next : (s₀ : List ℕ) (at : ℕ) (xs ys : List ℕ) {s t : List ℕ} (p : ℕ) → Bits xs → at + length xs ≡ p → s ≡ laid s₀ at xs → t ≡ laid s p ys
+    → t ≡ laid s₀ at (xs ++ ys)
+laid-next s₀ at xs ys {s} {t} p h l e f =
+    f ∙ ap₂ (λ (x : List ℕ) (n : ℕ). laid x n ys) e (sym l) ∙ laid-append s₀ at xs ys h
+
 -- one bit more, laid at the next place
 pub laid-more : (s₀ : List ℕ) (at : ℕ) (bs : List ℕ) (k b : ℕ) {s t : List ℕ} → Bits bs → length bs ≡ k → s ≡ laid s₀ at bs → t ≡ laid s (at + k) (b ∷ [])
     → t ≡ laid s₀ at (bs ++ (b ∷ []))
+laid-more s₀ at bs k b h l e f = laid-next s₀ at bs (b ∷ []) (at + k) h (ap (λ (n : ℕ). at + n) l) e f
+
+-- bits laid to the end: what stood before them, and they
+pub laid-end : (s : List ℕ) (at : ℕ) (bs : List ℕ) → at + length bs ≡ 8 * length s → laid s at bs ≡ octetsOf (length s) (take at (bitsOf s) ++ bs)
 unfolding laid
-laid-more s₀ at bs k b {s} {t} h l e f =
-    f ∙ ap (λ (x : List ℕ). octetsOf (length x) (set (bitsOf x) (at + k) b)) e
-    ∙ ap₂ (λ (n : ℕ) (x : List ℕ). octetsOf n (set x (at + k) b)) (laid-length s₀ at bs) (laid-bits s₀ at bs h)
-    ∙ ap (λ (n : ℕ). octetsOf (length s₀) (set (sets (bitsOf s₀) at bs) (at + n) b)) (sym l)
-    ∙ ap (octetsOf (length s₀)) (sym (sets-more (bitsOf s₀) at bs b))
+laid-end s at bs e =
+    let B = bitsOf s in
+    ap (octetsOf (length s))
+    (sets-eq bs B at (omega (arith, bits-length s))
+    ∙ ap (λ (l : List ℕ). take at B ++ bs ++ l) (drop-of-length-le B {i = at + length bs} (omega (arith, bits-length s)))
+    ∙ append-nil (take at B ++ bs))
 
 module _ (s : List ℕ) (at k b : ℕ) (o : Octets s) (hb : b < 2) where
   pub written : holder s at k < length s → set s (holder s at k) (changed s at k b) ≡ laid s (at + k) (b ∷ [])

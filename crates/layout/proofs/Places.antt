@@ -1,0 +1,29 @@
+-- The places of document 01's table, and that no two fields share a bit. Assumes nothing.
+use mathlib.Core.Path.{_≡_, refl, sym, ap, _∙_}
+use mathlib.Core.List.{List, [], _∷_}
+use Prim.Native.Nat.{ℕ, zero, suc, _+_, _≤_, _<_, zero-le}
+use native.Mathlib.Nat.{le-of-suc-le-suc, not-suc-le-zero}
+use native.Mathlib.Omega.{arith}
+use lib.ListN.{getD, take}
+use Rattle.layout.specs.Places.{widths, total, placeOf, sync, coefficients, wordA, wordB, vendor, reserved, check, pad}
+
+-- the first bit of each field, counted from 1, and the 4,227 bits of a frame without its pad
+pub table : (placeOf sync + 1 ≡ 1) × (placeOf coefficients + 1 ≡ 15) × (placeOf wordA + 1 ≡ 3975) × (placeOf wordB + 1 ≡ 3996)
+    × (placeOf vendor + 1 ≡ 4017) × (placeOf reserved + 1 ≡ 4145) × (placeOf check + 1 ≡ 4212) × (placeOf pad ≡ 4227)
+table = (refl, refl, refl, refl, refl, refl, refl, refl)
+
+total-next : (ws : List ℕ) (k : ℕ) → total (take (suc k) ws) ≡ total (take k ws) + getD ws k 0
+total-next [] zero = refl
+total-next [] (suc k) = refl
+total-next (w ∷ ws) zero = omega arith
+total-next (w ∷ ws) (suc k) = omega (arith, total-next ws k)
+
+total-grows : (ws : List ℕ) (i j : ℕ) → i ≤ j → total (take i ws) ≤ total (take j ws)
+total-grows ws zero j h = zero-le
+total-grows ws (suc i) zero h = absurd (not-suc-le-zero h)
+total-grows [] (suc i) (suc j) h = zero-le
+total-grows (w ∷ ws) (suc i) (suc j) h = omega (arith, total-grows ws i j (le-of-suc-le-suc h))
+
+-- a field ends before each later one begins
+pub apart : (i j : ℕ) → i < j → placeOf i + getD widths i 0 ≤ placeOf j
+apart i j h = omega (arith, total-next widths i, total-grows widths (suc i) j h)

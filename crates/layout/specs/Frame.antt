@@ -1,0 +1,60 @@
+-- The activation frame as bits (document 01, "The activation frame"; 000, clause 4.1.3).
+use mathlib.Core.List.{List, [], _∷_, _++_}
+use Prim.Native.Nat.{ℕ, zero, suc, _+_, _-_, _*_}
+use lib.IntN.{ℤ, pos}
+use lib.ListN.{getD, take, replicate}
+use Rattle.octets.specs.Bits.{digitsOf, valueOf, bitsOf, octetsOf, part}
+use Rattle.octets.specs.Signed.{signedOf, twosOf}
+use Rattle.remainder.specs.Division.{checkBits, generator}
+use Rattle.remainder.specs.Register.{registerOf}
+use Rattle.layout.specs.Places.{widths, placeOf}
+
+-- sync is 11111001101011 in a training frame, left bit first
+unfoldable pub trainingSync : List ℕ
+trainingSync = 1 ∷ 1 ∷ 1 ∷ 1 ∷ 1 ∷ 0 ∷ 0 ∷ 1 ∷ 1 ∷ 0 ∷ 1 ∷ 0 ∷ 1 ∷ 1 ∷ []
+
+-- and 11010110011111 in a final frame
+unfoldable pub finalSync : List ℕ
+finalSync = 1 ∷ 1 ∷ 0 ∷ 1 ∷ 0 ∷ 1 ∷ 1 ∷ 0 ∷ 0 ∷ 1 ∷ 1 ∷ 1 ∷ 1 ∷ 1 ∷ []
+
+-- coefficients one after the other, each 22 bits in two's complement, least bit first
+unfoldable pub coefficientBits : List ℤ → List ℕ
+coefficientBits [] = []
+coefficientBits (c ∷ cs) = digitsOf 22 (twosOf 22 c) ++ coefficientBits cs
+
+-- the first count coefficients, and zero for the rest of the 180
+abbrev pub used : ℕ → List ℤ → List ℤ
+used count cs = take count cs ++ replicate (180 - count) (pos 0)
+
+-- bits 15 to 4211, over which the check bits run: coefficients, A with a0 first, B with b0 first, vendor data, reserved
+unfoldable pub message : List ℤ → ℕ → ℕ → List ℕ → List ℕ → List ℕ
+message cs a b vendor reserved = coefficientBits cs ++ (digitsOf 21 a ++ (digitsOf 21 b ++ (bitsOf vendor ++ reserved)))
+
+-- the remainder of a message by the generator, as a number (remainder's theorem `computed`: the one of the division)
+abbrev pub checkOf : List ℕ → ℕ
+checkOf m = registerOf 16 generator 0 m
+
+-- a frame's 4,232 bits: sync, the message, its check bits c1 to c16, five pad bits that are zero
+unfoldable pub frameBits : List ℕ → List ℕ → List ℕ
+frameBits sync m = sync ++ (m ++ (checkBits 16 (checkOf m) ++ replicate 5 0))
+
+-- a training frame: the coefficients in use, A, B and vendor data; the reserved bits are zero
+unfoldable pub trainingBits : ℕ → List ℤ → ℕ → ℕ → List ℕ → List ℕ
+trainingBits count cs a b vendor = frameBits trainingSync (message (used count cs) a b vendor (replicate 67 0))
+
+-- a final frame: vendor data only, zero in the other payload fields
+unfoldable pub finalBits : List ℕ → List ℕ
+finalBits vendor = frameBits finalSync (message (replicate 180 (pos 0)) 0 0 vendor (replicate 67 0))
+
+-- field number k of a frame's bits
+abbrev pub fieldOf : ℕ → List ℕ → List ℕ
+fieldOf k bits = part (placeOf k) (getD widths k 0) bits
+
+-- bits 15 to 4211 of a frame's bits
+abbrev pub messageOf : List ℕ → List ℕ
+messageOf bits = part 14 4197 bits
+
+-- n coefficients read from bits, 22 each
+unfoldable pub coefficientsIn : ℕ → List ℕ → List ℤ
+coefficientsIn zero bits = []
+coefficientsIn (suc n) bits = signedOf 22 (valueOf (take 22 bits)) ∷ coefficientsIn n (lib.ListN.drop 22 bits)

@@ -1,0 +1,42 @@
+-- Where the fields of an activation frame stand (000, clause 4.1.3): each behind those before it.
+use mathlib.Core.List.{List, [], _∷_}
+use Prim.Native.Nat.{ℕ, _+_, _*_}
+use lib.ListN.{take}
+
+-- the widths: sync, 180 coefficients of 22 bits, A, B, vendor data, reserved, check bits, pad
+abbrev pub widths : List ℕ
+widths = 14 ∷ 180 * 22 ∷ 21 ∷ 21 ∷ 128 ∷ 67 ∷ 16 ∷ 5 ∷ []
+
+-- widths added up
+abbrev pub total : List ℕ → ℕ
+total [] = 0
+total (w ∷ ws) = w + total ws
+
+-- the place of field number k, from 0: the widths before it. Bit n of the paper stands at place n - 1
+abbrev pub placeOf : ℕ → ℕ
+placeOf k = total (take k widths)
+
+-- the fields' numbers, in their order
+abbrev pub sync : ℕ
+sync = 0
+
+abbrev pub coefficients : ℕ
+coefficients = 1
+
+abbrev pub wordA : ℕ
+wordA = 2
+
+abbrev pub wordB : ℕ
+wordB = 3
+
+abbrev pub vendor : ℕ
+vendor = 4
+
+abbrev pub reserved : ℕ
+reserved = 5
+
+abbrev pub check : ℕ
+check = 6
+
+abbrev pub pad : ℕ
+pad = 7

@@ -1,0 +1,63 @@
+// The activation frame's measures (document 01, "The activation frame"). What they mean is in specs/; a field's place follows from the
+// widths before it.
+
+// A frame's octets.
+pub const FRAME_OCTETS: usize = 529;
+
+// Coefficients in a frame, and the bits of one.
+pub const COEFFICIENTS: usize = 180;
+
+pub const COEFFICIENT_BITS: u32 = 22;
+
+// The bits of sync, of A or B, of vendor data, of the reserved field, of the check bits and of the pad.
+pub const SYNC_BITS: u32 = 14;
+
+pub const WORD_BITS: u32 = 21;
+
+pub const VENDOR_BITS: u32 = 128;
+
+pub const RESERVED_BITS: u32 = 67;
+
+pub const CHECK_BITS: u32 = 16;
+
+pub const PAD_BITS: u32 = 5;
+
+// Vendor data's octets.
+pub const VENDOR_OCTETS: usize = 16;
+
+// The fields' places, from 0.
+pub const COEFFICIENTS_AT: usize = 14;
+
+pub const A_AT: usize = COEFFICIENTS_AT + 180 * 22;
+
+pub const B_AT: usize = A_AT + 21;
+
+pub const VENDOR_AT: usize = B_AT + 21;
+
+pub const RESERVED_AT: usize = VENDOR_AT + 128;
+
+pub const CHECK_AT: usize = RESERVED_AT + 67;
+
+pub const PAD_AT: usize = CHECK_AT + 16;
+
+// The bits under the check bits: 15 to 4211 of the paper.
+pub const MESSAGE_BITS: u32 = 4197;
+
+// The two sync words, the first bit lowest.
+pub const TRAINING_SYNC: u32 = 0x359f;
+
+pub const FINAL_SYNC: u32 = 0x3e6b;
+
+// The two kinds.
+pub const TRAINING: u32 = 0;
+
+pub const FINAL: u32 = 1;
+
+// The least and the largest coefficient, the largest A or B, the fewest coefficients in use.
+pub const LEAST_COEFFICIENT: i32 = -2097152;
+
+pub const LARGEST_COEFFICIENT: i32 = 2097151;
+
+pub const LARGEST_WORD: u32 = 2097151;
+
+pub const FEWEST: u32 = 128;

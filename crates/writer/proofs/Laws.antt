@@ -1,0 +1,243 @@
+-- Laws of writing a frame, field behind field. Assumes nothing.
+use mathlib.Core.Path.{_≡_, refl, sym, ap, ap₂, _∙_, subst}
+use mathlib.Core.Bool.{Bool, true, false, _&&_}
+use mathlib.Core.List.{List, [], _∷_, _++_, append-assoc, reverse}
+use Prim.Native.Nat.{ℕ, zero, suc, _+_, _-_, _*_, _^_, _≤_, _<_}
+use native.Mathlib.Nat.{le-of-suc-le-suc, not-suc-le-zero}
+use native.Mathlib.Numerals.{add-one}
+use native.Mathlib.Omega.{arith}
+use borrow.Author.Tests.{ltb-true, ltb-false, lt-leb, le-leb}
+use lib.Dec.{lit≤}
+use lib.IntN.{ℤ, pos, negsuc}
+use lib.ListN.{length, getD, take, drop, replicate, length-append, length-drop, length-replicate, replicate-append-replicate, List·getD-append, getD-replicate}
+use lib.Seq.{getD-take, getD-append-add, length-take-le, sets-eq, take-at, take-suc, take-all, take-add}
+use lib.Signed.{ltZ, leZ}
+use Rattle.octets.specs.Bits.{digitsOf, valueOf, bitsOf, octetsOf, part, laid}
+use Rattle.octets.specs.Signed.{twosOf}
+use Rattle.octets.proofs.Digits.{Bits, append-bits, digits-length, digits-bits, zeros-bits, take-bits, drop-bits}
+use Rattle.octets.proofs.Laws.{bits-length, bits-bits, laid-length, laid-bits, laid-next, laid-end}
+use Rattle.octets.proofs.Fields.{reads-back, part-stays, part-before, part-behind, part-is}
+use Rattle.remainder.specs.Division.{checkBits, generator}
+use Rattle.remainder.specs.Promises.{CheckBits}
+use Rattle.remainder.proofs.Division.{computed}
+use Rattle.remainder.proofs.Errors.{generator-degree}
+use Rattle.layout.specs.Frame.{trainingSync, finalSync, coefficientBits, used, message, checkOf, frameBits, trainingBits, finalBits}
+use Rattle.layout.specs.Refusals.{inRange, allInRange}
+use Rattle.layout.proofs.Laws.{coefficient-length, coefficient-bits, coefficient-append, coefficient-one, used-length, tail-length, tail-bits, check-put, check-length, check-bits, training-digits, final-digits, training-length, final-length, training-bits, final-bits}
+
+-- ---- ranges
+
+pub range-under : (c : ℤ) → ltZ c (negsuc 2097151) ≡ true → false ≡ inRange c
+unfolding inRange
+range-under (pos n) e = absurd (mathlib.Core.Bool.true≢false (sym e))
+range-under (negsuc n) e = sym (lt-leb n 2097151 (ltb-true 2097151 n e))
+
+pub range-over : (c : ℤ) → ltZ c (negsuc 2097151) ≡ false → leZ c (pos 2097151) ≡ inRange c
+unfolding inRange
+range-over (pos n) e = refl
+range-over (negsuc n) e = sym (le-leb n 2097151 (ltb-false 2097151 n e))
+
+all-append : (cs ds : List ℤ) → allInRange (cs ++ ds) ≡ (allInRange cs && allInRange ds)
+unfolding allInRange
+all-append [] ds = refl
+all-append (c ∷ cs) ds = pick (inRange c) (all-append cs ds)
+  where
+    pick : (t : Bool) → allInRange (cs ++ ds) ≡ (allInRange cs && allInRange ds) → (t && allInRange (cs ++ ds)) ≡ (t && allInRange cs && allInRange ds)
+    pick true e = e
+    pick false e = refl
+
+-- one coefficient more
+all-more : (cs : List ℤ) (k : ℕ) → k < length cs → allInRange (take (suc k) cs) ≡ (allInRange (take k cs) && inRange (getD cs k (pos 0)))
+unfolding allInRange
+all-more cs k h =
+    let c = getD cs k (pos 0) in
+    ap allInRange (take-suc cs k (pos 0) h) ∙ all-append (take k cs) (c ∷ []) ∙ ap (λ (t : Bool). allInRange (take k cs) && t) (and-true (inRange c))
+  where
+    and-true : (t : Bool) → (t && true) ≡ t
+    and-true true = refl
+    and-true false = refl
+
+module _ (cs : List ℤ) (k : ℕ) (h : k < length cs) where
+  pub all-next : allInRange (take k cs) ≡ true → inRange (getD cs k (pos 0)) ≡ true → allInRange (take (k + 1) cs) ≡ true
+  all-next a b = ap (λ (n : ℕ). allInRange (take n cs)) (add-one k) ∙ all-more cs k h ∙ ap₂ _&&_ a b
+
+  pub all-not : (n : ℕ) → k < n → allInRange (take k cs) ≡ true → inRange (getD cs k (pos 0)) ≡ false → allInRange (take n cs) ≡ false
+  all-not n l a b =
+      let e : n ≡ suc k + (n - suc k) = omega arith in
+      ap (λ (m : ℕ). allInRange (take m cs)) e
+      ∙ ap allInRange (take-add (suc k) (n - suc k) cs)
+      ∙ all-append (take (suc k) cs) (take (n - suc k) (drop (suc k) cs))
+      ∙ ap (λ (t : Bool). t && allInRange (take (n - suc k) (drop (suc k) cs))) (all-more cs k h ∙ ap₂ _&&_ a b)
+
+-- ---- the coefficients in use
+
+module _ (count : ℕ) (cs : List ℤ) (n : count ≤ 180) (l : length cs ≡ 180) where
+  head-length : length (take count cs) ≡ count
+  head-length = length-take-le count cs (omega arith)
+
+  pub used-at : (k : ℕ) → k < count → getD cs k (pos 0) ≡ getD (used count cs) k (pos 0)
+  used-at k h =
+      sym (List·getD-append (take count cs) (replicate (180 - count) (pos 0)) (pos 0) k (omega (arith, head-length)) ∙ getD-take count cs k (pos 0) h)
+
+  pub unused-at : (k : ℕ) → count ≤ k → k < 180 → pos 0 ≡ getD (used count cs) k (pos 0)
+  unused-at k h m =
+      let e : k ≡ length (take count cs) + (k - count) = omega (arith, head-length) in
+      sym (ap (λ (i : ℕ). getD (used count cs) i (pos 0)) e
+      ∙ getD-append-add (take count cs) (replicate (180 - count) (pos 0)) (k - count) (pos 0)
+      ∙ getD-replicate (180 - count) (k - count) (pos 0) (pos 0) (omega arith))
+
+-- ---- field behind field
+
+pub coefficients-none : [] ≡ coefficientBits []
+unfolding coefficientBits
+coefficients-none = refl
+
+-- one coefficient more
+module _ (f₀ : List ℕ) (us : List ℤ) (k : ℕ) (h : k < length us) where
+  pub coefficient-next : {f t : List ℕ} → f ≡ laid f₀ 14 (coefficientBits (take k us)) → t ≡ laid f (14 + 22 * k) (digitsOf 22 (twosOf 22 (getD us k (pos 0))))
+      → t ≡ laid f₀ 14 (coefficientBits (take (k + 1) us))
+  coefficient-next e g =
+      let c = getD us k (pos 0) in
+      let L = coefficientBits (take k us) in
+      let n : 14 + length L ≡ 14 + 22 * k = omega (arith, coefficient-length (take k us), length-take-le k us (omega arith)) in
+      laid-next f₀ 14 L (digitsOf 22 (twosOf 22 c)) (14 + 22 * k) (coefficient-bits (take k us)) n e g
+      ∙ ap (laid f₀ 14)
+      (ap (λ (l : List ℕ). L ++ l) (sym (coefficient-one c))
+      ∙ sym (coefficient-append (take k us) (c ∷ []))
+      ∙ ap coefficientBits (sym (take-suc us k (pos 0) h) ∙ ap (λ (i : ℕ). take i us) (sym (add-one k))))
+
+-- what `finish` puts behind sync and coefficients
+module _ (s v : List ℕ) (a b : ℕ) (l : length s ≡ 529) (lv : length v ≡ 16) where
+  abbrev B : List ℕ
+  B = bitsOf s
+
+  abbrev T : List ℕ
+  T = digitsOf 21 a ++ (digitsOf 21 b ++ (bitsOf v ++ replicate 67 0))
+
+  B-length : length B ≡ 4232
+  B-length = bits-length s ∙ ap (λ (n : ℕ). 8 * n) l
+
+  T-length : length T ≡ 237
+  T-length = tail-length a b v (replicate 67 0) lv refl
+
+  T-bits : Bits T
+  T-bits = tail-bits a b v (replicate 67 0) (zeros-bits 67)
+
+  -- the four fields under the check bits
+  pub four : (s₁ s₂ s₃ s₄ : List ℕ) → s₁ ≡ laid s 3974 (digitsOf 21 a) → s₂ ≡ laid s₁ 3995 (digitsOf 21 b)
+      → s₃ ≡ laid s₂ 4016 (part 0 128 (bitsOf v)) → s₄ ≡ laid s₃ 4144 (replicate 67 0) → s₄ ≡ laid s 3974 T
+  four s₁ s₂ s₃ s₄ e₁ e₂ e₃ e₄ =
+      let Da = digitsOf 21 a in
+      let Db = digitsOf 21 b in
+      let Vb = bitsOf v in
+      let all : part 0 128 Vb ≡ Vb = take-all 128 Vb (omega (arith, bits-length v)) in
+      let n₁ : 3974 + length Da ≡ 3995 = omega (arith, digits-length 21 a) in
+      let n₂ : 3974 + length (Da ++ Db) ≡ 4016 = omega (arith, length-append Da Db, digits-length 21 a, digits-length 21 b) in
+      let n₃ : 3974 + length (Da ++ Db ++ Vb) ≡ 4144 = omega (arith, length-append (Da ++ Db) Vb, n₂, bits-length v) in
+      let b₂ = append-bits Da Db (digits-bits 21 a) (digits-bits 21 b) in
+      let f₂ = laid-next s 3974 Da Db 3995 (digits-bits 21 a) n₁ e₁ e₂ in
+      let f₃ = laid-next s 3974 (Da ++ Db) Vb 4016 b₂ n₂ f₂ (e₃ ∙ ap (laid s₂ 4016) all) in
+      laid-next s 3974 (Da ++ Db ++ Vb) (replicate 67 0) 4144 (append-bits (Da ++ Db) Vb b₂ (bits-bits v)) n₃ f₃ e₄
+      ∙ ap (laid s 3974) (append-assoc (Da ++ Db) Vb (replicate 67 0) ∙ append-assoc Da Db (Vb ++ replicate 67 0))
+
+  -- sync and coefficients as they stand
+  abbrev S : List ℕ
+  S = part 0 14 B
+
+  abbrev C : List ℕ
+  C = part 14 3960 B
+
+  S-length : length S ≡ 14
+  S-length = length-take-le 14 B (omega (arith, B-length))
+
+  C-length : length C ≡ 3960
+  C-length = length-take-le 3960 (drop 14 B) (omega (arith, length-drop 14 B, B-length))
+
+  front : take 3974 B ≡ S ++ C
+  front = take-add 14 3960 B
+
+  CT-length : length (C ++ T) ≡ 4197
+  CT-length = length-append C T ∙ ap₂ _+_ C-length T-length
+
+  CT-bits : Bits (C ++ T)
+  CT-bits = append-bits C T (take-bits 3960 (drop 14 B) (drop-bits 14 B (bits-bits s))) T-bits
+
+  -- the bits that the check bits run over
+  pub under-check : (s₄ : List ℕ) → s₄ ≡ laid s 3974 T → part 14 4197 (bitsOf s₄) ≡ C ++ T
+  under-check s₄ e =
+      let R = drop (3974 + length T) B in
+      ap (part 14 4197)
+      (ap bitsOf e ∙ laid-bits s 3974 T T-bits ∙ sets-eq T B 3974 (omega (arith, B-length, T-length))
+      ∙ ap (λ (l : List ℕ). l ++ T ++ R) front ∙ ap (λ (l : List ℕ). l ++ R) (append-assoc S C T) ∙ append-assoc S (C ++ T) R)
+      ∙ part-is S (C ++ T) R 14 4197 S-length CT-length
+
+  -- all of it
+  pub finished : (s₄ s₅ s₆ : List ℕ) (r c : ℕ) → s₄ ≡ laid s 3974 T → CheckBits s₄ 14 4197 r → c ≡ valueOf (reverse (digitsOf 16 r))
+      → s₅ ≡ laid s₄ 4211 (digitsOf 16 c) → s₆ ≡ laid s₅ 4227 (replicate 5 0) → s₆ ≡ octetsOf 529 (frameBits S (C ++ T))
+  unfolding frameBits
+  finished s₄ s₅ s₆ r c e₄ d t e₅ e₆ =
+      let K = checkBits 16 (checkOf (C ++ T)) in
+      let Z : List ℕ = replicate 5 0 in
+      let m = under-check s₄ e₄ in
+      let r-is : r ≡ checkOf (C ++ T) =
+      computed 16 generator (lit≤ tt) generator-degree (part 14 4197 (bitsOf s₄)) r (subst Bits (sym m) CT-bits) d ∙ ap checkOf m in
+      let put : digitsOf 16 c ≡ K = ap (digitsOf 16) t ∙ check-put r ∙ ap (checkBits 16) r-is in
+      let n₅ : 3974 + length T ≡ 4211 = omega (arith, T-length) in
+      let n₆ : 3974 + length (T ++ K) ≡ 4227 = omega (arith, length-append T K, T-length, check-length 16 (checkOf (C ++ T))) in
+      let f₅ = laid-next s 3974 T K 4211 T-bits n₅ e₄ (e₅ ∙ ap (laid s₄ 4211) put) in
+      let f₆ = laid-next s 3974 (T ++ K) Z 4227 (append-bits T K T-bits (check-bits 16 (checkOf (C ++ T)))) n₆ f₅ e₆ in
+      let n : 3974 + length (T ++ K ++ Z) ≡ 8 * length s = omega (arith, length-append (T ++ K) Z, n₆, l) in
+      f₆ ∙ laid-end s 3974 (T ++ K ++ Z) n
+      ∙ ap₂ octetsOf l
+      (ap₂ _++_ front (append-assoc T K Z) ∙ append-assoc S C (T ++ (K ++ Z)) ∙ ap (λ (x : List ℕ). S ++ x) (sym (append-assoc C T (K ++ Z))))
+
+-- ---- the two frames
+
+-- sync, then 3,960 bits, then what `finish` puts
+module _ (f v word X : List ℕ) (a b : ℕ) (lf : length f ≡ 529) (lw : length word ≡ 14) (lx : length X ≡ 3960) (bw : Bits word) (bx : Bits X) where
+  parts-put : (s : List ℕ) → s ≡ laid f 0 (word ++ X) → (part 0 14 (bitsOf s) ≡ word) × (part 14 3960 (bitsOf s) ≡ X)
+  parts-put s e =
+      let W = word ++ X in
+      let R = drop (0 + length W) (bitsOf f) in
+      let n : length W ≡ 3974 = length-append word X ∙ ap₂ _+_ lw lx in
+      let c : bitsOf s ≡ word ++ (X ++ R) =
+      ap bitsOf e ∙ laid-bits f 0 W (append-bits word X bw bx) ∙ sets-eq W (bitsOf f) 0 (omega (arith, bits-length f)) ∙ append-assoc word X R in
+      (ap (part 0 14) c ∙ take-at word (X ++ R) 14 lw, ap (part 14 3960) c ∙ part-is word X R 14 3960 lw lx)
+
+  pub put : (s₁ s₂ t : List ℕ) → s₁ ≡ laid f 0 word → s₂ ≡ laid s₁ 14 X
+      → t ≡ octetsOf 529 (frameBits (part 0 14 (bitsOf s₂)) (part 14 3960 (bitsOf s₂) ++ (digitsOf 21 a ++ (digitsOf 21 b ++ (bitsOf v ++ replicate 67 0)))))
+      → t ≡ octetsOf 529 (frameBits word (X ++ (digitsOf 21 a ++ (digitsOf 21 b ++ (bitsOf v ++ replicate 67 0)))))
+  put s₁ s₂ t e₁ e₂ e =
+      let n : 0 + length word ≡ 14 = omega arith in
+      let p = parts-put s₂ (laid-next f 0 word X 14 bw n e₁ e₂) in
+      e ∙ ap₂ (λ (x y : List ℕ). octetsOf 529 (frameBits x (y ++ (digitsOf 21 a ++ (digitsOf 21 b ++ (bitsOf v ++ replicate 67 0)))))) (p .0) (p .1)
+
+zeros-length : (n : ℕ) → length (replicate {A = ℕ} n 0) ≡ n
+zeros-length n = length-replicate n zero
+
+-- coefficients that are zero
+pub zero-coefficients : (n : ℕ) → coefficientBits (replicate n (pos 0)) ≡ replicate (22 * n) 0
+unfolding coefficientBits digitsOf twosOf
+zero-coefficients zero = refl
+zero-coefficients (suc n) =
+    let e : 22 + 22 * n ≡ 22 * suc n = omega arith in
+    ap (λ (l : List ℕ). replicate 22 0 ++ l) (zero-coefficients n) ∙ replicate-append-replicate 22 (22 * n) 0 ∙ ap (λ (k : ℕ). replicate k 0) e
+
+module _ (f v : List ℕ) (lf : length f ≡ 529) (s₁ s₂ t : List ℕ) where
+  pub training-put : (count : ℕ) (cs : List ℤ) (a b : ℕ) → count ≤ 180 → length cs ≡ 180
+      → s₁ ≡ laid f 0 (digitsOf 14 0x359f) → s₂ ≡ laid s₁ 14 (coefficientBits (used count cs))
+      → t ≡ octetsOf 529 (frameBits (part 0 14 (bitsOf s₂)) (part 14 3960 (bitsOf s₂) ++ (digitsOf 21 a ++ (digitsOf 21 b ++ (bitsOf v ++ replicate 67 0)))))
+      → t ≡ octetsOf 529 (trainingBits count cs a b v)
+  unfolding trainingBits message
+  training-put count cs a b h l e₁ e₂ e =
+      let U = used count cs in
+      put f v trainingSync (coefficientBits U) a b lf training-length (coefficient-length U ∙ ap (λ (n : ℕ). 22 * n) (used-length count cs h l)) training-bits
+      (coefficient-bits U) s₁ s₂ t (e₁ ∙ ap (laid f 0) training-digits) e₂ e
+
+  pub final-put : s₁ ≡ laid f 0 (digitsOf 14 0x3e6b) → s₂ ≡ laid s₁ 14 (replicate 3960 0)
+      → t ≡ octetsOf 529 (frameBits (part 0 14 (bitsOf s₂)) (part 14 3960 (bitsOf s₂) ++ (digitsOf 21 0 ++ (digitsOf 21 0 ++ (bitsOf v ++ replicate 67 0)))))
+      → t ≡ octetsOf 529 (finalBits v)
+  unfolding finalBits message
+  final-put e₁ e₂ e =
+      put f v finalSync (replicate 3960 0) 0 0 lf final-length (zeros-length 3960) final-bits (zeros-bits 3960) s₁ s₂ t (e₁ ∙ ap (laid f 0) final-digits) e₂ e
+      ∙ ap (λ (x : List ℕ). octetsOf 529 (frameBits finalSync (x ++ (digitsOf 21 0 ++ (digitsOf 21 0 ++ (bitsOf v ++ replicate 67 0)))))) (sym (zero-coefficients 180))

@@ -1,0 +1,160 @@
+// Writing an activation frame (document 01, "The activation frame").
+ghost use mathlib.Core.Path.{_≡_};
+ghost use mathlib.Core.Bool.{true};
+ghost use mathlib.Core.List.{_++_};
+ghost use Prim.Native.Nat.{_<_, _≤_};
+ghost use lib.IntN.{pos};
+ghost use lib.ListN.{length, getD, take, replicate};
+ghost use Rattle.octets.specs.Bits.{digitsOf, bitsOf, octetsOf, part, laid};
+ghost use Rattle.layout.specs.Frame.{coefficientBits, used, frameBits, trainingBits, finalBits};
+ghost use Rattle.layout.specs.Refusals.{inRange, allInRange};
+ghost use Rattle.writer.specs.Promises.{Written};
+
+// Whether a coefficient is in its range.
+fn in_range(c: i32) -> bool
+    ensures { λ r. ⌜ r ≡ inRange c ⌝ }
+{
+    if c < layout::LEAST_COEFFICIENT {
+        return false;
+    }
+    c <= layout::LARGEST_COEFFICIENT
+}
+
+// Whether the first n coefficients are.
+fn all_in_range(coefficients: &[i32], n: usize) -> bool
+    requires { ⌜ n ≤ length (now coefficients) ⌝ }
+    ensures { λ r. ⌜ r ≡ allInRange (take n (now (coefficients .entry))) ⌝ }
+{
+    let mut k = 0;
+    while k < n {
+        if !in_range(coefficients[k]) {
+            return false;
+        }
+        k += 1;
+    }
+    true
+}
+
+// The coefficient at index k as it is written: zero behind the first `count`.
+fn coefficient(coefficients: &[i32], count: usize, k: usize) -> i32
+    requires { ⌜ (length (now coefficients) ≡ 180) × (count ≤ 180) × (k < 180) ⌝ }
+    ensures { λ r. ⌜ r ≡ getD (used count (now (coefficients .entry))) k (pos 0) ⌝ }
+{
+    if k < count { coefficients[k] } else { 0 }
+}
+
+// All 180 coefficients' fields, behind sync.
+fn put_coefficients(frame: &mut [u8], coefficients: &[i32], count: usize)
+    requires { ⌜ (length (now coefficients) ≡ 180) × (count ≤ 180) ⌝ }
+    ensures { λ r. ⌜ now (frame .exit) ≡ laid (now (frame .entry)) 14 (coefficientBits (used count (now (coefficients .entry)))) ⌝ }
+{
+    let mut k = 0;
+    while k < layout::COEFFICIENTS {
+        let c = coefficient(coefficients, count, k);
+        octets::put_signed_field(
+            frame,
+            layout::COEFFICIENTS_AT + 22 * k,
+            layout::COEFFICIENT_BITS,
+            c,
+        );
+        k += 1;
+    }
+}
+
+// Behind sync and coefficients, which stand already: A, B, vendor data, reserved, check bits, pad.
+fn finish(frame: &mut [u8], a: u32, b: u32, vendor: &[u8])
+    requires { ⌜ (length (now frame) ≡ 529) × (length (now vendor) ≡ 16) ⌝ }
+    ensures { λ r. ⌜ now (frame .exit) ≡ octetsOf 529 (frameBits (part 0 14 (bitsOf (now (frame .entry)))) (part 14 3960 (bitsOf (now (frame .entry))) ++ (digitsOf 21 a ++ (digitsOf 21 b ++ (bitsOf (now (vendor .entry)) ++ replicate 67 0))))) ⌝ }
+{
+    octets::put_field(frame, layout::A_AT, layout::WORD_BITS, a);
+    octets::put_field(frame, layout::B_AT, layout::WORD_BITS, b);
+    octets::copy(frame, layout::VENDOR_AT, vendor, 0, layout::VENDOR_BITS);
+    octets::clear(frame, layout::RESERVED_AT, layout::RESERVED_BITS);
+    let r = remainder::check_bits(frame, layout::COEFFICIENTS_AT, layout::MESSAGE_BITS);
+    let c = octets::turned(layout::CHECK_BITS, r);
+    octets::put_field(frame, layout::CHECK_AT, layout::CHECK_BITS, c);
+    octets::clear(frame, layout::PAD_AT, layout::PAD_BITS);
+}
+
+// A training frame.
+fn put_training(frame: &mut [u8], coefficients: &[i32], count: usize, a: u32, b: u32, vendor: &[u8])
+    requires { ⌜ (length (now frame) ≡ 529) × (length (now coefficients) ≡ 180) × (count ≤ 180) × (length (now vendor) ≡ 16) ⌝ }
+    ensures { λ r. ⌜ now (frame .exit) ≡ octetsOf 529 (trainingBits count (now (coefficients .entry)) a b (now (vendor .entry))) ⌝ }
+{
+    octets::put_field(frame, 0, layout::SYNC_BITS, layout::TRAINING_SYNC);
+    put_coefficients(frame, coefficients, count);
+    finish(frame, a, b, vendor);
+}
+
+// A final frame.
+fn put_final(frame: &mut [u8], vendor: &[u8])
+    requires { ⌜ (length (now frame) ≡ 529) × (length (now vendor) ≡ 16) ⌝ }
+    ensures { λ r. ⌜ now (frame .exit) ≡ octetsOf 529 (finalBits (now (vendor .entry))) ⌝ }
+{
+    octets::put_field(frame, 0, layout::SYNC_BITS, layout::FINAL_SYNC);
+    octets::clear(frame, layout::COEFFICIENTS_AT, 3960);
+    finish(frame, 0, 0, vendor);
+}
+
+// A frame of either kind. A final one looks at vendor data only.
+pub fn write(
+    kind: u32,
+    count: u32,
+    coefficients: &[i32],
+    a: u32,
+    b: u32,
+    vendor: &[u8],
+    frame: &mut [u8],
+) -> u32
+    ensures { λ r. ⌜ Written kind count (now (coefficients .entry)) a b (now (vendor .entry)) (now (frame .entry)) r (now (frame .exit)) ⌝ }
+{
+    if coefficients.len() != layout::COEFFICIENTS {
+        return answer::LENGTH;
+    }
+    if vendor.len() != layout::VENDOR_OCTETS {
+        return answer::LENGTH;
+    }
+    if frame.len() != layout::FRAME_OCTETS {
+        return answer::LENGTH;
+    }
+    match kind {
+        0 => write_training(count, coefficients, a, b, vendor, frame),
+        1 => {
+            put_final(frame, vendor);
+            answer::DONE
+        }
+        _ => answer::UNKNOWN,
+    }
+}
+
+// A training frame, where count, coefficients, A and B are right.
+fn write_training(
+    count: u32,
+    coefficients: &[i32],
+    a: u32,
+    b: u32,
+    vendor: &[u8],
+    frame: &mut [u8],
+) -> u32
+    requires { ⌜ (length (now coefficients) ≡ 180) × (length (now vendor) ≡ 16) × (length (now frame) ≡ 529) ⌝ }
+    ensures { λ r. ⌜ Written 0 count (now (coefficients .entry)) a b (now (vendor .entry)) (now (frame .entry)) r (now (frame .exit)) ⌝ }
+{
+    if count < layout::FEWEST {
+        return answer::COUNT;
+    }
+    let n = count as usize;
+    if layout::COEFFICIENTS < n {
+        return answer::COUNT;
+    }
+    if !all_in_range(coefficients, n) {
+        return answer::RANGE;
+    }
+    if layout::LARGEST_WORD < a {
+        return answer::RANGE;
+    }
+    if layout::LARGEST_WORD < b {
+        return answer::RANGE;
+    }
+    put_training(frame, coefficients, n, a, b, vendor);
+    answer::DONE
+}

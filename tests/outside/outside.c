@@ -1,0 +1,28 @@
+/* Reads requests 'HEX AT BITS' from standard input, one a line, and prints the check bits of each as a number. */
+#include <stdint.h>
+#include <stdio.h>
+#include <stdlib.h>
+#include <string.h>
+
+uint32_t trial_check_bits(const uint8_t *octets, size_t len, size_t at, uint32_t bits);
+
+static char line[1 << 16];
+static uint8_t octets[sizeof line / 2];
+
+int main(void)
+{
+    while (fgets(line, sizeof line, stdin)) {
+        char *rest = strchr(line, ' ');
+        if (!rest)
+            return 1;
+        size_t len = (size_t)(rest - line) / 2;
+        for (size_t i = 0; i < len; i++) {
+            char two[3] = {line[2 * i], line[2 * i + 1], 0};
+            octets[i] = (uint8_t)strtoul(two, NULL, 16);
+        }
+        size_t at = strtoull(rest, &rest, 10);
+        uint32_t bits = (uint32_t)strtoul(rest, NULL, 10);
+        printf("%u\n", (unsigned)trial_check_bits(octets, len, at, bits));
+    }
+    return 0;
+}
