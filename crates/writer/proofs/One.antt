@@ -1,11 +1,9 @@
--- One result per call, and that the refusals stand in the order of document 01's table. Assumes nothing.
-use mathlib.Core.Path.{_≡_, refl, sym, ap, _∙_}
-use mathlib.Core.Bool.{Bool, true}
+-- One result per call. Assumes nothing.
+use mathlib.Core.Path.{_≡_, sym, ap, _∙_}
 use mathlib.Core.List.{List}
 use Prim.Native.Nat.{ℕ}
 use lib.IntN.{ℤ}
-use Rattle.answer.specs.Answer.{held, inOrder}
-use Rattle.layout.specs.Refusals.{writeRefusals}
+use Rattle.answer.specs.Answer.{held}
 use Rattle.writer.specs.Promises.{frameOctets, Written}
 
 module _ (kind count : ℕ) (cs : List ℤ) (a b : ℕ) (vendor frame : List ℕ) where
@@ -13,7 +11,3 @@ module _ (kind count : ℕ) (cs : List ℤ) (a b : ℕ) (vendor frame : List ℕ
   write-one r r′ t t′ p q =
       let e : r ≡ r′ = p .answered ∙ sym (q .answered) in
       (e, p .left ∙ ap (λ (n : ℕ). held n frame (frameOctets kind count cs a b vendor)) e ∙ sym (q .left))
-
-  pub write-order : inOrder 1 (writeRefusals kind count cs a b vendor frame) ≡ true
-  unfolding inOrder
-  write-order = refl

@@ -1,0 +1,152 @@
+-- Laws of checking and reading a frame. Assumes nothing.
+use mathlib.Core.Path.{_≡_, refl, sym, ap, ap₂, _∙_, subst}
+use mathlib.Core.Bool.{Bool, true, false, cond, _||_}
+use mathlib.Core.List.{List, [], _∷_, _++_, reverse}
+use Prim.Native.Nat.{ℕ, zero, suc, _+_, _-_, _*_, _^_, _≤_, _<_}
+use native.Mathlib.Numerals.{add-one}
+use native.Mathlib.Omega.{arith}
+use borrow.Author.Tests.{eq-eqb, ne-eqb}
+use lib.Dec.{eqb, lit≤}
+use lib.IntN.{ℤ, pos}
+use lib.ListN.{length, take, drop, set, length-drop}
+use lib.Seq.{length-take-le, take-all, take-suc-set, drop-drop}
+use Rattle.answer.specs.Answer.{answer, held}
+use Rattle.answer.proofs.Laws.{kept, given}
+use Rattle.octets.specs.Bits.{digitsOf, valueOf, bitsOf, octetsOf, part, laid}
+use Rattle.octets.specs.Signed.{signedOf}
+use Rattle.octets.proofs.Digits.{Bits, digits-value, take-bits, drop-bits}
+use Rattle.octets.proofs.Laws.{bits-length, bits-bits, laid-end}
+use Rattle.octets.proofs.Fields.{part-part}
+use Rattle.remainder.specs.Division.{polynomial, generator}
+use Rattle.remainder.specs.Promises.{CheckBits}
+use Rattle.remainder.proofs.Division.{computed}
+use Rattle.remainder.proofs.Errors.{generator-degree}
+use Rattle.layout.specs.Places.{check, coefficients, wordA, wordB, vendor}
+use Rattle.layout.specs.Frame.{trainingSync, finalSync, fieldOf, messageOf, checkOf, coefficientsIn}
+use Rattle.layout.specs.Refusals.{hasSync, readRefusals}
+use Rattle.layout.proofs.Laws.{training-value, final-value}
+use Rattle.reader.specs.declared.Found.{Found}
+use Rattle.reader.specs.Promises.{foundOf, coefficientsLeft, vendorOctets, Read}
+
+-- ---- sync
+
+pub final-known : (s : ℕ) → s ≡ 0x3e6b → true ≡ (eqb s (valueOf trainingSync) || eqb s (valueOf finalSync))
+final-known s e =
+    simp (ne-eqb s (valueOf trainingSync) (λ f. apart (sym e ∙ f ∙ training-value)), eq-eqb s (valueOf finalSync) (e ∙ sym final-value))
+  where
+    apart : _≡_ {A = ℕ} 0x3e6b 0x359f → ⊥
+    apart h = omega arith
+
+pub other-known : (s : ℕ) → (s ≡ 0x3e6b → ⊥) → eqb s 0x359f ≡ (eqb s (valueOf trainingSync) || eqb s (valueOf finalSync))
+other-known s h = ap (eqb s) (sym training-value) ∙ pick (eqb s (valueOf trainingSync)) ∙ simp (ne-eqb s (valueOf finalSync) (λ e. h (e ∙ final-value)))
+  where
+    pick : (t : Bool) → t ≡ (t || false)
+    pick true = refl
+    pick false = refl
+
+module _ (B : List ℕ) (s : ℕ) (e : s ≡ valueOf (part 0 14 B)) where
+  pub known-is : (t : Bool) → t ≡ (eqb s (valueOf trainingSync) || eqb s (valueOf finalSync)) → (hasSync trainingSync B || hasSync finalSync B) ≡ t
+  known-is t k = sym (k ∙ ap (λ (n : ℕ). eqb n (valueOf trainingSync) || eqb n (valueOf finalSync)) e)
+
+  pub training-is : s ≡ 0x359f → hasSync trainingSync B ≡ true
+  training-is h = eq-eqb (valueOf (part 0 14 B)) (valueOf trainingSync) (sym e ∙ h ∙ sym training-value)
+
+  pub training-not : (s ≡ 0x359f → ⊥) → hasSync trainingSync B ≡ false
+  training-not h = ne-eqb (valueOf (part 0 14 B)) (valueOf trainingSync) (λ f. h (e ∙ f ∙ training-value))
+
+-- ---- check bits
+
+pub checks-is : (f : List ℕ) (r c t : ℕ) → length f ≡ 529 → CheckBits f 14 4197 r → c ≡ valueOf (part 4211 16 (bitsOf f)) → t ≡ valueOf (reverse (digitsOf 16 c))
+    → eqb t r ≡ eqb (polynomial (fieldOf check (bitsOf f))) (checkOf (messageOf (bitsOf f)))
+checks-is f r c t l d e g =
+    let B = bitsOf f in
+    let K = part 4211 16 B in
+    let n : length K ≡ 16 = length-take-le 16 (drop 4211 B) (omega (arith, length-drop 4211 B, bits-length f)) in
+    let back : digitsOf 16 c ≡ K =
+    ap (digitsOf 16) e ∙ ap (λ (i : ℕ). digitsOf i (valueOf K)) (sym n) ∙ digits-value K (take-bits 16 (drop 4211 B) (drop-bits 4211 B (bits-bits f))) in
+    ap₂ eqb (g ∙ ap (λ (x : List ℕ). valueOf (reverse x)) back)
+    (computed 16 generator (lit≤ tt) generator-degree (messageOf B) r (take-bits 4197 (drop 14 B) (drop-bits 14 B (bits-bits f))) d)
+
+-- ---- coefficients
+
+next : (n : ℕ) (bits : List ℕ) → coefficientsIn (suc n) bits ≡ coefficientsIn n bits ++ (signedOf 22 (valueOf (part (22 * n) 22 bits)) ∷ [])
+unfolding coefficientsIn
+next zero bits = refl
+next (suc n) bits =
+    let e : 22 + 22 * n ≡ 22 * suc n = omega arith in
+    ap (λ (l : List ℤ). signedOf 22 (valueOf (take 22 bits)) ∷ l)
+    (next n (drop 22 bits)
+    ∙ ap (λ (x : List ℕ). coefficientsIn n (drop 22 bits) ++ (signedOf 22 (valueOf (take 22 x)) ∷ [])) (drop-drop (22 * n) 22 bits ∙ ap (λ (i : ℕ). drop i bits) e))
+
+pub coefficients-none : (bits : List ℕ) → [] ≡ coefficientsIn 0 bits
+unfolding coefficientsIn
+coefficients-none bits = refl
+
+-- one coefficient more, read into its place
+pub coefficients-next : (B : List ℕ) (into : List ℤ) (k : ℕ) (z : ℤ) → k < 180 → length into ≡ 180 → take k into ≡ coefficientsIn k (fieldOf coefficients B)
+    → z ≡ signedOf 22 (valueOf (part (14 + 22 * k) 22 B)) → take (k + 1) (set into k z) ≡ coefficientsIn (k + 1) (fieldOf coefficients B)
+coefficients-next B into k z h l e g =
+    ap (λ (n : ℕ). take n (set into k z)) (add-one k)
+    ∙ take-suc-set into k z (omega arith)
+    ∙ ap₂ (λ (x : List ℤ) (y : ℤ). x ++ (y ∷ [])) e
+    (g ∙ ap (λ (x : List ℕ). signedOf 22 (valueOf x)) (sym (part-part B (22 * k) 22 14 3960 (14 + 22 * k) (omega arith) refl)))
+    ∙ sym (next k (fieldOf coefficients B))
+    ∙ ap (λ (n : ℕ). coefficientsIn n (fieldOf coefficients B)) (sym (add-one k))
+
+-- ---- vendor data
+
+pub vendor-read : (f v v′ : List ℕ) → length f ≡ 529 → length v ≡ 16 → v′ ≡ laid v 0 (part 4016 128 (bitsOf f)) → v′ ≡ octetsOf 16 (fieldOf vendor (bitsOf f))
+vendor-read f v v′ l lv e =
+    let D = part 4016 128 (bitsOf f) in
+    let n : length D ≡ 128 = length-take-le 128 (drop 4016 (bitsOf f)) (omega (arith, length-drop 4016 (bitsOf f), bits-length f)) in
+    e ∙ laid-end v 0 D (omega arith) ∙ ap (λ (k : ℕ). octetsOf k D) lv
+
+-- ---- what reading promises, by cases
+
+module _ (f : List ℕ) (cs : List ℤ) (v : List ℕ) where
+  abbrev A : ℕ
+  A = answer (readRefusals f cs v)
+
+  abbrev B : List ℕ
+  B = bitsOf f
+
+  -- a refusal
+  pub refusing : (n : ℕ) (r : Found) → n ≡ A → (n ≡ 0 → ⊥) → r ≡ record { answer = n; kind = 0; a = 0; b = 0 } → Read f cs v r cs v
+  refusing n r e z g =
+      record {
+        found = g ∙ same n z ∙ ap (λ (k : ℕ). foundOf k B) e;
+        coefficients-left = sym (kept A cs (coefficientsLeft B cs) y);
+        vendor-left = sym (kept A v (vendorOctets B) y);
+      }
+    where
+      same : (n : ℕ) → (n ≡ 0 → ⊥) → record { answer = n; kind = 0; a = 0; b = 0 } ≡ foundOf n B
+      same zero z = absurd (z refl)
+      same (suc n) z = refl
+
+      y : A ≡ 0 → ⊥
+      y h = z (e ∙ h)
+
+  module _ (z : A ≡ 0) where
+    -- a training frame
+    pub training-read : (a b : ℕ) (cs′ : List ℤ) (v′ : List ℕ) → hasSync trainingSync B ≡ true → a ≡ valueOf (fieldOf wordA B) → b ≡ valueOf (fieldOf wordB B)
+        → cs′ ≡ coefficientsIn 180 (fieldOf coefficients B) → v′ ≡ vendorOctets B → Read f cs v (record { answer = 0; kind = 0; a = a; b = b }) cs′ v′
+    training-read a b cs′ v′ t p q g h =
+        record {
+          found =
+              ap₂ (λ (x y : ℕ). record { answer = 0; kind = 0; a = x; b = y }) p q
+              ∙ ap (λ (k : Bool). cond k (record { answer = 0; kind = 0; a = valueOf (fieldOf wordA B); b = valueOf (fieldOf wordB B) }) (record { answer = 0; kind = 1; a = 0; b = 0 })) (sym t)
+              ∙ ap (λ (k : ℕ). foundOf k B) (sym z);
+          coefficients-left = g ∙ ap (λ (k : Bool). cond k (coefficientsIn 180 (fieldOf coefficients B)) cs) (sym t) ∙ sym (given A cs (coefficientsLeft B cs) z);
+          vendor-left = h ∙ sym (given A v (vendorOctets B) z);
+        }
+
+    -- a final frame
+    pub final-read : (v′ : List ℕ) → hasSync trainingSync B ≡ false → v′ ≡ vendorOctets B → Read f cs v (record { answer = 0; kind = 1; a = 0; b = 0 }) cs v′
+    final-read v′ t h =
+        record {
+          found =
+              ap (λ (k : Bool). cond k (record { answer = 0; kind = 0; a = valueOf (fieldOf wordA B); b = valueOf (fieldOf wordB B) }) (record { answer = 0; kind = 1; a = 0; b = 0 })) (sym t)
+              ∙ ap (λ (k : ℕ). foundOf k B) (sym z);
+          coefficients-left = ap (λ (k : Bool). cond k (coefficientsIn 180 (fieldOf coefficients B)) cs) (sym t) ∙ sym (given A cs (coefficientsLeft B cs) z);
+          vendor-left = h ∙ sym (given A v (vendorOctets B) z);
+        }

@@ -1,0 +1,136 @@
+// Checking and reading an activation frame (document 01, "The activation frame").
+ghost use mathlib.Core.Path.{_≡_};
+ghost use mathlib.Core.Bool.{not, _||_};
+ghost use lib.ListN.{length};
+ghost use Rattle.answer.specs.Answer.{answer};
+ghost use Rattle.octets.specs.Bits.{valueOf, bitsOf};
+ghost use Rattle.remainder.specs.Division.{polynomial};
+ghost use lib.Dec.{eqb};
+ghost use Rattle.layout.specs.Places.{check, coefficients};
+ghost use Rattle.layout.specs.Frame.{trainingSync, finalSync, fieldOf, messageOf, checkOf, coefficientsIn};
+ghost use Rattle.layout.specs.Refusals.{bitRefusals};
+ghost use Rattle.reader.specs.Promises.{Checked, Read};
+
+// What reading gives: the answer, the kind, and of a training frame A and B.
+pub struct Found {
+    pub answer: u32,
+    pub kind: u32,
+    pub a: u32,
+    pub b: u32,
+}
+
+// Whether a sync word is one of the two.
+fn known(sync: u32) -> bool
+    ensures { λ r. ⌜ r ≡ (eqb sync (valueOf trainingSync) || eqb sync (valueOf finalSync)) ⌝ }
+{
+    if sync == layout::FINAL_SYNC {
+        return true;
+    }
+    sync == layout::TRAINING_SYNC
+}
+
+// Whether the check bits are those of the message.
+fn checks(frame: &[u8]) -> bool
+    requires { ⌜ length (now frame) ≡ 529 ⌝ }
+    ensures { λ r. ⌜ r ≡ eqb (polynomial (fieldOf check (bitsOf (now (frame .entry))))) (checkOf (messageOf (bitsOf (now (frame .entry))))) ⌝ }
+{
+    let r = remainder::check_bits(frame, layout::COEFFICIENTS_AT, layout::MESSAGE_BITS);
+    let c = octets::field(frame, layout::CHECK_AT, layout::CHECK_BITS);
+    octets::turned(layout::CHECK_BITS, c) == r
+}
+
+// What is wrong with a frame of the right length, or 0.
+fn wrong(frame: &[u8]) -> u32
+    requires { ⌜ length (now frame) ≡ 529 ⌝ }
+    ensures { λ r. ⌜ r ≡ answer (bitRefusals (bitsOf (now (frame .entry)))) ⌝ }
+{
+    let sync = octets::field(frame, 0, layout::SYNC_BITS);
+    if !known(sync) {
+        return answer::SYNC;
+    }
+    if !octets::is_clear(frame, layout::PAD_AT, layout::PAD_BITS) {
+        return answer::PAD;
+    }
+    if !checks(frame) {
+        return answer::CHECK;
+    }
+    if sync == layout::TRAINING_SYNC {
+        if !octets::is_clear(frame, layout::RESERVED_AT, layout::RESERVED_BITS) {
+            return answer::RESERVED;
+        }
+    }
+    answer::DONE
+}
+
+// What is wrong with a frame, or 0.
+pub fn check(frame: &[u8]) -> u32
+    ensures { λ r. ⌜ Checked (now (frame .entry)) r ⌝ }
+{
+    if frame.len() != layout::FRAME_OCTETS {
+        return answer::LENGTH;
+    }
+    wrong(frame)
+}
+
+// All 180 coefficients.
+fn get_coefficients(frame: &[u8], into: &mut [i32])
+    requires { ⌜ (length (now frame) ≡ 529) × (length (now into) ≡ 180) ⌝ }
+    ensures { λ r. ⌜ now (into .exit) ≡ coefficientsIn 180 (fieldOf coefficients (bitsOf (now (frame .entry)))) ⌝ }
+{
+    let mut k = 0;
+    while k < layout::COEFFICIENTS {
+        into[k] = octets::signed_field(
+            frame,
+            layout::COEFFICIENTS_AT + 22 * k,
+            layout::COEFFICIENT_BITS,
+        );
+        k += 1;
+    }
+}
+
+// A refusal, with 0 for every other number.
+fn refused(n: u32) -> Found
+    ensures { λ r. ⌜ r ≡ record { answer = n; kind = 0; a = 0; b = 0 } ⌝ }
+{
+    Found {
+        answer: n,
+        kind: 0,
+        a: 0,
+        b: 0,
+    }
+}
+
+// A frame's kind and vendor data, and of a training frame its coefficients, A and B.
+pub fn read(frame: &[u8], coefficients: &mut [i32], vendor: &mut [u8]) -> Found
+    ensures { λ r. ⌜ Read (now (frame .entry)) (now (coefficients .entry)) (now (vendor .entry)) r (now (coefficients .exit)) (now (vendor .exit)) ⌝ }
+{
+    if frame.len() != layout::FRAME_OCTETS {
+        return refused(answer::LENGTH);
+    }
+    if coefficients.len() != layout::COEFFICIENTS {
+        return refused(answer::LENGTH);
+    }
+    if vendor.len() != layout::VENDOR_OCTETS {
+        return refused(answer::LENGTH);
+    }
+    let n = wrong(frame);
+    if n != 0 {
+        return refused(n);
+    }
+    octets::copy(vendor, 0, frame, layout::VENDOR_AT, layout::VENDOR_BITS);
+    if octets::field(frame, 0, layout::SYNC_BITS) == layout::TRAINING_SYNC {
+        get_coefficients(frame, coefficients);
+        return Found {
+            answer: answer::DONE,
+            kind: layout::TRAINING,
+            a: octets::field(frame, layout::A_AT, layout::WORD_BITS),
+            b: octets::field(frame, layout::B_AT, layout::WORD_BITS),
+        };
+    }
+    Found {
+        answer: answer::DONE,
+        kind: layout::FINAL,
+        a: 0,
+        b: 0,
+    }
+}
