@@ -1,5 +1,6 @@
 -- Lengths of a frame's pieces, and that each is bits. Assumes nothing.
 use mathlib.Core.Path.{_≡_, refl, sym, ap, ap₂, _∙_, subst}
+use mathlib.Core.Bool.{Bool, true, false, _&&_}
 use mathlib.Core.List.{List, [], _∷_, _++_, append-assoc}
 use Prim.Native.Nat.{ℕ, zero, suc, _+_, _-_, _*_, _^_, _≤_, _<_}
 use native.Mathlib.Omega.{arith}
@@ -11,6 +12,7 @@ use Rattle.octets.specs.Signed.{twosOf}
 use Rattle.octets.proofs.Digits.{Bits, nil-bits, append-bits, digits-length, digits-bits, digits-value, reverse-bits, zeros-bits}
 use Rattle.octets.proofs.Laws.{bits-length, bits-bits}
 use Rattle.remainder.specs.Division.{checkBits}
+use Rattle.layout.specs.Refusals.{inRange, allInRange}
 use Rattle.layout.specs.Frame.{trainingSync, finalSync, coefficientBits, used, message, checkOf, frameBits}
 
 pub coefficient-length : (cs : List ℤ) → length (coefficientBits cs) ≡ 22 * length cs
@@ -34,6 +36,26 @@ coefficient-append (c ∷ cs) ds =
 pub coefficient-one : (c : ℤ) → coefficientBits (c ∷ []) ≡ digitsOf 22 (twosOf 22 c)
 unfolding coefficientBits
 coefficient-one c = mathlib.Core.List.append-nil (digitsOf 22 (twosOf 22 c))
+
+-- ---- coefficients in range
+
+pub all-append : (cs ds : List ℤ) → allInRange (cs ++ ds) ≡ (allInRange cs && allInRange ds)
+unfolding allInRange
+all-append [] ds = refl
+all-append (c ∷ cs) ds = pick (inRange c) (all-append cs ds)
+  where
+    pick : (t : Bool) → allInRange (cs ++ ds) ≡ (allInRange cs && allInRange ds) → (t && allInRange (cs ++ ds)) ≡ (t && allInRange cs && allInRange ds)
+    pick true e = e
+    pick false e = refl
+
+all-zero : (n : ℕ) → allInRange (replicate n (pos 0)) ≡ true
+unfolding allInRange inRange
+all-zero zero = refl
+all-zero (suc n) = all-zero n
+
+-- the coefficients in use and the zeros behind them
+pub used-range : (count : ℕ) (cs : List ℤ) → allInRange (take count cs) ≡ true → allInRange (used count cs) ≡ true
+used-range count cs e = all-append (take count cs) (replicate (180 - count) (pos 0)) ∙ ap₂ _&&_ e (all-zero (180 - count))
 
 pub used-length : (count : ℕ) (cs : List ℤ) → count ≤ 180 → length cs ≡ 180 → length (used count cs) ≡ 180
 used-length count cs h l =

@@ -2,3 +2,5 @@ pub mod Places
 pub mod Laws
 pub mod Fields
 pub mod Order
+pub mod RoundTrip
+pub mod OneBit

@@ -166,6 +166,11 @@ value-append [] b = omega arith
 value-append (x ∷ a) b =
     ap (λ (n : ℕ). n * 2 + x) (value-append a b) ∙ shifted (valueOf b) (2 ^ length a) (2 ^ suc (length a)) (valueOf a) x (pow-suc 2 (length a))
 
+pub zeros-value : (n : ℕ) → valueOf (replicate n 0) ≡ 0
+unfolding valueOf
+zeros-value zero = refl
+zeros-value (suc n) = omega (arith, zeros-value n)
+
 -- two lists of bits of one length and one value are equal
 pub value-one : (a b : List ℕ) → Bits a → Bits b → length a ≡ length b → valueOf a ≡ valueOf b → a ≡ b
 value-one a b h k e f = sym (digits-value a h) ∙ ap₂ digitsOf e f ∙ digits-value b k

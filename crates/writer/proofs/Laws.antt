@@ -23,7 +23,7 @@ use Rattle.remainder.proofs.Division.{computed}
 use Rattle.remainder.proofs.Errors.{generator-degree}
 use Rattle.layout.specs.Frame.{trainingSync, finalSync, coefficientBits, used, message, checkOf, frameBits, trainingBits, finalBits}
 use Rattle.layout.specs.Refusals.{inRange, allInRange}
-use Rattle.layout.proofs.Laws.{coefficient-length, coefficient-bits, coefficient-append, coefficient-one, used-length, tail-length, tail-bits, check-put, check-length, check-bits, training-digits, final-digits, training-length, final-length, training-bits, final-bits}
+use Rattle.layout.proofs.Laws.{all-append, coefficient-length, coefficient-bits, coefficient-append, coefficient-one, used-length, tail-length, tail-bits, check-put, check-length, check-bits, training-digits, final-digits, training-length, final-length, training-bits, final-bits}
 
 -- ---- ranges
 
@@ -36,15 +36,6 @@ pub range-over : (c : ℤ) → ltZ c (negsuc 2097151) ≡ false → leZ c (pos 2
 unfolding inRange
 range-over (pos n) e = refl
 range-over (negsuc n) e = sym (le-leb n 2097151 (ltb-false 2097151 n e))
-
-all-append : (cs ds : List ℤ) → allInRange (cs ++ ds) ≡ (allInRange cs && allInRange ds)
-unfolding allInRange
-all-append [] ds = refl
-all-append (c ∷ cs) ds = pick (inRange c) (all-append cs ds)
-  where
-    pick : (t : Bool) → allInRange (cs ++ ds) ≡ (allInRange cs && allInRange ds) → (t && allInRange (cs ++ ds)) ≡ (t && allInRange cs && allInRange ds)
-    pick true e = e
-    pick false e = refl
 
 -- one coefficient more
 all-more : (cs : List ℤ) (k : ℕ) → k < length cs → allInRange (take (suc k) cs) ≡ (allInRange (take k cs) && inRange (getD cs k (pos 0)))

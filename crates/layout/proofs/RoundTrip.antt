@@ -1,0 +1,302 @@
+-- What is written is read back; what is read with answer 0 is what writing its fields gives; a final frame's payload is free. All over
+-- the definitions. Assumes nothing.
+use mathlib.Core.Path.{_≡_, refl, sym, ap, ap₂, _∙_, subst}
+use mathlib.Core.Bool.{Bool, true, false, not, _&&_, _||_, false≢true, true≢false}
+use mathlib.Core.List.{List, [], _∷_, _++_, append-assoc, reverse, reverse-reverse}
+use Prim.Native.Nat.{ℕ, zero, suc, _+_, _-_, _*_, _%_, _^_, _≤_, _<_}
+use native.Mathlib.Nat.{mod-eq-of-lt}
+use native.Mathlib.Omega.{arith}
+use borrow.Author.Tests.{eq-eqb, eqb-true, leb-true, not-true, not-false}
+use lib.Dec.{eqb, lit≤, lit<}
+use lib.IntN.{ℤ, pos, negsuc}
+use lib.ListN.{length, getD, take, drop, replicate, length-append, length-drop, length-replicate, length-reverse, take-append-drop}
+use lib.Seq.{take-all, take-at, drop-at, take-add, length-take-le}
+use lib.Signed.{mag}
+use Rattle.answer.specs.Answer.{answer, refuse}
+use Rattle.answer.proofs.Laws.{none}
+use Rattle.octets.specs.Bits.{digitsOf, valueOf, bitsOf, octetsOf, part}
+use Rattle.octets.specs.Signed.{signedOf, twosOf}
+use Rattle.octets.proofs.Digits.{Bits, digits-length, digits-bits, digits-value, value-digits, value-one, take-bits, drop-bits, zeros-bits, zeros-value, reverse-bits}
+use Rattle.octets.proofs.Laws.{Octets, bits-length, bits-bits, bits-octets, octets-bits, octets-length, octets-are}
+use Rattle.octets.proofs.Complement.{signed-twos, twos-signed, twos-lt}
+use Rattle.octets.proofs.Fields.{part-part}
+use Rattle.remainder.specs.Division.{polynomial, checkBits, generator}
+use Rattle.remainder.proofs.Division.{exists}
+use Rattle.remainder.proofs.Errors.{check-value, generator-degree}
+use Rattle.layout.specs.Places.{sync, coefficients, wordA, wordB, vendor, reserved, check, pad}
+use Rattle.layout.specs.Frame.{trainingSync, finalSync, coefficientBits, used, message, checkOf, frameBits, trainingBits, finalBits, fieldOf, messageOf, coefficientsIn}
+use Rattle.layout.specs.Refusals.{inRange, allInRange, hasSync, bitRefusals}
+use Rattle.layout.proofs.Laws.{coefficient-length, coefficient-bits, used-length, used-range, message-length, message-bits, check-length, check-bits, frame-length, frame-bits, training-length, final-length, training-bits, final-bits}
+use Rattle.layout.proofs.Fields.{sync-field, message-field, check-field, pad-field, coefficients-field, a-field, b-field, vendor-field, reserved-field}
+
+-- ---- a frame with any message has the right check bits and a clear pad
+
+module _ (word m : List ℕ) (s : length word ≡ 14) (l : length m ≡ 4197) (bw : Bits word) (bm : Bits m) where
+  abbrev F : List ℕ
+  F = frameBits word m
+
+  pub laid-in : bitsOf (octetsOf 529 F) ≡ F
+  laid-in = bits-octets 529 F (frame-length word m s l) (frame-bits word m bw bm)
+
+  check-lt : checkOf m < 2 ^ 16
+  check-lt = exists 16 generator (lit≤ tt) generator-degree m bm .below
+
+  pub check-right : polynomial (fieldOf check F) ≡ checkOf (messageOf F)
+  check-right = ap polynomial (check-field word m s l) ∙ check-value 16 (checkOf m) check-lt ∙ sym (ap checkOf (message-field word m s l))
+
+  pub pad-clear : valueOf (fieldOf pad F) ≡ 0
+  unfolding valueOf
+  pad-clear = ap valueOf (pad-field word m s l)
+
+  -- what is answered turns on the sync word and the reserved bits alone
+  pub answer-is : (hasSync trainingSync F || hasSync finalSync F) ≡ true → answer (bitRefusals F) ≡ answer (refuse 8 (hasSync trainingSync F && not (eqb (valueOf (fieldOf reserved F)) 0)) ∷ [])
+  answer-is k = simp k (simp (eq-eqb _ _ pad-clear, eq-eqb _ _ check-right))
+
+final-other : eqb (valueOf finalSync) (valueOf trainingSync) ≡ false
+unfolding finalSync trainingSync valueOf
+final-other = refl
+
+same : (n : ℕ) → eqb n n ≡ true
+same n = eq-eqb n n refl
+
+or-true : (t : Bool) → (t || true) ≡ true
+or-true true = refl
+or-true false = refl
+
+module _ (m : List ℕ) (l : length m ≡ 4197) (bm : Bits m) where
+  -- a final frame with arbitrary payload and right check bits answers 0, and is known as final
+  pub final-free : (answer (bitRefusals (frameBits finalSync m)) ≡ 0) × (hasSync trainingSync (frameBits finalSync m) ≡ false)
+  final-free =
+      let F = frameBits finalSync m in
+      let e = sync-field finalSync m final-length l in
+      let t : hasSync trainingSync F ≡ false = ap (λ (x : List ℕ). eqb (valueOf x) (valueOf trainingSync)) e ∙ final-other in
+      let f : hasSync finalSync F ≡ true = ap (λ (x : List ℕ). eqb (valueOf x) (valueOf finalSync)) e ∙ same (valueOf finalSync) in
+      let k : (hasSync trainingSync F || hasSync finalSync F) ≡ true = ap (λ (b : Bool). hasSync trainingSync F || b) f ∙ or-true (hasSync trainingSync F) in
+      (answer-is finalSync m final-length l final-bits bm k ∙ simp t, t)
+
+  -- a training frame answers 0 where its reserved bits are zero
+  pub training-clear : valueOf (fieldOf reserved (frameBits trainingSync m)) ≡ 0
+      → (answer (bitRefusals (frameBits trainingSync m)) ≡ 0) × (hasSync trainingSync (frameBits trainingSync m) ≡ true)
+  training-clear z =
+      let F = frameBits trainingSync m in
+      let t : hasSync trainingSync F ≡ true =
+      ap (λ (x : List ℕ). eqb (valueOf x) (valueOf trainingSync)) (sync-field trainingSync m training-length l) ∙ same (valueOf trainingSync) in
+      (answer-is trainingSync m training-length l training-bits bm (ap (λ (b : Bool). b || hasSync finalSync F) t) ∙ simp (t, eq-eqb _ _ z), t)
+
+-- ---- coefficients there and back
+
+mag-range : (c : ℤ) → inRange c ≡ true → mag c < 2 ^ 21
+unfolding inRange
+mag-range (pos n) e = omega (arith, leb-true n 2097151 e)
+mag-range (negsuc n) e = omega (arith, leb-true n 2097151 e)
+
+pub coefficients-back : (cs : List ℤ) → allInRange cs ≡ true → coefficientsIn (length cs) (coefficientBits cs) ≡ cs
+unfolding coefficientsIn coefficientBits allInRange
+coefficients-back [] e = refl
+coefficients-back (c ∷ cs) e =
+    let D = digitsOf 22 (twosOf 22 c) in
+    let h : (inRange c ≡ true) × (allInRange cs ≡ true) = both (inRange c) (allInRange cs) e in
+    ap₂ (λ (x : ℤ) (y : List ℤ). x ∷ y)
+    (ap (λ (x : List ℕ). signedOf 22 (valueOf x)) (take-at D (coefficientBits cs) 22 (digits-length 22 (twosOf 22 c)))
+    ∙ ap (signedOf 22) (value-digits 22 (twosOf 22 c) ∙ mod-eq-of-lt (twos-lt 22 c))
+    ∙ signed-twos 22 c (lit≤ tt) (mag-range c (h .0)))
+    (ap (coefficientsIn (length cs)) (drop-at D (coefficientBits cs) 22 (digits-length 22 (twosOf 22 c))) ∙ coefficients-back cs (h .1))
+  where
+    both : (s t : Bool) → (s && t) ≡ true → (s ≡ true) × (t ≡ true)
+    both true t e = (refl, e)
+    both false t e = absurd (false≢true e)
+
+pub coefficient-fields : (n : ℕ) (bits : List ℕ) → length bits ≡ 22 * n → Bits bits → coefficientBits (coefficientsIn n bits) ≡ bits
+unfolding coefficientsIn coefficientBits
+coefficient-fields zero [] e h = refl
+coefficient-fields zero (b ∷ bs) e h = absurd (omega arith)
+coefficient-fields (suc n) bits e h =
+    let T = take 22 bits in
+    let l : length T ≡ 22 = length-take-le 22 bits (omega arith) in
+    let lt : valueOf T < 2 ^ 22 = subst (λ (k : ℕ). valueOf T < 2 ^ k) l (Rattle.octets.proofs.Digits.value-lt T (take-bits 22 bits h)) in
+    ap₂ _++_
+    (ap (digitsOf 22) (twos-signed 22 (valueOf T) (lit≤ tt) lt) ∙ ap (λ (k : ℕ). digitsOf k (valueOf T)) (sym l) ∙ digits-value T (take-bits 22 bits h))
+    (coefficient-fields n (drop 22 bits) (length-drop 22 bits ∙ omega arith) (drop-bits 22 bits h))
+    ∙ take-append-drop 22 bits
+
+pub coefficients-length : (n : ℕ) (bits : List ℕ) → length (coefficientsIn n bits) ≡ n
+unfolding coefficientsIn
+coefficients-length zero bits = refl
+coefficients-length (suc n) bits = ap suc (coefficients-length n (drop 22 bits))
+
+-- ---- a training frame that was written
+
+module _ (count : ℕ) (cs : List ℤ) (a b : ℕ) (v : List ℕ) (n : count ≤ 180) (l : length cs ≡ 180) (lv : length v ≡ 16) where
+  abbrev U : List ℤ
+  U = used count cs
+
+  abbrev M : List ℕ
+  M = message U a b v (replicate 67 0)
+
+  abbrev T : List ℕ
+  T = trainingBits count cs a b v
+
+  U-length : length U ≡ 180
+  U-length = used-length count cs n l
+
+  M-length : length M ≡ 4197
+  M-length = message-length a b v (replicate 67 0) lv refl U U-length
+
+  M-bits : Bits M
+  M-bits = message-bits U a b v (replicate 67 0) (zeros-bits 67)
+
+  pub training-laid : bitsOf (octetsOf 529 T) ≡ T
+  unfolding trainingBits
+  training-laid = laid-in trainingSync M training-length M-length training-bits M-bits
+
+  pub training-answers : (answer (bitRefusals T) ≡ 0) × (hasSync trainingSync T ≡ true)
+  unfolding trainingBits
+  training-answers =
+      training-clear M M-length M-bits
+      (ap valueOf (reserved-field U a b v (replicate 67 0) U-length lv refl trainingSync training-length) ∙ zeros-value 67)
+
+  pub a-back : a ≤ 2097151 → valueOf (fieldOf wordA T) ≡ a
+  unfolding trainingBits
+  a-back h = ap valueOf (a-field U a b v (replicate 67 0) U-length lv refl trainingSync training-length) ∙ value-digits 21 a ∙ mod-eq-of-lt (omega arith)
+
+  pub b-back : b ≤ 2097151 → valueOf (fieldOf wordB T) ≡ b
+  unfolding trainingBits
+  b-back h = ap valueOf (b-field U a b v (replicate 67 0) U-length lv refl trainingSync training-length) ∙ value-digits 21 b ∙ mod-eq-of-lt (omega arith)
+
+  pub vendor-back : Octets v → octetsOf 16 (fieldOf vendor T) ≡ v
+  unfolding trainingBits
+  vendor-back h =
+      ap (octetsOf 16) (vendor-field U a b v (replicate 67 0) U-length lv refl trainingSync training-length)
+      ∙ ap (λ (k : ℕ). octetsOf k (bitsOf v)) (sym lv) ∙ octets-bits v h
+
+  pub used-back : allInRange (take count cs) ≡ true → coefficientsIn 180 (fieldOf coefficients T) ≡ U
+  unfolding trainingBits
+  used-back h =
+      ap (coefficientsIn 180) (coefficients-field U a b v (replicate 67 0) U-length lv refl trainingSync training-length)
+      ∙ ap (λ (k : ℕ). coefficientsIn k (coefficientBits U)) (sym U-length) ∙ coefficients-back U (used-range count cs h)
+
+-- ---- a final frame that was written
+
+module _ (v : List ℕ) (lv : length v ≡ 16) where
+  abbrev Z : List ℤ
+  Z = replicate 180 (pos 0)
+
+  abbrev N : List ℕ
+  N = message Z 0 0 v (replicate 67 0)
+
+  N-length : length N ≡ 4197
+  N-length = message-length 0 0 v (replicate 67 0) lv refl Z (length-replicate 180 (pos 0))
+
+  N-bits : Bits N
+  N-bits = message-bits Z 0 0 v (replicate 67 0) (zeros-bits 67)
+
+  pub final-laid : bitsOf (octetsOf 529 (finalBits v)) ≡ finalBits v
+  unfolding finalBits
+  final-laid = laid-in finalSync N final-length N-length final-bits N-bits
+
+  pub final-answers : (answer (bitRefusals (finalBits v)) ≡ 0) × (hasSync trainingSync (finalBits v) ≡ false)
+  unfolding finalBits
+  final-answers = final-free N N-length N-bits
+
+  pub final-vendor : Octets v → octetsOf 16 (fieldOf vendor (finalBits v)) ≡ v
+  unfolding finalBits
+  final-vendor h =
+      ap (octetsOf 16) (vendor-field Z 0 0 v (replicate 67 0) (length-replicate 180 (pos 0)) lv refl finalSync final-length)
+      ∙ ap (λ (k : ℕ). octetsOf k (bitsOf v)) (sym lv) ∙ octets-bits v h
+
+-- ---- a frame that reads with answer 0
+
+-- what an answer of 0 says of a frame's bits
+pub record Sound (B : List ℕ) : Type 0 where
+  pub known : (hasSync trainingSync B || hasSync finalSync B) ≡ true
+  pub clear : valueOf (fieldOf pad B) ≡ 0
+  pub checked : polynomial (fieldOf check B) ≡ checkOf (messageOf B)
+  pub unreserved : hasSync trainingSync B ≡ true → valueOf (fieldOf reserved B) ≡ 0
+
+pub sound : (B : List ℕ) → answer (bitRefusals B) ≡ 0 → Sound B
+sound B e =
+    let five = none 4 _ (drop 1 (bitRefusals B)) e in
+    let six = none 5 _ (drop 2 (bitRefusals B)) (five .1) in
+    let seven = none 6 _ (drop 3 (bitRefusals B)) (six .1) in
+    let eight = none 7 _ (drop 4 (bitRefusals B)) (seven .1) in
+    record {
+      known = not-false _ (five .0);
+      clear = eqb-true _ _ (not-false _ (six .0));
+      checked = eqb-true _ _ (not-false _ (seven .0));
+      unreserved = λ t. eqb-true _ _ (not-false _ (sym (ap (λ (b : Bool). b && not (eqb (valueOf (fieldOf reserved B)) 0)) t) ∙ eight .0));
+    }
+
+module _ (B : List ℕ) (l : length B ≡ 4232) (h : Bits B) where
+  pub field-length : (at n : ℕ) → at + n ≤ 4232 → length (part at n B) ≡ n
+  field-length at n k = length-take-le n (drop at B) (omega (arith, length-drop at B))
+
+  pub field-bits : (at n : ℕ) → Bits (part at n B)
+  field-bits at n = take-bits n (drop at B) (drop-bits at B h)
+
+  -- the frame is its parts, one behind the other
+  parts : B ≡ fieldOf sync B ++ (messageOf B ++ (fieldOf check B ++ fieldOf pad B))
+  parts =
+      sym (take-all 4232 B (omega arith)) ∙ take-add 14 4218 B
+      ∙ ap (λ (x : List ℕ). take 14 B ++ x)
+      (take-add 4197 21 (drop 14 B)
+      ∙ ap (λ (x : List ℕ). messageOf B ++ x)
+      (ap (take 21) (lib.Seq.drop-drop 4197 14 B) ∙ take-add 16 5 (drop 4211 B) ∙ ap (λ (x : List ℕ). fieldOf check B ++ take 5 x) (lib.Seq.drop-drop 16 4211 B)))
+
+  message-parts : messageOf B ≡ fieldOf coefficients B ++ (fieldOf wordA B ++ (fieldOf wordB B ++ (fieldOf vendor B ++ fieldOf reserved B)))
+  message-parts =
+      take-add 3960 237 (drop 14 B)
+      ∙ ap (λ (x : List ℕ). fieldOf coefficients B ++ x)
+      (ap (take 237) (lib.Seq.drop-drop 3960 14 B) ∙ take-add 21 216 (drop 3974 B)
+      ∙ ap (λ (x : List ℕ). fieldOf wordA B ++ x)
+      (ap (take 216) (lib.Seq.drop-drop 21 3974 B) ∙ take-add 21 195 (drop 3995 B)
+      ∙ ap (λ (x : List ℕ). fieldOf wordB B ++ x)
+      (ap (take 195) (lib.Seq.drop-drop 21 3995 B) ∙ take-add 128 67 (drop 4016 B)
+      ∙ ap (λ (x : List ℕ). fieldOf vendor B ++ take 67 x) (lib.Seq.drop-drop 128 4016 B))))
+
+  -- a field is the digits of its value
+  field-digits : (at n : ℕ) → at + n ≤ 4232 → digitsOf n (valueOf (part at n B)) ≡ part at n B
+  field-digits at n k = ap (λ (i : ℕ). digitsOf i (valueOf (part at n B))) (sym (field-length at n k)) ∙ digits-value (part at n B) (field-bits at n)
+
+  -- the message is that of its own fields
+  pub message-is : messageOf B ≡ message (coefficientsIn 180 (fieldOf coefficients B)) (valueOf (fieldOf wordA B)) (valueOf (fieldOf wordB B)) (octetsOf 16 (fieldOf vendor B)) (fieldOf reserved B)
+  unfolding message
+  message-is =
+      message-parts
+      ∙ ap₂ _++_ (sym (coefficient-fields 180 (fieldOf coefficients B) (field-length 14 3960 (lit≤ tt)) (field-bits 14 3960)))
+      (ap₂ _++_ (sym (field-digits 3974 21 (lit≤ tt)))
+      (ap₂ _++_ (sym (field-digits 3995 21 (lit≤ tt)))
+      (ap (λ (x : List ℕ). x ++ fieldOf reserved B) (sym (bits-octets 16 (fieldOf vendor B) (field-length 4016 128 (lit≤ tt)) (field-bits 4016 128))))))
+
+  -- a field of value 0 is zeros
+  pub zeros-are : (at n : ℕ) → at + n ≤ 4232 → valueOf (part at n B) ≡ 0 → part at n B ≡ replicate n 0
+  zeros-are at n k e =
+      value-one (part at n B) (replicate n 0) (field-bits at n) (zeros-bits n) (field-length at n k ∙ sym (length-replicate n zero)) (e ∙ sym (zeros-value n))
+
+  -- where the check bits are right and the pad is clear, the frame is sync and message, written
+  pub frame-is : Sound B → B ≡ frameBits (fieldOf sync B) (messageOf B)
+  unfolding frameBits
+  frame-is s =
+      let K = fieldOf check B in
+      let k : K ≡ checkBits 16 (checkOf (messageOf B)) =
+      sym (reverse-reverse K) ∙ ap reverse (sym (digits-value (reverse K) (reverse-bits K (field-bits 4211 16))) ∙ ap₂ digitsOf (length-reverse K ∙ field-length 4211 16 (lit≤ tt)) (s .checked)) in
+      parts ∙ ap₂ (λ (x y : List ℕ). fieldOf sync B ++ (messageOf B ++ (x ++ y))) k (zeros-are 4227 5 (lit≤ tt) (s .clear))
+
+  -- the sync word of a training frame
+  pub training-sync : hasSync trainingSync B ≡ true → fieldOf sync B ≡ trainingSync
+  training-sync t = value-one (fieldOf sync B) trainingSync (field-bits 0 14) training-bits (field-length 0 14 (lit≤ tt) ∙ sym training-length) (eqb-true _ _ t)
+
+  pub final-sync : hasSync finalSync B ≡ true → fieldOf sync B ≡ finalSync
+  final-sync t = value-one (fieldOf sync B) finalSync (field-bits 0 14) final-bits (field-length 0 14 (lit≤ tt) ∙ sym final-length) (eqb-true _ _ t)
+
+  -- a training frame that answers 0 is what writing its fields with count 180 gives
+  pub training-again : Sound B → hasSync trainingSync B ≡ true
+      → B ≡ trainingBits 180 (coefficientsIn 180 (fieldOf coefficients B)) (valueOf (fieldOf wordA B)) (valueOf (fieldOf wordB B)) (octetsOf 16 (fieldOf vendor B))
+  unfolding trainingBits
+  training-again s t =
+      let cs = coefficientsIn 180 (fieldOf coefficients B) in
+      let all : used 180 cs ≡ cs = mathlib.Core.List.append-nil (take 180 cs) ∙ take-all 180 cs (omega (arith, coefficients-length 180 (fieldOf coefficients B))) in
+      frame-is s
+      ∙ ap₂ frameBits (training-sync t)
+      (message-is
+      ∙ ap₂ (λ (c : List ℤ) (r : List ℕ). message c (valueOf (fieldOf wordA B)) (valueOf (fieldOf wordB B)) (octetsOf 16 (fieldOf vendor B)) r) (sym all)
+      (zeros-are 4144 67 (lit≤ tt) (s .unreserved t)))
