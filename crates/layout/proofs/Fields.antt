@@ -14,7 +14,8 @@ use Rattle.octets.proofs.Fields.{part-behind, part-before, part-is}
 use Rattle.remainder.specs.Division.{checkBits}
 use Rattle.layout.specs.Places.{sync, coefficients, wordA, wordB, vendor, reserved, check, pad}
 use Rattle.layout.specs.Frame.{coefficientBits, message, checkOf, frameBits, fieldOf, messageOf}
-use Rattle.layout.proofs.Laws.{coefficient-length, tail-length, message-length, check-length}
+use Rattle.octets.proofs.Numbers.{number-length}
+use Rattle.layout.proofs.Laws.{tail-length, message-length, check-length}
 
 module _ (word m : List ℕ) (s : length word ≡ 14) (l : length m ≡ 4197) where
   abbrev F : List ℕ
@@ -58,7 +59,7 @@ module _ (cs : List ℤ) (a b : ℕ) (given rest : List ℕ) (l : length cs ≡ 
   C = coefficientBits cs
 
   C-length : length C ≡ 3960
-  C-length = coefficient-length cs ∙ ap (λ (n : ℕ). 22 * n) l
+  C-length = number-length 22 cs ∙ ap (λ (n : ℕ). 22 * n) l
 
   V-length : length (bitsOf given) ≡ 128
   V-length = bits-length given ∙ ap (λ (n : ℕ). 8 * n) v

@@ -8,34 +8,12 @@ use lib.IntN.{ℤ, pos}
 use lib.ListN.{length, take, replicate, length-append, length-replicate, length-reverse}
 use lib.Seq.{length-take-le}
 use Rattle.octets.specs.Bits.{digitsOf, valueOf, bitsOf}
-use Rattle.octets.specs.Signed.{twosOf}
 use Rattle.octets.proofs.Digits.{Bits, nil-bits, append-bits, digits-length, digits-bits, digits-value, reverse-bits, zeros-bits}
 use Rattle.octets.proofs.Laws.{bits-length, bits-bits}
+use Rattle.octets.proofs.Numbers.{number-length, number-bits}
 use Rattle.remainder.specs.Division.{checkBits}
 use Rattle.layout.specs.Refusals.{inRange, allInRange}
 use Rattle.layout.specs.Frame.{trainingSync, finalSync, coefficientBits, used, message, checkOf, frameBits}
-
-pub coefficient-length : (cs : List ℤ) → length (coefficientBits cs) ≡ 22 * length cs
-unfolding coefficientBits
-coefficient-length [] = refl
-coefficient-length (c ∷ cs) =
-    length-append (digitsOf 22 (twosOf 22 c)) (coefficientBits cs) ∙ omega (arith, digits-length 22 (twosOf 22 c), coefficient-length cs)
-
-pub coefficient-bits : (cs : List ℤ) → Bits (coefficientBits cs)
-unfolding coefficientBits
-coefficient-bits [] = nil-bits
-coefficient-bits (c ∷ cs) = append-bits (digitsOf 22 (twosOf 22 c)) (coefficientBits cs) (digits-bits 22 (twosOf 22 c)) (coefficient-bits cs)
-
-pub coefficient-append : (cs ds : List ℤ) → coefficientBits (cs ++ ds) ≡ coefficientBits cs ++ coefficientBits ds
-unfolding coefficientBits
-coefficient-append [] ds = refl
-coefficient-append (c ∷ cs) ds =
-    ap (λ (l : List ℕ). digitsOf 22 (twosOf 22 c) ++ l) (coefficient-append cs ds)
-    ∙ sym (append-assoc (digitsOf 22 (twosOf 22 c)) (coefficientBits cs) (coefficientBits ds))
-
-pub coefficient-one : (c : ℤ) → coefficientBits (c ∷ []) ≡ digitsOf 22 (twosOf 22 c)
-unfolding coefficientBits
-coefficient-one c = mathlib.Core.List.append-nil (digitsOf 22 (twosOf 22 c))
 
 -- ---- coefficients in range
 
@@ -80,7 +58,7 @@ module _ (a b : ℕ) (vendor reserved : List ℕ) (v : length vendor ≡ 16) (r 
   unfolding message
   message-length cs l =
       length-append (coefficientBits cs) (digitsOf 21 a ++ (digitsOf 21 b ++ (bitsOf vendor ++ reserved)))
-      ∙ omega (arith, coefficient-length cs, tail-length)
+      ∙ omega (arith, number-length 22 cs, tail-length)
 
 pub tail-bits : (a b : ℕ) (vendor reserved : List ℕ) → Bits reserved → Bits (digitsOf 21 a ++ (digitsOf 21 b ++ (bitsOf vendor ++ reserved)))
 tail-bits a b vendor reserved h =
@@ -90,7 +68,7 @@ tail-bits a b vendor reserved h =
 pub message-bits : (cs : List ℤ) (a b : ℕ) (vendor reserved : List ℕ) → Bits reserved → Bits (message cs a b vendor reserved)
 unfolding message
 message-bits cs a b vendor reserved h =
-    append-bits (coefficientBits cs) (digitsOf 21 a ++ (digitsOf 21 b ++ (bitsOf vendor ++ reserved))) (coefficient-bits cs) (tail-bits a b vendor reserved h)
+    append-bits (coefficientBits cs) (digitsOf 21 a ++ (digitsOf 21 b ++ (bitsOf vendor ++ reserved))) (number-bits 22 cs) (tail-bits a b vendor reserved h)
 
 -- the check bits as they stand
 pub check-length : (k r : ℕ) → length (checkBits k r) ≡ k

@@ -15,19 +15,23 @@ use lib.Signed.{mag}
 use Rattle.answer.specs.Answer.{answer, refuse}
 use Rattle.answer.proofs.Laws.{none}
 use Rattle.octets.specs.Bits.{digitsOf, valueOf, bitsOf, octetsOf, part}
-use Rattle.octets.specs.Signed.{signedOf, twosOf}
+use Rattle.octets.specs.Signed.{numbersIn}
 use Rattle.octets.proofs.Digits.{Bits, digits-length, digits-bits, digits-value, value-digits, value-one, take-bits, drop-bits, zeros-bits, zeros-value, reverse-bits}
 use Rattle.octets.proofs.Laws.{Octets, bits-length, bits-bits, bits-octets, octets-bits, octets-length, octets-are}
-use Rattle.octets.proofs.Complement.{signed-twos, twos-signed, twos-lt}
+use Rattle.octets.proofs.Numbers.{numbers-length, numbers-back, numbers-again}
 use Rattle.octets.proofs.Fields.{part-part}
 use Rattle.remainder.specs.Division.{polynomial, checkBits, generator}
 use Rattle.remainder.proofs.Division.{exists}
 use Rattle.remainder.proofs.Errors.{check-value, generator-degree}
 use Rattle.layout.specs.Places.{sync, coefficients, wordA, wordB, vendor, reserved, check, pad}
-use Rattle.layout.specs.Frame.{trainingSync, finalSync, coefficientBits, used, message, checkOf, frameBits, trainingBits, finalBits, fieldOf, messageOf, coefficientsIn}
+use Rattle.layout.specs.Frame.{trainingSync, finalSync, coefficientBits, used, message, checkOf, frameBits, trainingBits, finalBits, fieldOf, messageOf, coefficientsOf}
 use Rattle.layout.specs.Refusals.{inRange, allInRange, hasSync, bitRefusals}
-use Rattle.layout.proofs.Laws.{coefficient-length, coefficient-bits, used-length, used-range, message-length, message-bits, check-length, check-bits, frame-length, frame-bits, training-length, final-length, training-bits, final-bits}
+use Rattle.layout.proofs.Laws.{used-length, used-range, message-length, message-bits, check-length, check-bits, frame-length, frame-bits, training-length, final-length, training-bits, final-bits}
 use Rattle.layout.proofs.Fields.{sync-field, message-field, check-field, pad-field, coefficients-field, a-field, b-field, vendor-field, reserved-field}
+
+both : (s t : Bool) → (s && t) ≡ true → (s ≡ true) × (t ≡ true)
+both true t e = (refl, e)
+both false t e = absurd (false≢true e)
 
 -- ---- a frame with any message has the right check bits and a clear pad
 
@@ -85,44 +89,15 @@ module _ (m : List ℕ) (l : length m ≡ 4197) (bm : Bits m) where
 
 -- ---- coefficients there and back
 
-mag-range : (c : ℤ) → inRange c ≡ true → mag c < 2 ^ 21
-unfolding inRange
-mag-range (pos n) e = omega (arith, leb-true n 2097151 e)
-mag-range (negsuc n) e = omega (arith, leb-true n 2097151 e)
-
-pub coefficients-back : (cs : List ℤ) → allInRange cs ≡ true → coefficientsIn (length cs) (coefficientBits cs) ≡ cs
-unfolding coefficientsIn coefficientBits allInRange
-coefficients-back [] e = refl
-coefficients-back (c ∷ cs) e =
-    let D = digitsOf 22 (twosOf 22 c) in
-    let h : (inRange c ≡ true) × (allInRange cs ≡ true) = both (inRange c) (allInRange cs) e in
-    ap₂ (λ (x : ℤ) (y : List ℤ). x ∷ y)
-    (ap (λ (x : List ℕ). signedOf 22 (valueOf x)) (take-at D (coefficientBits cs) 22 (digits-length 22 (twosOf 22 c)))
-    ∙ ap (signedOf 22) (value-digits 22 (twosOf 22 c) ∙ mod-eq-of-lt (twos-lt 22 c))
-    ∙ signed-twos 22 c (lit≤ tt) (mag-range c (h .0)))
-    (ap (coefficientsIn (length cs)) (drop-at D (coefficientBits cs) 22 (digits-length 22 (twosOf 22 c))) ∙ coefficients-back cs (h .1))
+pub range-mag : (cs : List ℤ) → allInRange cs ≡ true → (i : ℕ) → mag (getD cs i (pos 0)) < 2 ^ 21
+unfolding allInRange inRange
+range-mag [] e i = lit< tt
+range-mag (c ∷ cs) e zero = one c (both (inRange c) (allInRange cs) e .0)
   where
-    both : (s t : Bool) → (s && t) ≡ true → (s ≡ true) × (t ≡ true)
-    both true t e = (refl, e)
-    both false t e = absurd (false≢true e)
-
-pub coefficient-fields : (n : ℕ) (bits : List ℕ) → length bits ≡ 22 * n → Bits bits → coefficientBits (coefficientsIn n bits) ≡ bits
-unfolding coefficientsIn coefficientBits
-coefficient-fields zero [] e h = refl
-coefficient-fields zero (b ∷ bs) e h = absurd (omega arith)
-coefficient-fields (suc n) bits e h =
-    let T = take 22 bits in
-    let l : length T ≡ 22 = length-take-le 22 bits (omega arith) in
-    let lt : valueOf T < 2 ^ 22 = subst (λ (k : ℕ). valueOf T < 2 ^ k) l (Rattle.octets.proofs.Digits.value-lt T (take-bits 22 bits h)) in
-    ap₂ _++_
-    (ap (digitsOf 22) (twos-signed 22 (valueOf T) (lit≤ tt) lt) ∙ ap (λ (k : ℕ). digitsOf k (valueOf T)) (sym l) ∙ digits-value T (take-bits 22 bits h))
-    (coefficient-fields n (drop 22 bits) (length-drop 22 bits ∙ omega arith) (drop-bits 22 bits h))
-    ∙ take-append-drop 22 bits
-
-pub coefficients-length : (n : ℕ) (bits : List ℕ) → length (coefficientsIn n bits) ≡ n
-unfolding coefficientsIn
-coefficients-length zero bits = refl
-coefficients-length (suc n) bits = ap suc (coefficients-length n (drop 22 bits))
+    one : (c : ℤ) → inRange c ≡ true → mag c < 2 ^ 21
+    one (pos n) e = omega (arith, leb-true n 2097151 e)
+    one (negsuc n) e = omega (arith, leb-true n 2097151 e)
+range-mag (c ∷ cs) e (suc i) = range-mag cs (both (inRange c) (allInRange cs) e .1) i
 
 -- ---- a training frame that was written
 
@@ -169,11 +144,11 @@ module _ (count : ℕ) (cs : List ℤ) (a b : ℕ) (v : List ℕ) (n : count ≤
       ap (octetsOf 16) (vendor-field U a b v (replicate 67 0) U-length lv refl trainingSync training-length)
       ∙ ap (λ (k : ℕ). octetsOf k (bitsOf v)) (sym lv) ∙ octets-bits v h
 
-  pub used-back : allInRange (take count cs) ≡ true → coefficientsIn 180 (fieldOf coefficients T) ≡ U
+  pub used-back : allInRange (take count cs) ≡ true → coefficientsOf T ≡ U
   unfolding trainingBits
   used-back h =
-      ap (coefficientsIn 180) (coefficients-field U a b v (replicate 67 0) U-length lv refl trainingSync training-length)
-      ∙ ap (λ (k : ℕ). coefficientsIn k (coefficientBits U)) (sym U-length) ∙ coefficients-back U (used-range count cs h)
+      ap (numbersIn 22 180) (coefficients-field U a b v (replicate 67 0) U-length lv refl trainingSync training-length)
+      ∙ ap (λ (k : ℕ). numbersIn 22 k (coefficientBits U)) (sym U-length) ∙ numbers-back 22 (lit≤ tt) U (range-mag U (used-range count cs h))
 
 -- ---- a final frame that was written
 
@@ -258,11 +233,11 @@ module _ (B : List ℕ) (l : length B ≡ 4232) (h : Bits B) where
   field-digits at n k = ap (λ (i : ℕ). digitsOf i (valueOf (part at n B))) (sym (field-length at n k)) ∙ digits-value (part at n B) (field-bits at n)
 
   -- the message is that of its own fields
-  pub message-is : messageOf B ≡ message (coefficientsIn 180 (fieldOf coefficients B)) (valueOf (fieldOf wordA B)) (valueOf (fieldOf wordB B)) (octetsOf 16 (fieldOf vendor B)) (fieldOf reserved B)
+  pub message-is : messageOf B ≡ message (coefficientsOf B) (valueOf (fieldOf wordA B)) (valueOf (fieldOf wordB B)) (octetsOf 16 (fieldOf vendor B)) (fieldOf reserved B)
   unfolding message
   message-is =
       message-parts
-      ∙ ap₂ _++_ (sym (coefficient-fields 180 (fieldOf coefficients B) (field-length 14 3960 (lit≤ tt)) (field-bits 14 3960)))
+      ∙ ap₂ _++_ (sym (numbers-again 22 (lit≤ tt) 180 (fieldOf coefficients B) (field-length 14 3960 (lit≤ tt)) (field-bits 14 3960)))
       (ap₂ _++_ (sym (field-digits 3974 21 (lit≤ tt)))
       (ap₂ _++_ (sym (field-digits 3995 21 (lit≤ tt)))
       (ap (λ (x : List ℕ). x ++ fieldOf reserved B) (sym (bits-octets 16 (fieldOf vendor B) (field-length 4016 128 (lit≤ tt)) (field-bits 4016 128))))))
@@ -290,11 +265,11 @@ module _ (B : List ℕ) (l : length B ≡ 4232) (h : Bits B) where
 
   -- a training frame that answers 0 is what writing its fields with count 180 gives
   pub training-again : Sound B → hasSync trainingSync B ≡ true
-      → B ≡ trainingBits 180 (coefficientsIn 180 (fieldOf coefficients B)) (valueOf (fieldOf wordA B)) (valueOf (fieldOf wordB B)) (octetsOf 16 (fieldOf vendor B))
+      → B ≡ trainingBits 180 (coefficientsOf B) (valueOf (fieldOf wordA B)) (valueOf (fieldOf wordB B)) (octetsOf 16 (fieldOf vendor B))
   unfolding trainingBits
   training-again s t =
-      let cs = coefficientsIn 180 (fieldOf coefficients B) in
-      let all : used 180 cs ≡ cs = mathlib.Core.List.append-nil (take 180 cs) ∙ take-all 180 cs (omega (arith, coefficients-length 180 (fieldOf coefficients B))) in
+      let cs = coefficientsOf B in
+      let all : used 180 cs ≡ cs = mathlib.Core.List.append-nil (take 180 cs) ∙ take-all 180 cs (omega (arith, numbers-length 22 180 (fieldOf coefficients B))) in
       frame-is s
       ∙ ap₂ frameBits (training-sync t)
       (message-is

@@ -1,13 +1,13 @@
 -- The activation frame as bits (document 01, "The activation frame"; 000, clause 4.1.3).
 use mathlib.Core.List.{List, [], _∷_, _++_}
-use Prim.Native.Nat.{ℕ, zero, suc, _+_, _-_, _*_}
+use Prim.Native.Nat.{ℕ, _-_}
 use lib.IntN.{ℤ, pos}
 use lib.ListN.{getD, take, replicate}
-use Rattle.octets.specs.Bits.{digitsOf, valueOf, bitsOf, octetsOf, part}
-use Rattle.octets.specs.Signed.{signedOf, twosOf}
+use Rattle.octets.specs.Bits.{digitsOf, bitsOf, part}
+use Rattle.octets.specs.Signed.{numberBits, numbersIn}
 use Rattle.remainder.specs.Division.{checkBits, generator}
 use Rattle.remainder.specs.Register.{registerOf}
-use Rattle.layout.specs.Places.{widths, placeOf}
+use Rattle.layout.specs.Places.{widths, placeOf, coefficients}
 
 -- sync is 11111001101011 in a training frame, left bit first
 unfoldable pub trainingSync : List ℕ
@@ -18,9 +18,8 @@ unfoldable pub finalSync : List ℕ
 finalSync = 1 ∷ 1 ∷ 0 ∷ 1 ∷ 0 ∷ 1 ∷ 1 ∷ 0 ∷ 0 ∷ 1 ∷ 1 ∷ 1 ∷ 1 ∷ 1 ∷ []
 
 -- coefficients one after the other, each 22 bits in two's complement, least bit first
-unfoldable pub coefficientBits : List ℤ → List ℕ
-coefficientBits [] = []
-coefficientBits (c ∷ cs) = digitsOf 22 (twosOf 22 c) ++ coefficientBits cs
+abbrev pub coefficientBits : List ℤ → List ℕ
+coefficientBits cs = numberBits 22 cs
 
 -- the first count coefficients, and zero for the rest of the 180
 abbrev pub used : ℕ → List ℤ → List ℤ
@@ -54,7 +53,6 @@ fieldOf k bits = part (placeOf k) (getD widths k 0) bits
 abbrev pub messageOf : List ℕ → List ℕ
 messageOf bits = part 14 4197 bits
 
--- n coefficients read from bits, 22 each
-unfoldable pub coefficientsIn : ℕ → List ℕ → List ℤ
-coefficientsIn zero bits = []
-coefficientsIn (suc n) bits = signedOf 22 (valueOf (take 22 bits)) ∷ coefficientsIn n (lib.ListN.drop 22 bits)
+-- the 180 coefficients of a frame's bits
+abbrev pub coefficientsOf : List ℕ → List ℤ
+coefficientsOf bits = numbersIn 22 180 (fieldOf coefficients bits)

@@ -3,4 +3,5 @@ pub mod Digits
 pub mod Laws
 pub mod Complement
 pub mod Fields
+pub mod Numbers
 pub mod One

@@ -3,17 +3,15 @@ use mathlib.Core.Path.{_≡_, refl, sym, ap, ap₂, _∙_, subst}
 use mathlib.Core.Bool.{Bool, true, false, cond, _||_}
 use mathlib.Core.List.{List, [], _∷_, _++_, reverse}
 use Prim.Native.Nat.{ℕ, zero, suc, _+_, _-_, _*_, _^_, _≤_, _<_}
-use native.Mathlib.Numerals.{add-one}
 use native.Mathlib.Omega.{arith}
 use borrow.Author.Tests.{eq-eqb, ne-eqb}
 use lib.Dec.{eqb, lit≤}
 use lib.IntN.{ℤ, pos}
-use lib.ListN.{length, take, drop, set, length-drop}
-use lib.Seq.{length-take-le, take-all, take-suc-set, drop-drop}
+use lib.ListN.{length, drop, length-drop}
+use lib.Seq.{length-take-le}
 use Rattle.answer.specs.Answer.{answer, held}
 use Rattle.answer.proofs.Laws.{kept, given}
 use Rattle.octets.specs.Bits.{digitsOf, valueOf, bitsOf, octetsOf, part, laid}
-use Rattle.octets.specs.Signed.{signedOf}
 use Rattle.octets.proofs.Digits.{Bits, digits-value, take-bits, drop-bits}
 use Rattle.octets.proofs.Laws.{bits-length, bits-bits, laid-end}
 use Rattle.octets.proofs.Fields.{part-part}
@@ -22,7 +20,7 @@ use Rattle.remainder.specs.Promises.{CheckBits}
 use Rattle.remainder.proofs.Division.{computed}
 use Rattle.remainder.proofs.Errors.{generator-degree}
 use Rattle.layout.specs.Places.{check, coefficients, wordA, wordB, vendor}
-use Rattle.layout.specs.Frame.{trainingSync, finalSync, fieldOf, messageOf, checkOf, coefficientsIn}
+use Rattle.layout.specs.Frame.{trainingSync, finalSync, fieldOf, messageOf, checkOf, coefficientsOf}
 use Rattle.layout.specs.Refusals.{hasSync, readRefusals}
 use Rattle.layout.proofs.Laws.{training-value, final-value}
 use Rattle.reader.specs.declared.Found.{Found}
@@ -69,29 +67,9 @@ checks-is f r c t l d e g =
 
 -- ---- coefficients
 
-next : (n : ℕ) (bits : List ℕ) → coefficientsIn (suc n) bits ≡ coefficientsIn n bits ++ (signedOf 22 (valueOf (part (22 * n) 22 bits)) ∷ [])
-unfolding coefficientsIn
-next zero bits = refl
-next (suc n) bits =
-    let e : 22 + 22 * n ≡ 22 * suc n = omega arith in
-    ap (λ (l : List ℤ). signedOf 22 (valueOf (take 22 bits)) ∷ l)
-    (next n (drop 22 bits)
-    ∙ ap (λ (x : List ℕ). coefficientsIn n (drop 22 bits) ++ (signedOf 22 (valueOf (take 22 x)) ∷ [])) (drop-drop (22 * n) 22 bits ∙ ap (λ (i : ℕ). drop i bits) e))
-
-pub coefficients-none : (bits : List ℕ) → [] ≡ coefficientsIn 0 bits
-unfolding coefficientsIn
-coefficients-none bits = refl
-
--- one coefficient more, read into its place
-pub coefficients-next : (B : List ℕ) (into : List ℤ) (k : ℕ) (z : ℤ) → k < 180 → length into ≡ 180 → take k into ≡ coefficientsIn k (fieldOf coefficients B)
-    → z ≡ signedOf 22 (valueOf (part (14 + 22 * k) 22 B)) → take (k + 1) (set into k z) ≡ coefficientsIn (k + 1) (fieldOf coefficients B)
-coefficients-next B into k z h l e g =
-    ap (λ (n : ℕ). take n (set into k z)) (add-one k)
-    ∙ take-suc-set into k z (omega arith)
-    ∙ ap₂ (λ (x : List ℤ) (y : ℤ). x ++ (y ∷ [])) e
-    (g ∙ ap (λ (x : List ℕ). signedOf 22 (valueOf x)) (sym (part-part B (22 * k) 22 14 3960 (14 + 22 * k) (omega arith) refl)))
-    ∙ sym (next k (fieldOf coefficients B))
-    ∙ ap (λ (n : ℕ). coefficientsIn n (fieldOf coefficients B)) (sym (add-one k))
+-- coefficient k in the frame, and in the coefficients' field
+pub coefficient-place : (B : List ℕ) (k : ℕ) → k < 180 → part (14 + 22 * k) 22 B ≡ part (22 * k) 22 (fieldOf coefficients B)
+coefficient-place B k h = sym (part-part B (22 * k) 22 14 3960 (14 + 22 * k) (omega arith) refl)
 
 -- ---- vendor data
 
@@ -129,14 +107,14 @@ module _ (f : List ℕ) (cs : List ℤ) (v : List ℕ) where
   module _ (z : A ≡ 0) where
     -- a training frame
     pub training-read : (a b : ℕ) (cs′ : List ℤ) (v′ : List ℕ) → hasSync trainingSync B ≡ true → a ≡ valueOf (fieldOf wordA B) → b ≡ valueOf (fieldOf wordB B)
-        → cs′ ≡ coefficientsIn 180 (fieldOf coefficients B) → v′ ≡ vendorOctets B → Read f cs v (record { answer = 0; kind = 0; a = a; b = b }) cs′ v′
+        → cs′ ≡ coefficientsOf B → v′ ≡ vendorOctets B → Read f cs v (record { answer = 0; kind = 0; a = a; b = b }) cs′ v′
     training-read a b cs′ v′ t p q g h =
         record {
           found =
               ap₂ (λ (x y : ℕ). record { answer = 0; kind = 0; a = x; b = y }) p q
               ∙ ap (λ (k : Bool). cond k (record { answer = 0; kind = 0; a = valueOf (fieldOf wordA B); b = valueOf (fieldOf wordB B) }) (record { answer = 0; kind = 1; a = 0; b = 0 })) (sym t)
               ∙ ap (λ (k : ℕ). foundOf k B) (sym z);
-          coefficients-left = g ∙ ap (λ (k : Bool). cond k (coefficientsIn 180 (fieldOf coefficients B)) cs) (sym t) ∙ sym (given A cs (coefficientsLeft B cs) z);
+          coefficients-left = g ∙ ap (λ (k : Bool). cond k (coefficientsOf B) cs) (sym t) ∙ sym (given A cs (coefficientsLeft B cs) z);
           vendor-left = h ∙ sym (given A v (vendorOctets B) z);
         }
 
@@ -147,6 +125,6 @@ module _ (f : List ℕ) (cs : List ℤ) (v : List ℕ) where
           found =
               ap (λ (k : Bool). cond k (record { answer = 0; kind = 0; a = valueOf (fieldOf wordA B); b = valueOf (fieldOf wordB B) }) (record { answer = 0; kind = 1; a = 0; b = 0 })) (sym t)
               ∙ ap (λ (k : ℕ). foundOf k B) (sym z);
-          coefficients-left = ap (λ (k : Bool). cond k (coefficientsIn 180 (fieldOf coefficients B)) cs) (sym t) ∙ sym (given A cs (coefficientsLeft B cs) z);
+          coefficients-left = ap (λ (k : Bool). cond k (coefficientsOf B) cs) (sym t) ∙ sym (given A cs (coefficientsLeft B cs) z);
           vendor-left = h ∙ sym (given A v (vendorOctets B) z);
         }

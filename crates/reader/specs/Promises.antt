@@ -6,8 +6,8 @@ use Prim.Native.Nat.{ℕ, zero, suc}
 use lib.IntN.{ℤ}
 use Rattle.answer.specs.Answer.{answer, held}
 use Rattle.octets.specs.Bits.{valueOf, bitsOf, octetsOf}
-use Rattle.layout.specs.Places.{coefficients, wordA, wordB, vendor}
-use Rattle.layout.specs.Frame.{trainingSync, fieldOf, coefficientsIn}
+use Rattle.layout.specs.Places.{wordA, wordB, vendor}
+use Rattle.layout.specs.Frame.{trainingSync, fieldOf, coefficientsOf}
 use Rattle.layout.specs.Refusals.{hasSync, checkRefusals, readRefusals}
 use Rattle.reader.specs.declared.Found.{Found}
 
@@ -25,7 +25,7 @@ foundOf (suc n) bits = record { answer = suc n; kind = 0; a = 0; b = 0 }
 
 -- the coefficients' room after reading: 180 coefficients from a training frame, untouched by a final one
 abbrev pub coefficientsLeft : List ℕ → List ℤ → List ℤ
-coefficientsLeft bits old = cond (hasSync trainingSync bits) (coefficientsIn 180 (fieldOf coefficients bits)) old
+coefficientsLeft bits old = cond (hasSync trainingSync bits) (coefficientsOf bits) old
 
 -- vendor data's octets
 abbrev pub vendorOctets : List ℕ → List ℕ

@@ -6,8 +6,8 @@ ghost use Rattle.answer.specs.Answer.{answer};
 ghost use Rattle.octets.specs.Bits.{valueOf, bitsOf};
 ghost use Rattle.remainder.specs.Division.{polynomial};
 ghost use lib.Dec.{eqb};
-ghost use Rattle.layout.specs.Places.{check, coefficients};
-ghost use Rattle.layout.specs.Frame.{trainingSync, finalSync, fieldOf, messageOf, checkOf, coefficientsIn};
+ghost use Rattle.layout.specs.Places.{check};
+ghost use Rattle.layout.specs.Frame.{trainingSync, finalSync, fieldOf, messageOf, checkOf, coefficientsOf};
 ghost use Rattle.layout.specs.Refusals.{bitRefusals};
 ghost use Rattle.reader.specs.Promises.{Checked, Read};
 
@@ -75,7 +75,7 @@ pub fn check(frame: &[u8]) -> u32
 // All 180 coefficients.
 fn get_coefficients(frame: &[u8], into: &mut [i32])
     requires { ⌜ (length (now frame) ≡ 529) × (length (now into) ≡ 180) ⌝ }
-    ensures { λ r. ⌜ now (into .exit) ≡ coefficientsIn 180 (fieldOf coefficients (bitsOf (now (frame .entry)))) ⌝ }
+    ensures { λ r. ⌜ now (into .exit) ≡ coefficientsOf (bitsOf (now (frame .entry))) ⌝ }
 {
     let mut k = 0;
     while k < layout::COEFFICIENTS {

@@ -13,9 +13,10 @@ use lib.ListN.{length, getD, take, drop, replicate, length-append, length-drop, 
 use lib.Seq.{getD-take, getD-append-add, length-take-le, sets-eq, take-at, take-suc, take-all, take-add}
 use lib.Signed.{ltZ, leZ}
 use Rattle.octets.specs.Bits.{digitsOf, valueOf, bitsOf, octetsOf, part, laid}
-use Rattle.octets.specs.Signed.{twosOf}
+use Rattle.octets.specs.Signed.{twosOf, numberBits}
 use Rattle.octets.proofs.Digits.{Bits, append-bits, digits-length, digits-bits, zeros-bits, take-bits, drop-bits}
 use Rattle.octets.proofs.Laws.{bits-length, bits-bits, laid-length, laid-bits, laid-next, laid-end}
+use Rattle.octets.proofs.Numbers.{number-length, number-bits}
 use Rattle.octets.proofs.Fields.{reads-back, part-stays, part-before, part-behind, part-is}
 use Rattle.remainder.specs.Division.{checkBits, generator}
 use Rattle.remainder.specs.Promises.{CheckBits}
@@ -23,7 +24,7 @@ use Rattle.remainder.proofs.Division.{computed}
 use Rattle.remainder.proofs.Errors.{generator-degree}
 use Rattle.layout.specs.Frame.{trainingSync, finalSync, coefficientBits, used, message, checkOf, frameBits, trainingBits, finalBits}
 use Rattle.layout.specs.Refusals.{inRange, allInRange}
-use Rattle.layout.proofs.Laws.{all-append, coefficient-length, coefficient-bits, coefficient-append, coefficient-one, used-length, tail-length, tail-bits, check-put, check-length, check-bits, training-digits, final-digits, training-length, final-length, training-bits, final-bits}
+use Rattle.layout.proofs.Laws.{all-append, used-length, tail-length, tail-bits, check-put, check-length, check-bits, training-digits, final-digits, training-length, final-length, training-bits, final-bits}
 
 -- ---- ranges
 
@@ -78,24 +79,6 @@ module _ (count : ℕ) (cs : List ℤ) (n : count ≤ 180) (l : length cs ≡ 18
       ∙ getD-replicate (180 - count) (k - count) (pos 0) (pos 0) (omega arith))
 
 -- ---- field behind field
-
-pub coefficients-none : [] ≡ coefficientBits []
-unfolding coefficientBits
-coefficients-none = refl
-
--- one coefficient more
-module _ (f₀ : List ℕ) (us : List ℤ) (k : ℕ) (h : k < length us) where
-  pub coefficient-next : {f t : List ℕ} → f ≡ laid f₀ 14 (coefficientBits (take k us)) → t ≡ laid f (14 + 22 * k) (digitsOf 22 (twosOf 22 (getD us k (pos 0))))
-      → t ≡ laid f₀ 14 (coefficientBits (take (k + 1) us))
-  coefficient-next e g =
-      let c = getD us k (pos 0) in
-      let L = coefficientBits (take k us) in
-      let n : 14 + length L ≡ 14 + 22 * k = omega (arith, coefficient-length (take k us), length-take-le k us (omega arith)) in
-      laid-next f₀ 14 L (digitsOf 22 (twosOf 22 c)) (14 + 22 * k) (coefficient-bits (take k us)) n e g
-      ∙ ap (laid f₀ 14)
-      (ap (λ (l : List ℕ). L ++ l) (sym (coefficient-one c))
-      ∙ sym (coefficient-append (take k us) (c ∷ []))
-      ∙ ap coefficientBits (sym (take-suc us k (pos 0) h) ∙ ap (λ (i : ℕ). take i us) (sym (add-one k))))
 
 -- what `finish` puts behind sync and coefficients
 module _ (s v : List ℕ) (a b : ℕ) (l : length s ≡ 529) (lv : length v ≡ 16) where
@@ -208,7 +191,7 @@ zeros-length n = length-replicate n zero
 
 -- coefficients that are zero
 pub zero-coefficients : (n : ℕ) → coefficientBits (replicate n (pos 0)) ≡ replicate (22 * n) 0
-unfolding coefficientBits digitsOf twosOf
+unfolding numberBits digitsOf twosOf
 zero-coefficients zero = refl
 zero-coefficients (suc n) =
     let e : 22 + 22 * n ≡ 22 * suc n = omega arith in
@@ -222,8 +205,8 @@ module _ (f v : List ℕ) (lf : length f ≡ 529) (s₁ s₂ t : List ℕ) where
   unfolding trainingBits message
   training-put count cs a b h l e₁ e₂ e =
       let U = used count cs in
-      put f v trainingSync (coefficientBits U) a b lf training-length (coefficient-length U ∙ ap (λ (n : ℕ). 22 * n) (used-length count cs h l)) training-bits
-      (coefficient-bits U) s₁ s₂ t (e₁ ∙ ap (laid f 0) training-digits) e₂ e
+      put f v trainingSync (coefficientBits U) a b lf training-length (number-length 22 U ∙ ap (λ (n : ℕ). 22 * n) (used-length count cs h l)) training-bits
+      (number-bits 22 U) s₁ s₂ t (e₁ ∙ ap (laid f 0) training-digits) e₂ e
 
   pub final-put : s₁ ≡ laid f 0 (digitsOf 14 0x3e6b) → s₂ ≡ laid s₁ 14 (replicate 3960 0)
       → t ≡ octetsOf 529 (frameBits (part 0 14 (bitsOf s₂)) (part 14 3960 (bitsOf s₂) ++ (digitsOf 21 0 ++ (digitsOf 21 0 ++ (bitsOf v ++ replicate 67 0)))))

@@ -6,22 +6,25 @@ use native.Mathlib.Omega.{arith}
 use lib.IntN.{ℤ}
 use lib.ListN.{length, take, length-set}
 use lib.Seq.{take-all}
-use Rattle.octets.specs.Bits.{bitsOf}
+use mathlib.Core.List.{List}
+use Rattle.octets.specs.Bits.{valueOf, bitsOf}
+use Rattle.octets.specs.Signed.{signedOf, numbersIn}
+use Rattle.octets.proofs.Numbers.{numbers-none, numbers-next}
 use Rattle.octets.proofs.Complement.{read-i32}
 use Rattle.layout.specs.Places.{coefficients}
-use Rattle.layout.specs.Frame.{fieldOf, coefficientsIn}
-use Rattle.reader.proofs.Laws.{coefficients-none, coefficients-next}
+use Rattle.layout.specs.Frame.{fieldOf}
+use Rattle.reader.proofs.Laws.{coefficient-place}
 use Rattle.reader.proofs.get_coefficients.Statement.{statement}
 use Rattle.reader.proofs.get_coefficients.Tie as tie
 
 abbrev Inv-loop : tie.InvT-loop
-Inv-loop frame into₀ k₀ into k = (k ≤ 180) × (length into ≡ length into₀) × (take k into ≡ coefficientsIn k (fieldOf coefficients (bitsOf frame)))
+Inv-loop frame into₀ k₀ into k = (k ≤ 180) × (length into ≡ length into₀) × (take k into ≡ numbersIn 22 k (fieldOf coefficients (bitsOf frame)))
 
 abbrev μ-loop : tie.MeasureT-loop
 μ-loop frame into₀ k₀ into k = 180 - k
 
 loop-holds : tie.Need-loop-holds Inv-loop μ-loop
-loop-holds c = (omega arith, refl, coefficients-none (fieldOf coefficients (bitsOf (c .before .args .frame .now))))
+loop-holds c = (omega arith, refl, numbers-none 22 (fieldOf coefficients (bitsOf (c .before .args .frame .now))))
 
 mul-signed-field : tie.Need-mul-signed-field Inv-loop μ-loop
 mul-signed-field c = omega arith
@@ -48,10 +51,12 @@ loop-again : tie.Need-loop-again Inv-loop μ-loop
 loop-again c =
     let a = c .before .before .before .before .args in
     let l = c .before .before .loop in
+    let B = bitsOf (a .frame .now) in
     let n : length (l .into) ≡ 180 = omega (arith, l .inv .1, c .before .before .before .before .pre .1) in (
       omega arith,
       length-set (l .into) (l .k) _ ∙ l .inv .1,
-      coefficients-next (bitsOf (a .frame .now)) (l .into) (l .k) _ (omega arith) n (l .inv .2) (read-i32 (c .signed-field .result) (c .signed-field .ok) ∙ c .signed-field .ensures),
+      numbers-next 22 (fieldOf coefficients B) (l .into) (l .k) _ (omega arith) (l .inv .2)
+          (read-i32 (c .signed-field .result) (c .signed-field .ok) ∙ c .signed-field .ensures ∙ ap (λ (x : List ℕ). signedOf 22 (valueOf x)) (coefficient-place B (l .k) (omega arith))),
     )
 
 same-length : tie.Need-same-length Inv-loop μ-loop
@@ -63,7 +68,7 @@ returns c =
     let l = c .before .loop in
     let e : l .k ≡ 180 = omega arith in
     let n : length (l .into) ≡ 180 = omega (arith, l .inv .1, c .before .before .before .pre .1) in
-    sym (take-all (l .k) (l .into) (omega arith)) ∙ l .inv .2 ∙ ap (λ (k : ℕ). coefficientsIn k (fieldOf coefficients (bitsOf (a .frame .now)))) e
+    sym (take-all (l .k) (l .into) (omega arith)) ∙ l .inv .2 ∙ ap (λ (k : ℕ). numbersIn 22 k (fieldOf coefficients (bitsOf (a .frame .now)))) e
 
 pub get-coefficients-spec : {M : Type 1} → statement M
 get-coefficients-spec =

@@ -1,6 +1,6 @@
 -- `writer::put_coefficients` meets its contract. After k turns the fields of the first k coefficients are laid behind sync.
 use borrow.Author.Needs.{needs}
-use mathlib.Core.Path.{_≡_, sym, ap, _∙_}
+use mathlib.Core.Path.{_≡_, refl, ap, _∙_}
 use Prim.Native.Nat.{ℕ, _+_, _-_, _*_, _≤_, _<_}
 use native.Mathlib.Omega.{arith}
 use lib.IntN.{ℤ, pos}
@@ -11,9 +11,9 @@ use Rattle.octets.specs.Bits.{digitsOf, laid}
 use Rattle.octets.specs.Signed.{twosOf}
 use Rattle.octets.proofs.Laws.{laid-none, laid-length}
 use Rattle.octets.proofs.Complement.{read-i32}
+use Rattle.octets.proofs.Numbers.{number-none, number-next}
 use Rattle.layout.specs.Frame.{coefficientBits, used}
 use Rattle.layout.proofs.Laws.{used-length}
-use Rattle.writer.proofs.Laws.{coefficient-next, coefficients-none}
 use Rattle.writer.proofs.put_coefficients.Statement.{statement}
 use Rattle.writer.proofs.put_coefficients.Tie as tie
 
@@ -24,7 +24,7 @@ abbrev μ-loop : tie.MeasureT-loop
 μ-loop frame₀ coefficients count k₀ frame k = 180 - k
 
 loop-holds : tie.Need-loop-holds Inv-loop μ-loop
-loop-holds c = let a = c .before .args in (omega arith, laid-none (a .frame .now) 14 (λ i. omega (arith, c .slice-known .given i)) ∙ ap (laid (a .frame .now) 14) coefficients-none)
+loop-holds c = let a = c .before .args in (omega arith, laid-none (a .frame .now) 14 (λ i. omega (arith, c .slice-known .given i)) ∙ ap (laid (a .frame .now) 14) (number-none 22))
 
 coefficient-requires : tie.Need-coefficient-requires Inv-loop μ-loop
 coefficient-requires c κs = omega arith
@@ -52,7 +52,7 @@ loop-again c =
     let k = c .before .before .before .before .coefficient in
     let U = used (a .count) (a .coefficients .now) in (
       omega arith,
-      coefficient-next (a .frame .now) U (l .k) (omega (arith, used-length (a .count) (a .coefficients .now) (p .1) (p .0))) (l .inv .1)
+      number-next 22 (a .frame .now) 14 U (l .k) (14 + 22 * l .k) (omega (arith, used-length (a .count) (a .coefficients .now) (p .1) (p .0))) refl (l .inv .1)
           (c .before .before .put-signed-field .ensures
           ∙ ap (λ (z : ℤ). laid (l .frame) (14 + 22 * l .k) (digitsOf 22 (twosOf 22 z))) (read-i32 (k .result) (k .ok) ∙ k .ensures)),
     )
