@@ -1,0 +1,66 @@
+-- `host::frames::sdsl_frame_read` meets its contract.
+use borrow.Author.Needs.{needs}
+use borrow.Author.Tests.{eq-eqb, ne-eqb}
+use mathlib.Core.Path.{_≡_, refl, sym, ap, _∙_}
+use Rattle.host.proofs.FrameLaws.{refused-out, training-out, final-out}
+use Rattle.host.proofs.frames.sdsl_frame_read.Statement.{statement}
+use Rattle.host.proofs.frames.sdsl_frame_read.Tie as tie
+
+returns : tie.Need-returns
+returns c = record { found = simp (ne-eqb _ _ (c .if1 .taken)); coefficients-left = simp (ne-eqb _ _ (c .if1 .taken)); vendor-left = simp (ne-eqb _ _ (c .if1 .taken)) }
+
+slice-aggregate-read : tie.Need-slice-aggregate-read
+slice-aggregate-read c = search needs
+
+read-requires : tie.Need-read-requires
+read-requires c κs = search needs
+
+slice-aggregate-put-numbers : tie.Need-slice-aggregate-put-numbers
+slice-aggregate-put-numbers c = search needs
+
+put-numbers-requires : tie.Need-put-numbers-requires
+put-numbers-requires c κs = search needs
+
+same-length : tie.Need-same-length
+same-length c = search needs
+
+same-length-2 : tie.Need-same-length-2
+same-length-2 c = search needs
+
+returns-2 : tie.Need-returns-2
+returns-2 c =
+    let r = c .before .before .before .before .before .before .before .before .before .before .before .before .read in
+    training-out (c .before .before .before .before .before .before .before .before .before .before .before .before .before .before .before .before .before .before .before .args .frame .now) (c .before .before .before .before .before .before .before .before .before .before .before .before .before .before .before .before .before .before .before .args .coefficients .now) (c .before .before .before .before .before .before .before .before .before .before .before .before .before .before .before .before .before .before .before .args .vendor .now) _ (r .last .1 .0) (r .last .1 .1 .0) (r .result) (c .before .before .before .before .before .before .before .before .before .before .before .before .before .before .before .if1 .left) refl (r .ensures) (c .before .before .before .before .before .before .before .if2 .taken) (c .before .before .put-numbers .last .0) (c .before .before .before .before .before .if3 .taken) (c .before .before .put-numbers .ensures)
+
+same-length-3 : tie.Need-same-length-3
+same-length-3 c = search needs
+
+returns-3 : tie.Need-returns-3
+returns-3 c =
+    let r = c .before .before .before .before .before .before .before .read in
+    final-out (c .before .before .before .before .before .before .before .before .before .before .before .before .before .before .args .frame .now) (c .before .before .before .before .before .before .before .before .before .before .before .before .before .before .args .coefficients .now) (c .before .before .before .before .before .before .before .before .before .before .before .before .before .before .args .vendor .now) _ (r .last .1 .0) (r .last .1 .1 .0) (r .result) (c .before .before .before .before .before .before .before .before .before .before .if1 .left) refl (r .ensures) (c .before .before .if2 .taken) (c .if3 .left)
+
+same-length-4 : tie.Need-same-length-4
+same-length-4 c = search needs
+
+returns-4 : tie.Need-returns-4
+returns-4 c =
+    let r = c .before .before .before .before .before .read in
+    refused-out (c .before .before .before .before .before .before .before .before .before .before .before .before .args .frame .now) (c .before .before .before .before .before .before .before .before .before .before .before .before .args .coefficients .now) (c .before .before .before .before .before .before .before .before .before .before .before .before .args .vendor .now) _ (r .last .1 .0) (r .last .1 .1 .0) (r .result) (c .before .before .before .before .before .before .before .before .if1 .left) refl (r .ensures) (c .if2 .left)
+
+pub sdsl-frame-read-spec : {M : Type 1} → statement M
+sdsl-frame-read-spec =
+    tie.close
+    (tie.spec
+    returns
+    slice-aggregate-read
+    read-requires
+    slice-aggregate-put-numbers
+    put-numbers-requires
+    same-length
+    same-length-2
+    returns-2
+    same-length-3
+    returns-3
+    same-length-4
+    returns-4)

@@ -1,0 +1,36 @@
+-- `host::frames::sdsl_frame_write` meets its contract.
+use borrow.Author.Needs.{needs}
+use borrow.Author.Tests.{eq-eqb, ne-eqb}
+use mathlib.Core.Path.{_≡_, refl, sym, ap, subst, _∙_}
+use mathlib.Core.List.{List}
+use lib.IntN.{ℤ}
+use Rattle.writer.specs.Promises.{Written}
+use Rattle.host.proofs.frames.sdsl_frame_write.Statement.{statement}
+use Rattle.host.proofs.frames.sdsl_frame_write.Tie as tie
+
+returns : tie.Need-returns
+returns c = record { answered = simp (ne-eqb _ _ (c .if1 .taken)); left = refl }
+
+numbers-requires : tie.Need-numbers-requires
+numbers-requires c κs = search needs
+
+slice-aggregate-write : tie.Need-slice-aggregate-write
+slice-aggregate-write c = search needs
+
+write-requires : tie.Need-write-requires
+write-requires c κs = search needs
+
+same-length : tie.Need-same-length
+same-length c = search needs
+
+returns-2 : tie.Need-returns-2
+returns-2 c =
+    let a = c .before .before .before .before .before .before .before .before .before .before .args in
+    let w = c .before .before .write in
+    let p = subst (λ (cs : List ℤ). Written (a .kind) (a .count) cs (a .a) (a .b) (a .vendor .now) (a .frame .now) (w .result) (w .last .1 .1 .1 .1 .1 .1 .0)) (c .before .before .before .before .before .numbers .ensures) (w .ensures) in
+    record { answered = p .answered ∙ simp (eq-eqb _ _ (c .before .before .before .before .before .before .if1 .left)); left = p .left }
+
+pub sdsl-frame-write-spec : {M : Type 1} → statement M
+sdsl-frame-write-spec =
+    tie.close
+    (tie.spec returns numbers-requires slice-aggregate-write write-requires same-length returns-2)

@@ -1,0 +1,38 @@
+-- What the exported frame functions promise: those of writer and reader, with the coefficients as 720 octets.
+use mathlib.Core.Path.{_≡_}
+use mathlib.Core.Bool.{cond}
+use mathlib.Core.List.{List, [], _∷_}
+use Prim.Native.Nat.{ℕ}
+use Rattle.answer.specs.Answer.{Refusal, wrongLength, answer, held}
+use Rattle.octets.specs.Bits.{bitsOf, octetsOf}
+use Rattle.octets.specs.Signed.{numberBits}
+use Rattle.layout.specs.Frame.{trainingSync, coefficientsOf}
+use Rattle.layout.specs.Refusals.{hasSync, writeRefusals, bitRefusals}
+use Rattle.numbers.specs.Promises.{numbersOf}
+use Rattle.writer.specs.Promises.{frameOctets}
+use Rattle.reader.specs.declared.Found.{Found}
+use Rattle.reader.specs.Promises.{foundOf, vendorOctets}
+use Rattle.host.specs.declared.frames.FrameFields.{FrameFields}
+
+-- sdsl_frame_write: the answer, and the frame written, or as it was
+pub record FrameWritten (kind count : ℕ) (os : List ℕ) (a b : ℕ) (vendor frame : List ℕ) (r : ℕ) (exit : List ℕ) : Type 0 where
+  pub answered : r ≡ answer (wrongLength os 720 ∷ writeRefusals kind count (numbersOf os) a b vendor frame)
+  pub left : exit ≡ held r frame (frameOctets kind count (numbersOf os) a b vendor)
+
+-- reading refuses a wrong length before anything else
+abbrev pub frameReadRefusals : List ℕ → List ℕ → List ℕ → List Refusal
+frameReadRefusals frame os vendor = wrongLength os 720 ∷ wrongLength frame 529 ∷ wrongLength vendor 16 ∷ bitRefusals (bitsOf frame)
+
+-- the same four numbers, as they cross
+abbrev pub fieldsOf : Found → FrameFields
+fieldsOf f = record { answer = f .answer; kind = f .kind; a = f .a; b = f .b }
+
+-- the coefficients' octets after reading: written from a training frame, untouched by a final one
+abbrev pub coefficientOctets : List ℕ → List ℕ → List ℕ
+coefficientOctets bits old = cond (hasSync trainingSync bits) (octetsOf 720 (numberBits 32 (coefficientsOf bits))) old
+
+-- sdsl_frame_read: what is returned, and what the two lent buffers hold
+pub record FrameRead (frame os vendor : List ℕ) (r : FrameFields) (os′ vendor′ : List ℕ) : Type 0 where
+  pub found : r ≡ fieldsOf (foundOf (answer (frameReadRefusals frame os vendor)) (bitsOf frame))
+  pub coefficients-left : os′ ≡ held (answer (frameReadRefusals frame os vendor)) os (coefficientOctets (bitsOf frame) os)
+  pub vendor-left : vendor′ ≡ held (answer (frameReadRefusals frame os vendor)) vendor (vendorOctets (bitsOf frame))

@@ -1,0 +1,76 @@
+// Activation frames for C: coefficients are 720 octets, four each, low octet first.
+ghost use mathlib.Core.Path.{_≡_};
+ghost use Rattle.host.specs.Frames.{FrameWritten, FrameRead};
+ghost use Rattle.reader.specs.Promises.{Checked};
+
+// A coefficient buffer's octets.
+const COEFFICIENT_OCTETS: usize = 720;
+
+// What reading a frame gives.
+#[repr(C)]
+pub struct FrameFields {
+    pub answer: u32,
+    pub kind: u32,
+    pub a: u32,
+    pub b: u32,
+}
+
+// Writes a frame of either kind.
+#[no_mangle]
+pub extern "C" fn sdsl_frame_write(
+    kind: u32,
+    count: u32,
+    coefficients: &[u8],
+    a: u32,
+    b: u32,
+    vendor: &[u8],
+    frame: &mut [u8],
+) -> u32
+    ensures { λ r. ⌜ FrameWritten kind count (now (coefficients .entry)) a b (now (vendor .entry)) (now (frame .entry)) r (now (frame .exit)) ⌝ }
+{
+    if coefficients.len() != COEFFICIENT_OCTETS {
+        return answer::LENGTH;
+    }
+    let cs = numbers::numbers(coefficients);
+    writer::write(kind, count, &cs, a, b, vendor, frame)
+}
+
+// What is wrong with a frame, or 0.
+#[no_mangle]
+pub extern "C" fn sdsl_frame_check(frame: &[u8]) -> u32
+    ensures { λ r. ⌜ Checked (now (frame .entry)) r ⌝ }
+{
+    reader::check(frame)
+}
+
+// Reads a frame: its kind, and into lent memory vendor data and, of a training frame, the coefficients.
+#[no_mangle]
+pub extern "C" fn sdsl_frame_read(
+    frame: &[u8],
+    coefficients: &mut [u8],
+    vendor: &mut [u8],
+) -> FrameFields
+    ensures { λ r. ⌜ FrameRead (now (frame .entry)) (now (coefficients .entry)) (now (vendor .entry)) r (now (coefficients .exit)) (now (vendor .exit)) ⌝ }
+{
+    if coefficients.len() != COEFFICIENT_OCTETS {
+        return FrameFields {
+            answer: answer::LENGTH,
+            kind: 0,
+            a: 0,
+            b: 0,
+        };
+    }
+    let mut cs = [0i32; 180];
+    let found = reader::read(frame, &mut cs, vendor);
+    if found.answer == answer::DONE {
+        if found.kind == layout::TRAINING {
+            numbers::put_numbers(coefficients, &cs);
+        }
+    }
+    FrameFields {
+        answer: found.answer,
+        kind: found.kind,
+        a: found.a,
+        b: found.b,
+    }
+}

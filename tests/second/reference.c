@@ -1,0 +1,916 @@
+/*
+ * reference.c: the second implementation, from document 01's sentences, by the bit and with no tricks.
+ *
+ * Bits are kept one to an array element and numbered from 1, as in the paper: bits[n] is bit n and bits[0] is not used. Refusals stand
+ * in each function in the order of the paper's table. Everything is checked before the first octet of lent memory is written.
+ */
+#include "reference.h"
+
+#include <stdbool.h>
+#include <stdlib.h>
+
+/* ---- Bits and numbers in octets ---- */
+
+/* Bit n has weight 2 to the power (n-1) mod 8 in octet (n-1)/8. */
+static void unpack(const uint8_t *octets, size_t count, uint8_t *bits)
+{
+    for (size_t n = 1; n <= count; n++) {
+        bits[n] = (uint8_t)((octets[(n - 1) / 8] >> ((n - 1) % 8)) % 2);
+    }
+}
+
+/* The other way; only bits 1 to count of the octets change. */
+static void pack(const uint8_t *bits, size_t count, uint8_t *octets)
+{
+    for (size_t n = 1; n <= count; n++) {
+        int weight = 1 << ((n - 1) % 8);
+        int others = octets[(n - 1) / 8] & ~weight;
+        octets[(n - 1) / 8] = (uint8_t)(others + weight * bits[n]);
+    }
+}
+
+/* Number i, from 0, of a buffer of numbers: four octets, low octet first, two's complement. */
+static int64_t number_at(const uint8_t *octets, size_t i)
+{
+    int64_t number = 0;
+    int64_t weight = 1;
+    for (size_t k = 0; k < 4; k++) {
+        number += weight * octets[4 * i + k];
+        weight *= 256;
+    }
+    if (number >= 2147483648) {
+        number -= 4294967296;
+    }
+    return number;
+}
+
+static void put_number(uint8_t *octets, size_t i, int64_t number)
+{
+    if (number < 0) {
+        number += 4294967296;
+    }
+    for (size_t k = 0; k < 4; k++) {
+        octets[4 * i + k] = (uint8_t)(number % 256);
+        number /= 256;
+    }
+}
+
+/* An array of bits (or what else) that the caller frees. */
+static void *room_for(size_t count, size_t size)
+{
+    void *room = calloc(count + 1, size);
+    if (room == NULL) {
+        abort();
+    }
+    return room;
+}
+
+/* ---- The activation frame ---- */
+
+#define FRAME_BITS 4232 /* with the five pad bits */
+#define LAST_BIT 4227
+
+#define FIRST_COEFFICIENT_BIT 15
+#define A_BIT 3975
+#define B_BIT 3996
+#define VENDOR_BIT 4017
+#define RESERVED_BIT 4145
+#define CHECK_BIT 4212
+
+#define MESSAGE_BITS (4211 - 15 + 1)
+
+static const char training_sync[] = "11111001101011";
+static const char final_sync[] = "11010110011111";
+
+/* Writes a number from bit `first` on, least bit first. */
+static void put_field(uint8_t *bits, size_t first, size_t width, int64_t number)
+{
+    for (size_t i = 0; i < width; i++) {
+        bits[first + i] = (uint8_t)(number % 2);
+        number /= 2;
+    }
+}
+
+/* Reads a number from bit `first` on, least bit first. */
+static int64_t get_field(const uint8_t *bits, size_t first, size_t width)
+{
+    int64_t number = 0;
+    int64_t weight = 1;
+    for (size_t i = 0; i < width; i++) {
+        number += weight * bits[first + i];
+        weight *= 2;
+    }
+    return number;
+}
+
+static void put_sync(uint8_t *bits, const char *sync)
+{
+    for (size_t n = 1; n <= 14; n++) {
+        bits[n] = sync[n - 1] == '1';
+    }
+}
+
+static bool has_sync(const uint8_t *bits, const char *sync)
+{
+    for (size_t n = 1; n <= 14; n++) {
+        if (bits[n] != (sync[n - 1] == '1')) {
+            return false;
+        }
+    }
+    return true;
+}
+
+/* Whether bits `first` to `last` are all zero. */
+static bool all_zero(const uint8_t *bits, size_t first, size_t last)
+{
+    for (size_t n = first; n <= last; n++) {
+        if (bits[n] != 0) {
+            return false;
+        }
+    }
+    return true;
+}
+
+/*
+ * Check bits c[1] to c[16] of a frame's bits 15 to 4211, by schoolbook division. rest[0] is the coefficient of the highest power: the
+ * message times D^16 has 16 zeros behind the message.
+ */
+static void divide(const uint8_t *bits, uint8_t *c)
+{
+    /* The divisor's D^16, D^12, D^5 and 1 stand so many places behind the coefficient that they take away. */
+    static const size_t places[4] = {0, 4, 11, 16};
+    uint8_t rest[MESSAGE_BITS + 16] = {0};
+    for (size_t i = 0; i < MESSAGE_BITS; i++) {
+        rest[i] = bits[FIRST_COEFFICIENT_BIT + i];
+    }
+    for (size_t i = 0; i < MESSAGE_BITS; i++) {
+        if (rest[i] == 1) {
+            for (size_t k = 0; k < 4; k++) {
+                rest[i + places[k]] = (uint8_t)(1 - rest[i + places[k]]);
+            }
+        }
+    }
+    for (size_t i = 1; i <= 16; i++) {
+        c[i] = rest[MESSAGE_BITS + i - 1];
+    }
+}
+
+static void put_check_bits(uint8_t *bits)
+{
+    uint8_t c[17];
+    divide(bits, c);
+    for (size_t i = 1; i <= 16; i++) {
+        bits[CHECK_BIT + i - 1] = c[i];
+    }
+}
+
+void ref_put_check_bits(uint8_t *frame)
+{
+    uint8_t bits[FRAME_BITS + 1];
+    unpack(frame, FRAME_BITS, bits);
+    put_check_bits(bits);
+    pack(bits, FRAME_BITS, frame);
+}
+
+uint32_t ref_frame_write(uint32_t kind, uint32_t count,
+                         const uint8_t *coefficients, size_t coefficients_len,
+                         uint32_t a, uint32_t b,
+                         const uint8_t *vendor, size_t vendor_len,
+                         uint8_t *frame, size_t frame_len)
+{
+    if (coefficients_len != 720 || vendor_len != 16 || frame_len != 529) {
+        return SDSL_BAD_LENGTH;
+    }
+    if (kind != SDSL_TRAINING && kind != SDSL_FINAL) {
+        return SDSL_UNKNOWN;
+    }
+    if (kind == SDSL_TRAINING) {
+        if (count < 128 || count > 180) {
+            return SDSL_BAD_COUNT;
+        }
+        for (size_t i = 0; i < count; i++) {
+            int64_t number = number_at(coefficients, i);
+            if (number < -2097152 || number > 2097151) {
+                return SDSL_OUT_OF_RANGE;
+            }
+        }
+        if (a > 2097151 || b > 2097151) {
+            return SDSL_OUT_OF_RANGE;
+        }
+    }
+
+    uint8_t bits[FRAME_BITS + 1] = {0};
+    put_sync(bits, kind == SDSL_TRAINING ? training_sync : final_sync);
+    if (kind == SDSL_TRAINING) {
+        for (size_t i = 0; i < count; i++) {
+            int64_t number = number_at(coefficients, i);
+            if (number < 0) {
+                number += 4194304;
+            }
+            put_field(bits, FIRST_COEFFICIENT_BIT + 22 * i, 22, number);
+        }
+        put_field(bits, A_BIT, 21, a);
+        put_field(bits, B_BIT, 21, b);
+    }
+    unpack(vendor, 128, bits + VENDOR_BIT - 1);
+    put_check_bits(bits);
+    pack(bits, FRAME_BITS, frame);
+    return SDSL_DONE;
+}
+
+/* Refusals 5 to 8 of a frame of the right length, and its kind. */
+static uint32_t judge(const uint8_t *bits, uint32_t *kind)
+{
+    if (!has_sync(bits, training_sync) && !has_sync(bits, final_sync)) {
+        return SDSL_NO_SYNC;
+    }
+    *kind = has_sync(bits, training_sync) ? SDSL_TRAINING : SDSL_FINAL;
+    if (!all_zero(bits, LAST_BIT + 1, FRAME_BITS)) {
+        return SDSL_BAD_PAD;
+    }
+    uint8_t c[17];
+    divide(bits, c);
+    for (size_t i = 1; i <= 16; i++) {
+        if (bits[CHECK_BIT + i - 1] != c[i]) {
+            return SDSL_BAD_CHECK;
+        }
+    }
+    if (*kind == SDSL_TRAINING && !all_zero(bits, RESERVED_BIT, CHECK_BIT - 1)) {
+        return SDSL_RESERVED;
+    }
+    return SDSL_DONE;
+}
+
+struct sdsl_frame_fields ref_frame_read(const uint8_t *frame, size_t frame_len,
+                                        uint8_t *coefficients, size_t coefficients_len,
+                                        uint8_t *vendor, size_t vendor_len)
+{
+    struct sdsl_frame_fields fields = {0, 0, 0, 0};
+    if (frame_len != 529 || coefficients_len != 720 || vendor_len != 16) {
+        fields.answer = SDSL_BAD_LENGTH;
+        return fields;
+    }
+    uint8_t bits[FRAME_BITS + 1];
+    uint32_t kind = 0;
+    unpack(frame, FRAME_BITS, bits);
+    fields.answer = judge(bits, &kind);
+    if (fields.answer != SDSL_DONE) {
+        return fields;
+    }
+
+    fields.kind = kind;
+    pack(bits + VENDOR_BIT - 1, 128, vendor);
+    if (kind == SDSL_TRAINING) {
+        for (size_t i = 0; i < 180; i++) {
+            int64_t number = get_field(bits, FIRST_COEFFICIENT_BIT + 22 * i, 22);
+            if (number >= 2097152) {
+                number -= 4194304;
+            }
+            put_number(coefficients, i, number);
+        }
+        fields.a = (uint32_t)get_field(bits, A_BIT, 21);
+        fields.b = (uint32_t)get_field(bits, B_BIT, 21);
+    }
+    return fields;
+}
+
+uint32_t ref_frame_check(const uint8_t *frame, size_t frame_len)
+{
+    if (frame_len != 529) {
+        return SDSL_BAD_LENGTH;
+    }
+    uint8_t bits[FRAME_BITS + 1];
+    uint32_t kind = 0;
+    unpack(frame, FRAME_BITS, bits);
+    return judge(bits, &kind);
+}
+
+/* ---- The scrambler ---- */
+
+/*
+ * The scrambled bits of a run stand in one array together with the 23 before it: s(n) is s[22 + n]. So s(0), the newest before the run,
+ * is s[22], and s(-22), the oldest that is needed, is s[0].
+ */
+
+static size_t tap_of(uint32_t end)
+{
+    return end == SDSL_LTU ? 5 : 18;
+}
+
+/* A state holds the last 23 scrambled bits, newest at weight 1. */
+static void recall(uint32_t state, uint8_t *s)
+{
+    for (size_t back = 0; back <= 22; back++) {
+        s[22 - back] = (uint8_t)(state % 2);
+        state /= 2;
+    }
+}
+
+static uint32_t state_after(const uint8_t *s, size_t n)
+{
+    uint32_t state = 0;
+    uint32_t weight = 1;
+    for (size_t back = 0; back <= 22; back++) {
+        state += weight * s[22 + n - back];
+        weight *= 2;
+    }
+    return state;
+}
+
+/* f[1] to f[count] in; out[1] to out[count] and the next state back. */
+static uint32_t scramble_bits(uint32_t end, uint32_t state, const uint8_t *f, size_t count, uint8_t *out)
+{
+    size_t tap = tap_of(end);
+    uint8_t *s = room_for(23 + count, 1);
+    recall(state, s);
+    for (size_t n = 1; n <= count; n++) {
+        s[22 + n] = (uint8_t)((f[n] + s[22 + n - tap] + s[22 + n - 23]) % 2);
+        out[n] = s[22 + n];
+    }
+    uint32_t next = state_after(s, count);
+    free(s);
+    return next;
+}
+
+/* The received bits are the scrambled ones. */
+static uint32_t descramble_bits(uint32_t end, uint32_t state, const uint8_t *received, size_t count, uint8_t *out)
+{
+    size_t tap = tap_of(end);
+    uint8_t *s = room_for(23 + count, 1);
+    recall(state, s);
+    for (size_t n = 1; n <= count; n++) {
+        s[22 + n] = received[n];
+    }
+    for (size_t n = 1; n <= count; n++) {
+        out[n] = (uint8_t)((s[22 + n] + s[22 + n - tap] + s[22 + n - 23]) % 2);
+    }
+    uint32_t next = state_after(s, count);
+    free(s);
+    return next;
+}
+
+/* Refusals 2 and 4, or 0. */
+static uint32_t judge_scrambler(uint32_t end, uint32_t state)
+{
+    if (end != SDSL_LTU && end != SDSL_NTU) {
+        return SDSL_UNKNOWN;
+    }
+    return state >= 8388608 ? SDSL_OUT_OF_RANGE : SDSL_DONE;
+}
+
+typedef uint32_t bits_run(uint32_t end, uint32_t state, const uint8_t *in, size_t count, uint8_t *out);
+
+static struct sdsl_scrambled run_octets(bits_run *run, uint32_t end, uint32_t state,
+                                        const uint8_t *in, size_t in_len, size_t bits,
+                                        uint8_t *out, size_t out_len)
+{
+    struct sdsl_scrambled result = {0, state};
+    size_t whole_octets = bits / 8;
+    size_t octets_needed = bits % 8 == 0 ? whole_octets : whole_octets + 1;
+    if (in_len != out_len || octets_needed > in_len) {
+        result.answer = SDSL_BAD_LENGTH;
+        return result;
+    }
+    result.answer = judge_scrambler(end, state);
+    if (result.answer != SDSL_DONE) {
+        return result;
+    }
+    uint8_t *in_bits = room_for(bits, 1);
+    uint8_t *out_bits = room_for(bits, 1);
+    unpack(in, bits, in_bits);
+    result.state = run(end, state, in_bits, bits, out_bits);
+    pack(out_bits, bits, out);
+    free(in_bits);
+    free(out_bits);
+    return result;
+}
+
+static struct sdsl_scrambled run_frame(bits_run *run, uint32_t end, uint32_t state,
+                                       const uint8_t *in, size_t in_len,
+                                       uint8_t *out, size_t out_len)
+{
+    struct sdsl_scrambled result = {0, state};
+    if (in_len != 529 || out_len != 529) {
+        result.answer = SDSL_BAD_LENGTH;
+        return result;
+    }
+    result.answer = judge_scrambler(end, state);
+    if (result.answer != SDSL_DONE) {
+        return result;
+    }
+    uint8_t in_bits[FRAME_BITS + 1];
+    uint8_t out_bits[FRAME_BITS + 1] = {0};
+    unpack(in, FRAME_BITS, in_bits);
+    if (!all_zero(in_bits, LAST_BIT + 1, FRAME_BITS)) {
+        result.answer = SDSL_BAD_PAD;
+        return result;
+    }
+    /* The sync bits pass straight through; the run begins behind them. */
+    size_t straight = 14;
+    for (size_t n = 1; n <= straight; n++) {
+        out_bits[n] = in_bits[n];
+    }
+    result.state = run(end, state, in_bits + straight, LAST_BIT - straight, out_bits + straight);
+    pack(out_bits, FRAME_BITS, out);
+    return result;
+}
+
+struct sdsl_scrambled ref_scramble(uint32_t end, uint32_t state,
+                                   const uint8_t *in, size_t in_len, size_t bits,
+                                   uint8_t *out, size_t out_len)
+{
+    return run_octets(scramble_bits, end, state, in, in_len, bits, out, out_len);
+}
+
+struct sdsl_scrambled ref_descramble(uint32_t end, uint32_t state,
+                                     const uint8_t *in, size_t in_len, size_t bits,
+                                     uint8_t *out, size_t out_len)
+{
+    return run_octets(descramble_bits, end, state, in, in_len, bits, out, out_len);
+}
+
+struct sdsl_scrambled ref_scramble_frame(uint32_t end, uint32_t state,
+                                         const uint8_t *in, size_t in_len,
+                                         uint8_t *out, size_t out_len)
+{
+    return run_frame(scramble_bits, end, state, in, in_len, out, out_len);
+}
+
+struct sdsl_scrambled ref_descramble_frame(uint32_t end, uint32_t state,
+                                           const uint8_t *in, size_t in_len,
+                                           uint8_t *out, size_t out_len)
+{
+    return run_frame(descramble_bits, end, state, in, in_len, out, out_len);
+}
+
+/* ---- Symbols ---- */
+
+/* Place n is the level of the code Y3 Y2 Y1 Y0 that is n as a number. */
+static const int32_t level_of_code[16] = {
+    -15, -13, -11, -9, -7, -5, -3, -1, /* 0000 to 0111 */
+    9, 11, 13, 15,                     /* 1000 to 1011 */
+    1, 3, 5, 7,                        /* 1100 to 1111 */
+};
+
+struct sdsl_level ref_activation_level(uint32_t bit)
+{
+    struct sdsl_level result = {0, 0};
+    if (bit > 1) {
+        result.answer = SDSL_OUT_OF_RANGE;
+        return result;
+    }
+    result.sixteenths = bit == 1 ? 9 : -9;
+    return result;
+}
+
+struct sdsl_level ref_data_level(uint32_t code)
+{
+    struct sdsl_level result = {0, 0};
+    if (code > 15) {
+        result.answer = SDSL_OUT_OF_RANGE;
+        return result;
+    }
+    result.sixteenths = level_of_code[code];
+    return result;
+}
+
+struct sdsl_code ref_level_code(int32_t sixteenths)
+{
+    struct sdsl_code result = {SDSL_OUT_OF_RANGE, 0};
+    for (uint32_t code = 0; code < 16; code++) {
+        if (level_of_code[code] == sixteenths) {
+            result.answer = SDSL_DONE;
+            result.code = code;
+        }
+    }
+    return result;
+}
+
+/*
+ * Encodes symbols, keeping the list of all X1. The 20 before the run come from the register: x1[0] is the oldest, x1[19] the newest
+ * before the run, and x1[20 + m] that of symbol m. codes[m] is Y3 Y2 Y1 Y0 as a number. The register after the run comes back.
+ */
+static uint32_t encode_all(uint32_t a, uint32_t b, uint32_t reg, const uint8_t *symbols, size_t count, uint8_t *codes)
+{
+    uint8_t *x1 = room_for(20 + count, 1);
+    for (size_t back = 0; back < 20; back++) {
+        x1[19 - back] = (uint8_t)(reg % 2);
+        reg /= 2;
+    }
+    for (size_t m = 0; m < count; m++) {
+        uint8_t x2 = symbols[m] / 2 % 2;
+        uint8_t x3 = symbols[m] % 2;
+        x1[20 + m] = symbols[m] / 4;
+        /* a0 meets the current X1, a20 the oldest */
+        int left_by_a = 0;
+        int left_by_b = 0;
+        uint32_t a_rest = a;
+        uint32_t b_rest = b;
+        for (size_t i = 0; i <= 20; i++) {
+            if (a_rest % 2 == 1 && x1[20 + m - i] == 1) {
+                left_by_a++;
+            }
+            if (b_rest % 2 == 1 && x1[20 + m - i] == 1) {
+                left_by_b++;
+            }
+            a_rest /= 2;
+            b_rest /= 2;
+        }
+        codes[m] = (uint8_t)(8 * x3 + 4 * x2 + 2 * (left_by_a % 2) + left_by_b % 2);
+    }
+    uint32_t after = 0;
+    uint32_t weight = 1;
+    for (size_t back = 0; back < 20; back++) {
+        after += weight * x1[20 + count - 1 - back];
+        weight *= 2;
+    }
+    free(x1);
+    return after;
+}
+
+struct sdsl_encoded ref_encode(uint32_t a, uint32_t b, uint32_t reg, uint32_t symbol)
+{
+    struct sdsl_encoded result = {0, 0, 0, reg};
+    if (symbol > 7 || a > 2097151 || b > 2097151 || reg >= 1048576) {
+        result.answer = SDSL_OUT_OF_RANGE;
+        return result;
+    }
+    uint8_t one_symbol = (uint8_t)symbol;
+    uint8_t code = 0;
+    result.reg = encode_all(a, b, reg, &one_symbol, 1, &code);
+    result.code = code;
+    result.sixteenths = level_of_code[code];
+    return result;
+}
+
+struct sdsl_encoded_run ref_encode_run(uint32_t a, uint32_t b, uint32_t reg,
+                                       const uint8_t *symbols, size_t symbols_len,
+                                       uint8_t *codes, size_t codes_len)
+{
+    struct sdsl_encoded_run result = {0, reg};
+    if (symbols_len != codes_len) {
+        result.answer = SDSL_BAD_LENGTH;
+        return result;
+    }
+    if (a > 2097151 || b > 2097151 || reg >= 1048576) {
+        result.answer = SDSL_OUT_OF_RANGE;
+        return result;
+    }
+    for (size_t m = 0; m < symbols_len; m++) {
+        if (symbols[m] > 7) {
+            result.answer = SDSL_OUT_OF_RANGE;
+            return result;
+        }
+    }
+    result.reg = encode_all(a, b, reg, symbols, symbols_len, codes);
+    return result;
+}
+
+/* ---- The precoder ---- */
+
+/*
+ * v: S/131,072 rounded to the nearest whole number, halves upward. That is the highest whole number that is not above S/131,072 + 1/2;
+ * it is looked for from far below in steps that are halved. |S| is at most 180 * 2^21 * 2^17, so v lies within 2^29.
+ */
+static int64_t rounded(int64_t sum)
+{
+    int64_t v = -536870912;
+    for (int64_t step = 536870912; step >= 1; step /= 2) {
+        int64_t higher = v + step;
+        if (2 * 131072 * higher <= 2 * sum + 131072) {
+            v = higher;
+        }
+    }
+    return v;
+}
+
+/* The one number from -131,072 to 131,071 that is a whole number of times 262,144 away. */
+static int64_t brought_into_range(int64_t u)
+{
+    while (u > 131071) {
+        u -= 262144;
+    }
+    while (u < -131072) {
+        u += 262144;
+    }
+    return u;
+}
+
+/* Whether all numbers of a buffer lie within the two ends. */
+static bool all_within(const uint8_t *octets, size_t len, int64_t lowest, int64_t highest)
+{
+    for (size_t i = 0; i < len / 4; i++) {
+        int64_t number = number_at(octets, i);
+        if (number < lowest || number > highest) {
+            return false;
+        }
+    }
+    return true;
+}
+
+/*
+ * Both ends of the line. The precoder is given x and finds y = x - v brought into range; the receiving end is given y and finds
+ * x = y + v brought into range. Both keep the list of all y: y[0] to y[179] are those before the run, the newest last.
+ */
+static uint32_t run_precoder(bool receiving, const uint8_t *coefficients, size_t coefficients_len,
+                             uint8_t *history, size_t history_len,
+                             const uint8_t *given, size_t given_len,
+                             uint8_t *found, size_t found_len)
+{
+    if (coefficients_len != 720 || history_len != 720 || given_len != found_len || given_len % 4 != 0) {
+        return SDSL_BAD_LENGTH;
+    }
+    if (!all_within(coefficients, 720, -2097152, 2097151) || !all_within(history, 720, -131072, 131071)
+        || !all_within(given, given_len, -131072, 131071)) {
+        return SDSL_OUT_OF_RANGE;
+    }
+    size_t count = given_len / 4;
+    int64_t c[181];
+    for (size_t k = 1; k <= 180; k++) {
+        c[k] = number_at(coefficients, k - 1);
+    }
+    int64_t *y = room_for(180 + count, sizeof *y);
+    for (size_t k = 1; k <= 180; k++) {
+        y[180 - k] = number_at(history, k - 1);
+    }
+    for (size_t m = 180; m < 180 + count; m++) {
+        int64_t sum = 0;
+        for (size_t k = 1; k <= 180; k++) {
+            sum += c[k] * y[m - k];
+        }
+        int64_t v = rounded(sum);
+        int64_t number = number_at(given, m - 180);
+        if (receiving) {
+            y[m] = number;
+            put_number(found, m - 180, brought_into_range(number + v));
+        } else {
+            y[m] = brought_into_range(number - v);
+            put_number(found, m - 180, y[m]);
+        }
+    }
+    for (size_t k = 1; k <= 180; k++) {
+        put_number(history, k - 1, y[180 + count - k]);
+    }
+    free(y);
+    return SDSL_DONE;
+}
+
+uint32_t ref_precode(const uint8_t *coefficients, size_t coefficients_len,
+                     uint8_t *history, size_t history_len,
+                     const uint8_t *xs, size_t xs_len,
+                     uint8_t *ys, size_t ys_len)
+{
+    return run_precoder(false, coefficients, coefficients_len, history, history_len, xs, xs_len, ys, ys_len);
+}
+
+uint32_t ref_decode(const uint8_t *coefficients, size_t coefficients_len,
+                    uint8_t *history, size_t history_len,
+                    const uint8_t *ys, size_t ys_len,
+                    uint8_t *xs, size_t xs_len)
+{
+    return run_precoder(true, coefficients, coefficients_len, history, history_len, ys, ys_len, xs, xs_len);
+}
+
+/* y has at most 18 bits, so the float holds it exactly, and each halving is exact. */
+struct sdsl_shaped ref_shaper(int32_t y)
+{
+    struct sdsl_shaped result = {0, 0.0f};
+    if (y < -131072 || y > 131071) {
+        result.answer = SDSL_OUT_OF_RANGE;
+        return result;
+    }
+    result.value = (float)y;
+    for (int halvings = 0; halvings < 17; halvings++) {
+        result.value /= 2.0f;
+    }
+    return result;
+}
+
+/* ---- The start-up supervisor ---- */
+
+static bool is_phase_of(uint32_t end, uint32_t phase)
+{
+    switch (phase) {
+    case SDSL_READY:
+    case SDSL_QUIET:
+    case SDSL_SETTLING:
+    case SDSL_VALID:
+    case SDSL_EXCEPTION:
+        return true;
+    case SDSL_GAP:
+    case SDSL_CR:
+    case SDSL_SR:
+    case SDSL_TR:
+        return end == SDSL_NTU;
+    case SDSL_AWAIT:
+    case SDSL_HEARING:
+    case SDSL_SC:
+    case SDSL_TC:
+    case SDSL_FC:
+        return end == SDSL_LTU;
+    default:
+        return false;
+    }
+}
+
+/* An attempt opens on entering C_r or Hearing and ends on entering Settling or Exception. */
+static bool is_in_attempt(uint32_t phase)
+{
+    return phase == SDSL_CR || phase == SDSL_HEARING || phase == SDSL_QUIET || phase == SDSL_SR || phase == SDSL_TR
+           || phase == SDSL_SC || phase == SDSL_TC || phase == SDSL_FC;
+}
+
+/*
+ * A change of phase. Phase ticks start at 0; marks count only from here on; the attempt's ticks go on within an attempt, start at 0 when
+ * it opens, and are 0 outside; the silence is kept.
+ */
+static struct sdsl_supervisor enter(struct sdsl_supervisor s, uint32_t phase)
+{
+    s.phase = phase;
+    s.ticks = 0;
+    s.converged = 0;
+    s.seen = 0;
+    if (phase == SDSL_CR || phase == SDSL_HEARING || !is_in_attempt(phase)) {
+        s.attempt = 0;
+    }
+    return s;
+}
+
+/*
+ * The phase by now: the following one if the phase's ticks, and its marks where it has any, are what it lasts until; else the same.
+ * What a single report ends is in `take`.
+ */
+static uint32_t phase_by_now(struct sdsl_supervisor s)
+{
+    switch (s.phase) {
+    case SDSL_GAP:
+        return s.ticks >= 300 ? SDSL_CR : s.phase;
+    case SDSL_CR:
+        return s.ticks >= 1000 ? SDSL_QUIET : s.phase;
+    case SDSL_QUIET:
+        if (s.end == SDSL_NTU) {
+            return s.ticks >= 1500 ? SDSL_SR : s.phase;
+        }
+        return s.ticks >= 500 ? SDSL_SC : s.phase;
+    case SDSL_SR:
+        return s.converged != 0 && s.seen != 0 ? SDSL_TR : s.phase;
+    case SDSL_SC:
+        return s.ticks >= 5000 && s.converged != 0 ? SDSL_TC : s.phase;
+    case SDSL_SETTLING:
+        return s.ticks >= 1000 ? SDSL_VALID : s.phase;
+    case SDSL_EXCEPTION:
+        return s.ticks >= s.silence ? SDSL_READY : s.phase;
+    default:
+        return s.phase;
+    }
+}
+
+static struct sdsl_supervisor go_on(struct sdsl_supervisor s)
+{
+    uint32_t phase = phase_by_now(s);
+    return phase == s.phase ? s : enter(s, phase);
+}
+
+static struct sdsl_supervisor tick(struct sdsl_supervisor s)
+{
+    if (s.phase == SDSL_READY || s.phase == SDSL_AWAIT || s.phase == SDSL_VALID) {
+        return s;
+    }
+    s.ticks++;
+    if (is_in_attempt(s.phase)) {
+        s.attempt++;
+        if (s.attempt >= 15000) {
+            return enter(s, SDSL_EXCEPTION);
+        }
+    }
+    s = go_on(s);
+    if (s.ticks > 59999) {
+        s.ticks = 59999;
+    }
+    return s;
+}
+
+/* One code from 0 to 8 on a state in its ranges. */
+static struct sdsl_supervisor take(struct sdsl_supervisor s, uint32_t code)
+{
+    switch (code) {
+    case SDSL_TICK:
+        return tick(s);
+    case SDSL_PRE_ACTIVATION_ENDED:
+        if (s.phase == SDSL_READY) {
+            return enter(s, s.end == SDSL_NTU ? SDSL_GAP : SDSL_AWAIT);
+        }
+        return s;
+    case SDSL_CR_BEGINS:
+        return s.phase == SDSL_AWAIT ? enter(s, SDSL_HEARING) : s;
+    case SDSL_CR_ENDED:
+        return s.phase == SDSL_HEARING ? enter(s, SDSL_QUIET) : s;
+    case SDSL_CONVERGED:
+        if (s.phase == SDSL_SR || s.phase == SDSL_SC) {
+            s.converged = 1;
+            return go_on(s);
+        }
+        return s;
+    case SDSL_TC_SEEN:
+        if (s.phase == SDSL_SR) {
+            s.seen = 1;
+            return go_on(s);
+        }
+        return s;
+    case SDSL_TR_SEEN:
+        return s.phase == SDSL_TC ? enter(s, SDSL_FC) : s;
+    case SDSL_SECOND_FC_OVER:
+        return s.phase == SDSL_TR || s.phase == SDSL_FC ? enter(s, SDSL_SETTLING) : s;
+    default: /* 8, abnormal */
+        if (s.phase == SDSL_EXCEPTION) {
+            s.ticks = 0; /* the silence again; the phase does not change */
+            return s;
+        }
+        return enter(s, SDSL_EXCEPTION);
+    }
+}
+
+/* Refusals of a state: 2 or 4, or 0. */
+static uint32_t judge_state(struct sdsl_supervisor s)
+{
+    if (s.end != SDSL_LTU && s.end != SDSL_NTU) {
+        return SDSL_UNKNOWN;
+    }
+    if (!is_phase_of(s.end, s.phase) || s.attempt > 14999 || s.ticks > 59999 || s.silence < 2000 || s.silence > 60000) {
+        return SDSL_OUT_OF_RANGE;
+    }
+    return SDSL_DONE;
+}
+
+struct sdsl_stepped ref_start(uint32_t end, uint32_t silence)
+{
+    struct sdsl_stepped result = {0, 0, 0, {0, 0, 0, 0, 0, 0, 0}};
+    if (end != SDSL_LTU && end != SDSL_NTU) {
+        result.answer = SDSL_UNKNOWN;
+        return result;
+    }
+    if (silence == 0) {
+        silence = 2000;
+    }
+    if (silence < 2000 || silence > 60000) {
+        result.answer = SDSL_OUT_OF_RANGE;
+        return result;
+    }
+    result.phase = SDSL_READY;
+    result.state.end = end;
+    result.state.phase = SDSL_READY;
+    result.state.silence = silence;
+    return result;
+}
+
+struct sdsl_stepped ref_step(struct sdsl_supervisor state, uint32_t code)
+{
+    struct sdsl_stepped result = {0, 0, 0, state};
+    if (code > 8) {
+        result.answer = SDSL_UNKNOWN;
+        return result;
+    }
+    result.answer = judge_state(state);
+    if (result.answer != SDSL_DONE) {
+        return result;
+    }
+    result.state = take(state, code);
+    result.phase = result.state.phase;
+    if (is_in_attempt(result.phase)) {
+        result.attempt = result.state.attempt;
+    }
+    return result;
+}
+
+struct sdsl_run ref_run_codes(struct sdsl_supervisor state, const uint8_t *codes, size_t codes_len)
+{
+    struct sdsl_run result = {0, 0, 0, SDSL_NONE_OPENED, 0, state};
+    result.answer = judge_state(state);
+    if (result.answer != SDSL_DONE) {
+        return result;
+    }
+    for (size_t place = 0; place < codes_len; place++) {
+        if (codes[place] > 8) {
+            continue;
+        }
+        uint32_t before = state.phase;
+        state = take(state, codes[place]);
+        if (state.phase == before) {
+            continue;
+        }
+        if (state.phase == SDSL_CR || state.phase == SDSL_HEARING) {
+            result.opened++;
+            result.opened_at = place;
+            result.ended = SDSL_STILL_OPEN;
+            result.ended_at = 0;
+        } else if (result.ended == SDSL_STILL_OPEN && state.phase == SDSL_SETTLING) {
+            result.ended = SDSL_IN_DATA_MODE;
+            result.ended_at = place;
+        } else if (result.ended == SDSL_STILL_OPEN && state.phase == SDSL_EXCEPTION) {
+            result.ended = SDSL_IN_EXCEPTION;
+            result.ended_at = place;
+        }
+    }
+    result.state = state;
+    return result;
+}

@@ -1,0 +1,65 @@
+/*
+ * reference.h: the second implementation of everything that sdsl.h exports.
+ *
+ * Written from document 01 (and the ETSI text it names) alone, by the bit, with no line shared with the library. Each function has the
+ * signature of its namesake in sdsl.h.
+ */
+#ifndef REFERENCE_H
+#define REFERENCE_H
+
+#include "sdsl.h"
+
+/* The activation frame. */
+uint32_t ref_frame_write(uint32_t kind, uint32_t count,
+                         const uint8_t *coefficients, size_t coefficients_len,
+                         uint32_t a, uint32_t b,
+                         const uint8_t *vendor, size_t vendor_len,
+                         uint8_t *frame, size_t frame_len);
+struct sdsl_frame_fields ref_frame_read(const uint8_t *frame, size_t frame_len,
+                                        uint8_t *coefficients, size_t coefficients_len,
+                                        uint8_t *vendor, size_t vendor_len);
+uint32_t ref_frame_check(const uint8_t *frame, size_t frame_len);
+
+/* The scrambler. */
+struct sdsl_scrambled ref_scramble(uint32_t end, uint32_t state,
+                                   const uint8_t *in, size_t in_len, size_t bits,
+                                   uint8_t *out, size_t out_len);
+struct sdsl_scrambled ref_descramble(uint32_t end, uint32_t state,
+                                     const uint8_t *in, size_t in_len, size_t bits,
+                                     uint8_t *out, size_t out_len);
+struct sdsl_scrambled ref_scramble_frame(uint32_t end, uint32_t state,
+                                         const uint8_t *in, size_t in_len,
+                                         uint8_t *out, size_t out_len);
+struct sdsl_scrambled ref_descramble_frame(uint32_t end, uint32_t state,
+                                           const uint8_t *in, size_t in_len,
+                                           uint8_t *out, size_t out_len);
+
+/* Symbols. */
+struct sdsl_level ref_activation_level(uint32_t bit);
+struct sdsl_level ref_data_level(uint32_t code);
+struct sdsl_code ref_level_code(int32_t sixteenths);
+struct sdsl_encoded ref_encode(uint32_t a, uint32_t b, uint32_t reg, uint32_t symbol);
+struct sdsl_encoded_run ref_encode_run(uint32_t a, uint32_t b, uint32_t reg,
+                                       const uint8_t *symbols, size_t symbols_len,
+                                       uint8_t *codes, size_t codes_len);
+uint32_t ref_precode(const uint8_t *coefficients, size_t coefficients_len,
+                     uint8_t *history, size_t history_len,
+                     const uint8_t *xs, size_t xs_len,
+                     uint8_t *ys, size_t ys_len);
+uint32_t ref_decode(const uint8_t *coefficients, size_t coefficients_len,
+                    uint8_t *history, size_t history_len,
+                    const uint8_t *ys, size_t ys_len,
+                    uint8_t *xs, size_t xs_len);
+struct sdsl_shaped ref_shaper(int32_t y);
+
+/* The start-up supervisor. */
+struct sdsl_stepped ref_start(uint32_t end, uint32_t silence);
+struct sdsl_stepped ref_step(struct sdsl_supervisor state, uint32_t code);
+struct sdsl_run ref_run_codes(struct sdsl_supervisor state, const uint8_t *codes, size_t codes_len);
+
+/*
+ * For the driver only, no namesake in sdsl.h: puts the right check bits into 529 octets, whatever else they hold.
+ */
+void ref_put_check_bits(uint8_t *frame);
+
+#endif

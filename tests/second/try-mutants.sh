@@ -1,0 +1,144 @@
+#!/bin/bash
+# try-mutants.sh [include-directory [scale]]: shows that the driver notices.
+#
+# The driver is built once with reference.c as it is. Then, for each mutant, a copy of reference.c with one line changed by sed (ref_...
+# renamed to mut_...) stands in for the library behind mock.c. Each mutant has to make the driver end with status 1; the mock with no
+# change has to make it end with 0. (A mutant that makes it crash is caught too.) The scale is the driver's second argument. Status 0
+# only if all of that holds.
+set -u
+include=$(cd "${1:-$(dirname "$0")/../../include}" && pwd) || exit 2
+cd "$(dirname "$0")" || exit 2
+scale=${2:-0.1}
+cc=${CC:-gcc}
+flags="-std=c11 -Wall -Wextra -Wconversion -Werror -O2 -I$include"
+
+work=$(mktemp -d) || exit 2
+trap 'rm -rf "$work"' EXIT
+
+for file in second harness second_frame second_scrambler second_symbols second_startup bylist reference; do
+    $cc $flags -c "$file.c" -o "$work/$file.o" || exit 2
+done
+sed 's/\bref_/mut_/g' reference.h > "$work/mutant.h"
+sed 's/\bref_/mut_/g; s/"reference.h"/"mutant.h"/' mock.c > "$work/mock.c"
+$cc $flags -I"$work" -c "$work/mock.c" -o "$work/mock.o" || exit 2
+
+tried=0
+missed=0
+
+# build LINES SED...: the driver against the changed copy. Fails if not exactly so many lines changed.
+build() {
+    local lines=$1
+    shift
+    sed "$@" reference.c > "$work/changed.c"
+    local changed
+    changed=$(diff reference.c "$work/changed.c" | grep -c '^[<]')
+    if [ "$changed" -ne "$lines" ]; then
+        echo "  $changed lines changed, not $lines"
+        return 1
+    fi
+    sed 's/\bref_/mut_/g; s/"reference.h"/"mutant.h"/' "$work/changed.c" > "$work/mutant.c"
+    # a mutant may leave something unused, so no warnings here
+    $cc -std=c11 -w -O2 -I"$include" -I"$work" "$work/mutant.c" "$work"/*.o -o "$work/driver"
+}
+
+# mutant TEXT SED...: one line changed (or two where TEXT says so).
+mutant() {
+    local text=$1 lines=1
+    shift
+    case $text in *"(two lines)"*) lines=2 ;; esac
+    tried=$((tried + 1))
+    if ! build "$lines" "$@"; then
+        echo "BROKEN  $text"
+        missed=$((missed + 1))
+        return
+    fi
+    ("$work/driver" 0x5eed "$scale") > "$work/output" 2> "$work/errors"
+    local status=$?
+    if [ $status -eq 1 ]; then
+        printf 'caught  %-60s %s\n' "$text" "$(tail -n 1 "$work/output" | sed 's/ (seed.*//; s/.*comparisons, //')"
+        sed -n 's/^  \(.*[^ ]\)  *\([0-9]*\), \([0-9]*\) differ$/            \1: \3 of \2/p' "$work/output"
+    elif [ $status -gt 128 ]; then
+        printf 'caught  %-60s %s\n' "$text" "the driver crashes"
+    else
+        echo "MISSED  $text"
+        missed=$((missed + 1))
+    fi
+}
+
+if ! build 0 -e '' || ! "$work/driver" 0x5eed "$scale" > "$work/output"; then
+    echo "the mock with no change already differs:"
+    cat "$work/output"
+    exit 1
+fi
+echo "no change: $(tail -n 1 "$work/output")"
+
+echo "-- frame"
+mutant "A and B read last bit first" -e '/^static int64_t get_field/,/^}/s/bits\[first + i\]/bits[first + (width == 21 ? 20 - i : i)]/'
+mutant "A and B written last bit first" -e '/^static void put_field/,/^}/s/bits\[first + i\]/bits[first + (width == 21 ? 20 - i : i)]/'
+mutant "a coefficient's sign lost" -e 's/^                number -= 4194304;$/                number -= 0;/'
+mutant "checks in another order: pad before sync" -e '/^static uint32_t judge(/,/^}/s/^    if (!has_sync(bits, training_sync).*/    if (!all_zero(bits, 4228, 4232)) return SDSL_BAD_PAD; else &/'
+mutant "checks in another order: reserved before check bits" -e '/^static uint32_t judge(/,/^}/s/^    divide(bits, c);/    if (*kind == SDSL_TRAINING \&\& !all_zero(bits, 4145, 4211)) return SDSL_RESERVED; else divide(bits, c);/'
+mutant "checks in another order: kind before lengths" -e '/^uint32_t ref_frame_write/,/^}/s/^    if (coefficients_len/    if (kind > 1) return SDSL_UNKNOWN; else if (coefficients_len/'
+mutant "checks in another order: numbers before count" -e 's/^        if (count < 128 || count > 180) {/        if (a > 2097151) return SDSL_OUT_OF_RANGE; else if (count < 128 || count > 180) {/'
+mutant "pad not checked" -e '/^static uint32_t judge(/,/^}/s/LAST_BIT + 1, FRAME_BITS/LAST_BIT + 2, FRAME_BITS/'
+mutant "reserved bits of a final frame checked" -e 's/^    if (\*kind == SDSL_TRAINING && !all_zero(bits, RESERVED_BIT/    if (!all_zero(bits, RESERVED_BIT/'
+mutant "reserved bits not checked to the last" -e 's/all_zero(bits, RESERVED_BIT, CHECK_BIT - 1)/all_zero(bits, RESERVED_BIT, CHECK_BIT - 2)/'
+mutant "another divisor" -e 's/places\[4\] = {0, 4, 11, 16}/places[4] = {0, 4, 12, 16}/'
+mutant "c1 taken as the coefficient of 1" -e 's/^        c\[i\] = rest\[MESSAGE_BITS + i - 1\];/        c[i] = rest[MESSAGE_BITS + 16 - i];/'
+mutant "unused coefficients written, not zero" -e '/^    uint8_t bits\[FRAME_BITS + 1\] = {0};/,/^}/s/for (size_t i = 0; i < count; i++)/for (size_t i = 0; i < 180; i++)/'
+mutant "a final frame writes coefficients" -e 's/^    fields.kind = kind;/    fields.kind = kind; if (kind == SDSL_FINAL) coefficients[719] = 0;/'
+mutant "kind taken as one octet" -e '/^uint32_t ref_frame_write/,/^}/s/^    if (kind != SDSL_TRAINING && kind != SDSL_FINAL) {/    kind %= 256; if (kind != SDSL_TRAINING \&\& kind != SDSL_FINAL) {/'
+mutant "one octet too many written" -e '/^uint32_t ref_frame_write/,/^}/s/^    pack(bits, FRAME_BITS, frame);/    pack(bits, FRAME_BITS, frame); frame[529] ^= 1;/'
+mutant "a const buffer written" -e '/^uint32_t ref_frame_write/,/^}/s/^    put_check_bits(bits);/    put_check_bits(bits); ((uint8_t *)vendor)[15] ^= 128;/'
+mutant "vendor data written before a refusal" -e '/^struct sdsl_frame_fields ref_frame_read/,/^}/s/^    fields.answer = judge(bits, &kind);/    fields.answer = judge(bits, \&kind); pack(bits + 4016, 128, vendor);/'
+
+echo "-- scrambler"
+mutant "taps exchanged" -e 's/end == SDSL_LTU ? 5 : 18/end == SDSL_LTU ? 18 : 5/'
+mutant "scrambler clocked through the sync bits" -e 's/^    size_t straight = 14;/    size_t straight = 0;/'
+mutant "pad of a scrambled frame not checked" -e '/^static struct sdsl_scrambled run_frame/,/^}/s/if (!all_zero(in_bits, LAST_BIT + 1, FRAME_BITS))/if (false)/'
+mutant "checks in another order: end before lengths" -e '/^static struct sdsl_scrambled run_octets/,/^}/s/^    if (in_len != out_len/    if (end > 1) result.answer = SDSL_UNKNOWN; else if (in_len != out_len/'
+mutant "checks in another order: state before end" -e '/^static uint32_t judge_scrambler/,/^}/s/^    if (end != SDSL_LTU/    if (state >= 8388608) return SDSL_OUT_OF_RANGE; else if (end != SDSL_LTU/'
+mutant "the count of octets runs over" -e 's/^    size_t octets_needed = .*/    size_t octets_needed = (bits + 7) \/ 8;/'
+mutant "bits past the count cleared" -e '/^static struct sdsl_scrambled run_octets/,/^}/s/^    pack(out_bits, bits, out);/    if (bits % 8) out[bits \/ 8] = 0; pack(out_bits, bits, out);/'
+mutant "a refused call hands back 0 as the state" -e '/^static struct sdsl_scrambled run_octets/,/^}/s/^    struct sdsl_scrambled result = {0, state};/    struct sdsl_scrambled result = {0, 0};/'
+mutant "right for the first bit, the rest copied" -e '/^static uint32_t scramble_bits/,/^}/s/^        out\[n\] = s\[22 + n\];/        out[n] = n == 1 ? s[22 + n] : f[n];/'
+mutant "descrambling keeps a plain bit in the state" -e '/^static uint32_t descramble_bits/,/^}/s/state_after(s, count)/state_after(s, count) ^ (count > 0 ? out[count] ^ s[22 + count] : 0)/'
+
+echo "-- symbols"
+mutant "codes 8 to 15 rising in order" -e 's/^    9, 11, 13, 15,  .*/    1, 3, 5, 7, 9, 11, 13, 15,/'
+mutant "A and B exchanged" -e 's/2 \* (left_by_a % 2) + left_by_b % 2/2 * (left_by_b % 2) + left_by_a % 2/'
+mutant "the oldest X1 not masked by a20" -e 's/^        x1\[20 + m\] = symbols\[m\] \/ 4;/        x1[20 + m] = symbols[m] \/ 4; a \&= 1048575;/'
+mutant "v cut toward zero" -e '/^static int64_t rounded/,/^}/s/^    return v;/    return sum \/ 131072;/'
+mutant "halves downward" -e 's/2 \* 131072 \* higher <= 2 \* sum + 131072/2 * 131072 * higher < 2 * sum + 131072/'
+mutant "y allowed to be +131,072" -e 's/^    while (u > 131071) {/    while (u > 131072) {/'
+mutant "u = x + v" -e 's/brought_into_range(number - v)/brought_into_range(number + v)/'
+mutant "history not moved on" -e 's/put_number(history, k - 1, y\[180 + count - k\])/put_number(history, k - 1, y[180 - k])/'
+mutant "the 180th coefficient left out" -e '/^        int64_t sum = 0;/,/^        }/s/k <= 180/k < 180/'
+mutant "a range checked one too wide" -e 's/!all_within(history, 720, -131072, 131071)/!all_within(history, 720, -131072, 131072)/'
+mutant "a symbol of 8 taken" -e 's/^        if (symbols\[m\] > 7) {/        if (symbols[m] > 8) {/'
+mutant "the float of y / 131,071" -e '/^struct sdsl_shaped ref_shaper/,/^}/s/^    result.value = (float)y;/    result.value = (float)y * 131072.0f \/ 131071.0f;/'
+
+echo "-- startup"
+mutant "report 4 heard before S_c or S_r and remembered (two lines)" -e '/^static struct sdsl_supervisor enter(/,/^}/s/^    s.converged = 0;/    s.converged = phase == SDSL_SC || phase == SDSL_SR ? s.converged : 0;/' -e 's/^        if (s.phase == SDSL_SR || s.phase == SDSL_SC) {/        if (s.phase == SDSL_SR || s.phase == SDSL_SC || s.phase == SDSL_QUIET) {/'
+mutant "marks handed in before S_c or S_r kept" -e '/^static struct sdsl_supervisor enter(/,/^}/s/^    s.converged = 0;/    s.converged = phase == SDSL_SC || phase == SDSL_SR ? s.converged : 0;/'
+mutant "the 15,000th tick loses to the end of a phase" -e 's/^        if (s.attempt >= 15000) {/        if (s.attempt >= 15000 \&\& phase_by_now(s) == s.phase) {/'
+mutant "an exception only at tick 15,001" -e 's/^        if (s.attempt >= 15000) {/        if (s.attempt > 15000) {/'
+mutant "7 taken before 6" -e 's/^        return s.phase == SDSL_TR || s.phase == SDSL_FC ? /        return s.phase == SDSL_TR || s.phase == SDSL_FC || s.phase == SDSL_TC ? /'
+mutant "the silence not started again" -e 's/^            s.ticks = 0; .*/            ;/'
+mutant "Gap one tick longer" -e 's/s.ticks >= 300 ?/s.ticks > 300 ?/'
+mutant "the LTU's Quiet as long as the NTU's" -e 's/s.ticks >= 500 ?/s.ticks >= 1500 ?/'
+mutant "S_c ends without 4" -e 's/s.ticks >= 5000 && s.converged != 0 ?/s.ticks >= 5000 ?/'
+mutant "S_r ends with 4 or 5" -e 's/s.converged != 0 && s.seen != 0 ?/s.converged != 0 || s.seen != 0 ?/'
+mutant "only 1 is heard as a mark" -e 's/s.converged != 0 && s.seen != 0 ?/s.converged == 1 \&\& s.seen == 1 ?/'
+mutant "8 not heard in Valid" -e '/^    default: \/\* 8, abnormal/,/^}/s/^        if (s.phase == SDSL_EXCEPTION) {/        if (s.phase == SDSL_VALID) return s; else if (s.phase == SDSL_EXCEPTION) {/'
+mutant "the longest silence never over" -e '/^static struct sdsl_supervisor tick/,/^}/s/^    s.ticks++;/    s.ticks += s.ticks < 59999;/'
+mutant "phase ticks not held at 59,999" -e 's/^        s.ticks = 59999;/        ;/'
+mutant "a stray attempt count answered outside an attempt" -e '/^struct sdsl_stepped ref_step/,/^}/s/^    if (is_in_attempt(result.phase)) {/    {/'
+mutant "a silence of 60,001 taken" -e '/^struct sdsl_stepped ref_start/,/^}/s/silence > 60000/silence > 60001/'
+mutant "a code over 8 answered with 4 where the state is bad" -e '/^struct sdsl_stepped ref_step/,/^}/s/^    if (code > 8) {/    if (code > 8 \&\& judge_state(state) != SDSL_OUT_OF_RANGE) {/'
+mutant "a run stops at a code over 8" -e '/^struct sdsl_run ref_run_codes/,/^}/s/^        if (codes\[place\] > 8) {/        if (codes[place] > 8) { break;/'
+mutant "a run counts the end of an attempt opened before it" -e 's/^        } else if (result.ended == SDSL_STILL_OPEN && state.phase == SDSL_EXCEPTION) {/        } else if (result.ended < SDSL_IN_DATA_MODE \&\& state.phase == SDSL_EXCEPTION) {/'
+mutant "places not counted over skipped codes" -e '/^struct sdsl_run ref_run_codes/,/^}/s/^            result.opened_at = place;/            for (size_t i = result.opened_at = place; i > 0; i--) result.opened_at -= codes[i - 1] > 8;/'
+
+echo "$tried mutants, $((tried - missed)) caught"
+[ "$missed" -eq 0 ]
