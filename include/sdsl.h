@@ -217,22 +217,22 @@ enum sdsl_code_report {
     SDSL_ABNORMAL = 8
 };
 
-/* Phases. */
+/* Phases, in the order of a start-up. In an attempt the phase is one of SDSL_CR to SDSL_FC. */
 enum sdsl_phase {
     SDSL_READY = 0,
     SDSL_GAP = 1,       /* NTU: 300 ticks before C_r */
-    SDSL_CR = 2,        /* NTU: sends C_r; an attempt opens on entering it */
-    SDSL_QUIET = 3,
-    SDSL_SR = 4,        /* NTU */
-    SDSL_TR = 5,        /* NTU */
-    SDSL_SETTLING = 6,  /* data mode has begun */
-    SDSL_VALID = 7,
-    SDSL_EXCEPTION = 8,
-    SDSL_AWAIT = 9,     /* LTU: waits for C_r */
-    SDSL_HEARING = 10,  /* LTU: hears C_r; an attempt opens on entering it */
-    SDSL_SC = 11,       /* LTU */
-    SDSL_TC = 12,       /* LTU */
-    SDSL_FC = 13        /* LTU */
+    SDSL_AWAIT = 2,     /* LTU: waits for C_r */
+    SDSL_CR = 3,        /* NTU: sends C_r, 1,000 ticks; an attempt opens on entering it */
+    SDSL_HEARING = 4,   /* LTU: hears C_r; an attempt opens on entering it */
+    SDSL_QUIET = 5,     /* NTU 1,500 ticks, LTU 500 */
+    SDSL_SC = 6,        /* LTU: until it has lasted 5,000 ticks and its receiver has converged */
+    SDSL_SR = 7,        /* NTU: until its receiver has converged and T_c was seen */
+    SDSL_TC = 8,        /* LTU: until T_r is seen */
+    SDSL_TR = 9,        /* NTU: until the second F_c frame is over */
+    SDSL_FC = 10,       /* LTU: until the second F_c frame is over */
+    SDSL_SETTLING = 11, /* data mode has begun; 1,000 ticks */
+    SDSL_VALID = 12,    /* payload is valid */
+    SDSL_EXCEPTION = 13 /* silent; then Ready */
 };
 
 /* A supervisor's state: keep it, hand it back, change nothing in it. */
@@ -269,7 +269,7 @@ enum sdsl_ended { SDSL_NONE_OPENED = 0, SDSL_STILL_OPEN = 1, SDSL_IN_DATA_MODE =
 /* What a run over a list of codes gives. Places count from 0 in the list. */
 struct sdsl_run {
     uint32_t answer;
-    uint32_t opened;    /* how many attempts opened in it */
+    uint64_t opened;    /* how many attempts opened in it */
     uint64_t opened_at; /* the place of the code that opened the last one; 0 where none opened */
     uint32_t ended;     /* enum sdsl_ended, of the last one */
     uint64_t ended_at;  /* the place of the code that ended it; 0 where none did */

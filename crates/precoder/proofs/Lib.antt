@@ -1,0 +1,7 @@
+pub mod Products
+pub mod Signals
+pub mod Quads
+pub mod Turns
+pub mod Back
+pub mod One
+pub mod Order

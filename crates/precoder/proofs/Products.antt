@@ -1,0 +1,65 @@
+-- Laws of the sum of products: nothing that the code adds up leaves an i64. Assumes nothing.
+use mathlib.Core.Path.{_≡_, refl}
+use mathlib.Core.Bool.{true}
+use mathlib.Core.List.{List}
+use Prim.Native.Nat.{ℕ, zero, suc, _+_, _*_, _≤_}
+use native.Mathlib.Nat.{mul-le-mul}
+use native.Mathlib.Omega.{arith}
+use lib.IntN.{ℤ, pos, negsuc, negℤ, natAbs, _+ℤ_, _*ℤ_}
+use lib.ListN.{getD}
+use lib.Signed.{mag}
+use mir.Syntax.{w32, w64}
+use mir.Val.{SFits}
+use mir.Facts.{sfits-widen}
+use Rattle.signal.specs.Signal.{isSignal, isCoefficient, every}
+use Rattle.precoder.specs.Precoder.{exactSum}
+use Rattle.signal.proofs.Linear.{abs-is, abs-of, add-bal}
+use Rattle.signal.proofs.Rounding.{abs-fits}
+use Rattle.signal.proofs.Range.{mag-at}
+
+neg-abs : (n : ℕ) → natAbs (negℤ (pos n)) ≡ n
+neg-abs zero = refl
+neg-abs (suc n) = refl
+
+mul-abs : (a b : ℤ) → natAbs (a *ℤ b) ≡ natAbs a * natAbs b
+mul-abs (pos a) (pos b) = refl
+mul-abs (pos a) (negsuc b) = neg-abs (a * suc b)
+mul-abs (negsuc a) (pos b) = neg-abs (suc a * b)
+mul-abs (negsuc a) (negsuc b) = refl
+
+add-abs : (a b : ℤ) → natAbs (a +ℤ b) ≤ natAbs a + natAbs b
+add-abs a b =
+    abs-of (a +ℤ b) (natAbs a + natAbs b) (omega (arith, add-bal a b, abs-is a, abs-is b))
+    (omega (arith, add-bal a b, abs-is a, abs-is b))
+
+abs-mag : (z : ℤ) → natAbs z ≤ suc (mag z)
+abs-mag (pos n) = omega arith
+abs-mag (negsuc n) = omega arith
+
+-- the product of two i32 fits an i64
+pub product-fits : (a b : ℤ) → SFits w32 a → SFits w32 b → SFits w64 (a *ℤ b)
+product-fits a b f g =
+    let p : natAbs a ≤ 2147483648 = omega (arith, abs-mag a, f .sfits) in
+    let q : natAbs b ≤ 2147483648 = omega (arith, abs-mag b, g .sfits) in
+    let bound : natAbs a * natAbs b ≤ 2147483648 * 2147483648 = mul-le-mul p q in
+    abs-fits (a *ℤ b) (omega (arith, mul-abs a b, bound))
+
+-- an i32 that was widened is the number that it was
+pub wide-fits : (z : ℤ) → SFits w32 z → SFits w64 z
+wide-fits z f = sfits-widen tt f
+
+module _ (coefficients past : List ℤ) (hc : every isCoefficient coefficients ≡ true) (hp : every isSignal past ≡ true) where
+  term-abs : (k : ℕ) → natAbs (getD coefficients k (pos 0) *ℤ getD past k (pos 0)) ≤ 2097152 * 131072
+  term-abs k =
+      let c : natAbs (getD coefficients k (pos 0)) ≤ 2097152 = omega (arith, abs-mag (getD coefficients k (pos 0)), mag-at 2097151 coefficients k hc) in
+      let y : natAbs (getD past k (pos 0)) ≤ 131072 = omega (arith, abs-mag (getD past k (pos 0)), mag-at 131071 past k hp) in
+      rw (mul-abs (getD coefficients k (pos 0)) (getD past k (pos 0))) (mul-le-mul c y)
+
+  pub sum-abs : (k : ℕ) → natAbs (exactSum k coefficients past) ≤ 274877906944 * k
+  unfolding exactSum
+  sum-abs zero = omega arith
+  sum-abs (suc k) =
+      omega (arith, sum-abs k, term-abs k, add-abs (exactSum k coefficients past) (getD coefficients k (pos 0) *ℤ getD past k (pos 0)))
+
+  pub sum-fits : (k : ℕ) → k ≤ 180 → SFits w64 (exactSum k coefficients past)
+  sum-fits k h = abs-fits (exactSum k coefficients past) (omega (arith, sum-abs k))

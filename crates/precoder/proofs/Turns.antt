@@ -1,0 +1,106 @@
+-- Laws of runs: what one turn adds, in both directions. Assumes nothing.
+use mathlib.Core.Path.{_≡_, sym, ap, _∙_}
+use mathlib.Core.Bool.{Bool, true, _&&_}
+use mathlib.Core.List.{List, [], _∷_, _++_, append-assoc, append-nil}
+use Prim.Native.Nat.{ℕ, suc, _+_, _*_, _%_, _≤_}
+use native.Mathlib.Omega.{arith}
+use borrow.Author.Tests.{eqb-true}
+use lib.Dec.{eqb}
+use lib.IntN.{ℤ}
+use lib.ListN.{length, take, drop}
+use lib.Seq.{take-all, length-take-le}
+use Rattle.precoder.specs.Octets.{valueAt, valuesOf, octetsOf}
+use Rattle.signal.specs.Signal.{isSignal, isCoefficient, every, pastAfter}
+use Rattle.precoder.specs.Precoder.{outputOf, inputOf}
+use Rattle.precoder.specs.Runs.{pastAfterAll, outputsOf, inputsOf, lengthsRight, rangesRight}
+use Rattle.signal.proofs.Range.{and-true}
+use Rattle.precoder.proofs.Quads.{quad-next, quad-end, written-next, octets-append}
+
+-- ---- the checks
+
+pub lengths-are : (coefficients history symbols room : List ℕ) → lengthsRight coefficients history symbols room ≡ true
+    → (length coefficients ≡ 720) × (length history ≡ 720) × (length symbols % 4 ≡ 0) × (length room ≡ length symbols)
+lengths-are coefficients history symbols room e =
+    let p = and-true (eqb (length coefficients) 720) (eqb (length history) 720 && (eqb (length symbols % 4) 0 && eqb (length room) (length symbols))) e in
+    let q = and-true (eqb (length history) 720) (eqb (length symbols % 4) 0 && eqb (length room) (length symbols)) (p .1) in
+    let r = and-true (eqb (length symbols % 4) 0) (eqb (length room) (length symbols)) (q .1) in
+    (eqb-true _ _ (p .0), eqb-true _ _ (q .0), eqb-true _ _ (r .0), eqb-true _ _ (r .1))
+
+pub ranges-are : (coefficients past symbols : List ℤ) → rangesRight coefficients past symbols ≡ true
+    → (every isCoefficient coefficients ≡ true) × (every isSignal past ≡ true) × (every isSignal symbols ≡ true)
+ranges-are coefficients past symbols e =
+    let p = and-true (every isCoefficient coefficients) (every isSignal past && every isSignal symbols) e in
+    let q = and-true (every isSignal past) (every isSignal symbols) (p .1) in
+    (p .0, q .0, q .1)
+
+-- a past keeps its 180 outputs
+pub past-length : (past ys : List ℤ) → length past ≡ 180 → length (pastAfterAll past ys) ≡ 180
+unfolding pastAfterAll
+past-length past [] h = h
+past-length past (y ∷ ys) h = past-length (pastAfter past y) ys (ap suc (length-take-le 179 past (omega arith)))
+
+-- ---- a turn
+
+-- what remains begins with number i
+pub remains : (test : ℤ → Bool) (symbols : List ℕ) (i : ℕ) → 4 * i + 4 ≤ length symbols
+    → every test (valuesOf (drop (4 * i) symbols)) ≡ (test (valueAt symbols (4 * i)) && every test (valuesOf (drop (4 * (i + 1)) symbols)))
+unfolding every
+remains test symbols i h = ap (every test) (quad-next symbols i h)
+
+-- number i, written, is the first of what remained
+pub written-turn : (room : List ℕ) (i : ℕ) (z : ℤ) (rest : List ℤ) → 4 * i + 4 ≤ length room
+    → take (4 * (i + 1)) (take (4 * i) room ++ octetsOf (z ∷ []) ++ drop (4 * i + 4) room) ++ octetsOf rest ≡ take (4 * i) room ++ octetsOf (z ∷ rest)
+written-turn room i z rest h =
+    ap (λ (a : List ℕ). a ++ octetsOf rest) (written-next room i z h)
+    ∙ append-assoc (take (4 * i) room) (octetsOf (z ∷ [])) (octetsOf rest)
+    ∙ ap (λ (a : List ℕ). take (4 * i) room ++ a) (sym (octets-append (z ∷ []) rest))
+
+-- with nothing left, all is written
+pub written-end : (room : List ℕ) (i : ℕ) (rest : List ℤ) → length room ≤ 4 * i → rest ≡ [] → take (4 * i) room ++ octetsOf rest ≡ room
+unfolding octetsOf
+written-end room i rest h e =
+    ap (λ (z : List ℤ). take (4 * i) room ++ octetsOf z) e ∙ append-nil (take (4 * i) room) ∙ take-all (4 * i) room h
+
+module _ (coefficients past : List ℤ) (symbols : List ℕ) (i : ℕ) (h : 4 * i + 4 ≤ length symbols) where
+  abbrev symbol : ℤ
+  symbol = valueAt symbols (4 * i)
+
+  abbrev others : List ℤ
+  others = valuesOf (drop (4 * (i + 1)) symbols)
+
+  abbrev y : ℤ
+  y = outputOf coefficients past symbol
+
+  pub outputs-turn : outputsOf coefficients past (valuesOf (drop (4 * i) symbols)) ≡ y ∷ outputsOf coefficients (pastAfter past y) others
+  unfolding outputsOf
+  outputs-turn = ap (outputsOf coefficients past) (quad-next symbols i h)
+
+  pub inputs-turn : inputsOf coefficients past (valuesOf (drop (4 * i) symbols)) ≡ inputOf coefficients past symbol ∷ inputsOf coefficients (pastAfter past symbol) others
+  unfolding inputsOf
+  inputs-turn = ap (inputsOf coefficients past) (quad-next symbols i h)
+
+  pub past-out-turn : pastAfterAll past (outputsOf coefficients past (valuesOf (drop (4 * i) symbols))) ≡ pastAfterAll (pastAfter past y) (outputsOf coefficients (pastAfter past y) others)
+  unfolding pastAfterAll
+  past-out-turn = ap (pastAfterAll past) outputs-turn
+
+  pub past-in-turn : pastAfterAll past (valuesOf (drop (4 * i) symbols)) ≡ pastAfterAll (pastAfter past symbol) others
+  unfolding pastAfterAll
+  past-in-turn = ap (pastAfterAll past) (quad-next symbols i h)
+
+-- with nothing left, nothing more happens
+module _ (coefficients past : List ℤ) (symbols : List ℕ) (i : ℕ) (h : length symbols ≤ 4 * i) where
+  pub outputs-end : outputsOf coefficients past (valuesOf (drop (4 * i) symbols)) ≡ []
+  unfolding outputsOf
+  outputs-end = ap (outputsOf coefficients past) (quad-end symbols i h)
+
+  pub inputs-end : inputsOf coefficients past (valuesOf (drop (4 * i) symbols)) ≡ []
+  unfolding inputsOf
+  inputs-end = ap (inputsOf coefficients past) (quad-end symbols i h)
+
+  pub past-out-end : pastAfterAll past (outputsOf coefficients past (valuesOf (drop (4 * i) symbols))) ≡ past
+  unfolding pastAfterAll
+  past-out-end = ap (pastAfterAll past) outputs-end
+
+  pub past-in-end : pastAfterAll past (valuesOf (drop (4 * i) symbols)) ≡ past
+  unfolding pastAfterAll
+  past-in-end = ap (pastAfterAll past) (quad-end symbols i h)

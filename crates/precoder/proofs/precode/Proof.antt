@@ -1,0 +1,54 @@
+-- `precoder::precode` meets its contract. Assumes nothing.
+use borrow.Author.Needs.{needs}
+use mathlib.Core.Path.{_≡_, refl, sym, ap, _∙_}
+use lib.IntN.{ℤ, pos}
+use mir.Syntax.{w32}
+use mir.Val.{SFits}
+use mir.Facts.{toZ-ofZ}
+use Rattle.answer.specs.Answer.{answer}
+use Rattle.answer.proofs.Laws.{kept}
+use Rattle.signal.specs.Signal.{pastAfter}
+use Rattle.precoder.specs.Precoder.{symbolTests}
+use Rattle.precoder.proofs.Signals.{all-in, refused-is}
+use Rattle.precoder.proofs.precode.Statement.{statement}
+use Rattle.precoder.proofs.precode.Tie as tie
+
+module _ (c : tie.After-checked) where
+  abbrev refusal : _≡_ (c .checked .result) (answer (symbolTests (c .before .before .args .coefficients .now) (c .before .before .args .history .now) (c .before .before .args .x)))
+  refusal = c .checked .ensures ∙ ap (λ (z : ℤ). answer (symbolTests (c .before .before .args .coefficients .now) (c .before .before .args .history .now) z)) (toZ-ofZ (c .before .before .fits .x))
+
+none-refused : (c : tie.Else1) → answer (symbolTests (c .before .before .before .args .coefficients .now) (c .before .before .before .args .history .now) (c .before .before .before .args .x)) ≡ 0
+none-refused c = sym (refusal (c .before)) ∙ c .if1 .left
+
+checked-requires : tie.Need-checked-requires
+checked-requires c κs = search needs
+
+returns : tie.Need-returns
+returns c =
+    let a = c .before .before .before .args in
+    record {
+      answered = refusal (c .before);
+      y = refused-is (c .before .checked .result) _ _ (c .if1 .taken) refl;
+      history = sym (kept (c .before .checked .result) (a .history .now) (pastAfter (a .history .now) (pos 0)) (c .if1 .taken));
+    }
+
+send-requires : tie.Need-send-requires
+send-requires c κs =
+    let s = c .before .before .before .before in
+    let a = all-in (s .args .coefficients .now) (s .args .history .now) (s .args .x) (none-refused (c .before)) in
+    (a .1, a .2)
+
+returns-2 : tie.Need-returns-2
+returns-2 c =
+    let s = c .before .before .before .before .before in
+    let fits : SFits w32 (c .send .result) = record { sfits = c .send .ok } in
+    let e = rw (toZ-ofZ (s .fits .x)) at (c .send .ensures) in
+    rw (toZ-ofZ fits)
+    (record {
+      answered = sym (none-refused (c .before .before));
+      y = e .0;
+      history = e .1;
+    })
+
+pub precode-spec : {M : Type 1} → statement M
+precode-spec = tie.close (tie.spec checked-requires returns send-requires returns-2)

@@ -1,0 +1,130 @@
+-- `precoder::send_all` meets its contract. The invariant: what is done, with the definition on what remains, is the definition on all.
+-- Assumes nothing.
+use mathlib.Core.Path.{_≡_, refl, sym, ap, _∙_}
+use mathlib.Core.Bool.{true}
+use mathlib.Core.List.{List, _++_}
+use Prim.Native.Nat.{ℕ, _+_, _*_, _-_, _≤_}
+use native.Mathlib.Omega.{arith}
+use lib.IntN.{ℤ}
+use lib.ListN.{length, take, drop}
+use mir.Syntax.{w32}
+use mir.Val.{SFits, toZ, ofZ}
+use mir.Facts.{toZ-ofZ}
+use Rattle.precoder.specs.Octets.{valueAt, valuesOf, octetsOf}
+use Rattle.signal.specs.Signal.{isSignal, isCoefficient, every, pastAfter}
+use Rattle.precoder.specs.Precoder.{outputOf}
+use Rattle.precoder.specs.Runs.{pastAfterAll, outputsOf}
+use Rattle.precoder.proofs.Quads.{written-length}
+use Rattle.precoder.proofs.Signals.{output-is, sends-output, past-in}
+use Rattle.precoder.proofs.Turns.{ranges-are, written-turn, written-end, outputs-turn, past-out-turn, outputs-end, past-out-end}
+use Rattle.precoder.proofs.send_all.Statement.{statement}
+use Rattle.precoder.proofs.send_all.Tie as tie
+
+abbrev Inv-loop : tie.InvT-loop
+Inv-loop coefficients history₀ xs ys₀ count i₀ history ys i =
+    (4 * i ≤ length xs) × (length ys ≡ length ys₀) × (every isSignal history ≡ true)
+    × (take (4 * i) ys ++ octetsOf (outputsOf coefficients history (valuesOf (drop (4 * i) xs))) ≡ octetsOf (outputsOf coefficients history₀ (valuesOf xs)))
+    × (pastAfterAll history (outputsOf coefficients history (valuesOf (drop (4 * i) xs))) ≡ pastAfterAll history₀ (outputsOf coefficients history₀ (valuesOf xs)))
+
+abbrev μ-loop : tie.MeasureT-loop
+μ-loop coefficients history₀ xs ys₀ count i₀ history ys i = count - i
+
+loop-holds : tie.Need-loop-holds Inv-loop μ-loop
+loop-holds c =
+    let s = c .before .before in
+    let r = ranges-are (s .args .coefficients .now) (s .args .history .now) (valuesOf (s .args .xs .now)) (s .pre .0) in
+    (omega arith, refl, r .1, refl, refl)
+
+word-requires : tie.Need-word-requires Inv-loop μ-loop
+word-requires c κs = omega arith
+
+module _ (c : tie.After-word Inv-loop μ-loop) where
+  abbrev coefficients : List ℤ
+  coefficients = c .before .before .before .before .before .args .coefficients .now
+
+  abbrev xs : List ℕ
+  xs = c .before .before .before .before .before .args .xs .now
+
+  abbrev past : List ℤ
+  past = c .before .before .loop .history
+
+  abbrev at : ℕ
+  at = c .before .before .loop .i
+
+  room : 4 * at + 4 ≤ length xs
+  room = omega (arith, c .before .loop-test .taken)
+
+  in-range : every isCoefficient coefficients ≡ true
+  in-range = ranges-are coefficients (c .before .before .before .before .before .args .history .now) (valuesOf xs) (c .before .before .before .before .before .pre .0) .0
+
+  fits : SFits w32 (c .word .result)
+  fits = record { sfits = c .word .ok }
+
+  -- the symbol is number i
+  read : toZ w32 (ofZ w32 (c .word .result)) ≡ valueAt xs (4 * at)
+  read = toZ-ofZ fits ∙ c .word .ensures
+
+send-requires : tie.Need-send-requires Inv-loop μ-loop
+send-requires c κs = (in-range (c .before), c .before .before .before .loop .inv .2)
+
+put-word-requires : tie.Need-put-word-requires Inv-loop μ-loop
+put-word-requires c κs = let w = c .before .before .before in let s = w .before .before .before .before .before in omega (arith, room w, w .before .before .loop .inv .1, s .pre .2)
+
+add-i : tie.Need-add-i Inv-loop μ-loop
+add-i c = let w = c .before .before .before .before .before .before in omega (arith, room w, w .before .before .before .before .before .good)
+
+loop-less : tie.Need-loop-less Inv-loop μ-loop
+loop-less c = omega (arith, c .before .before .before .before .before .before .before .loop-test .taken)
+
+loop-again : tie.Need-loop-again Inv-loop μ-loop
+loop-again c =
+    let w = c .before .before .before .before .before .before in
+    let l = w .before .before .loop in
+    let out = c .before .before .before .before .send in
+    let x = valueAt (xs w) (4 * at w) in
+    let y = outputOf (coefficients w) (past w) x in
+    let fit : SFits w32 (out .result) = record { sfits = out .ok } in
+    let e = rw (read w) at (out .ensures) in
+    let is = output-is (coefficients w) (past w) x (out .result) (e .0) in
+    let p = rw (toZ-ofZ fit, is) at (c .before .before .put-word .ensures) in
+    let q = rw is at (e .1) in
+    let fits-room : 4 * at w + 4 ≤ length (l .ys) = omega (arith, room w, l .inv .1, w .before .before .before .before .before .pre .2) in
+    rw (p, q)
+    ((
+      omega (arith, room w),
+      written-length (l .ys) (at w) y fits-room ∙ l .inv .1,
+      past-in (past w) y (l .inv .2) (sends-output (coefficients w) (past w) x .folds .signal),
+      written-turn (l .ys) (at w) y (outputsOf (coefficients w) (pastAfter (past w) y) (valuesOf (drop (4 * (at w + 1)) (xs w)))) fits-room
+          ∙ ap (λ (r : List ℤ). take (4 * at w) (l .ys) ++ octetsOf r) (sym (outputs-turn (coefficients w) (past w) (xs w) (at w) (room w))) ∙ l .inv .3,
+      sym (past-out-turn (coefficients w) (past w) (xs w) (at w) (room w)) ∙ l .inv .4,
+    ))
+
+same-length : tie.Need-same-length Inv-loop μ-loop
+same-length c = c .before .loop .inv .1
+
+returns : tie.Need-returns Inv-loop μ-loop
+returns c =
+    let l = c .before .loop in
+    let s = c .before .before .before .before in
+    let a = s .args in
+    let over : length (a .xs .now) ≤ 4 * l .i = omega (arith, c .loop-test .left, s .pre .1) in
+    let full : length (l .ys) ≤ 4 * l .i = omega (arith, over, l .inv .1, s .pre .2) in (
+      sym (written-end (l .ys) (l .i) _ full (outputs-end (a .coefficients .now) (l .history) (a .xs .now) (l .i) over)) ∙ l .inv .3,
+      sym (past-out-end (a .coefficients .now) (l .history) (a .xs .now) (l .i) over) ∙ l .inv .4,
+    )
+
+pub send-all-spec : {M : Type 1} → statement M
+send-all-spec =
+    tie.close
+    (tie.spec
+    Inv-loop
+    μ-loop
+    loop-holds
+    word-requires
+    send-requires
+    put-word-requires
+    add-i
+    loop-less
+    loop-again
+    same-length
+    returns)

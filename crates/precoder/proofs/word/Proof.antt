@@ -1,0 +1,104 @@
+-- `precoder::word` meets its contract. Assumes nothing.
+use borrow.Author.Needs.{needs}
+use mathlib.Core.Path.{_≡_, ap, _∙_}
+use Prim.Native.Nat.{_+_, _*_}
+use lib.ListN.{getD}
+use native.Mathlib.Omega.{arith}
+use mir.Facts.{toZ-ofZ}
+use Rattle.precoder.specs.Octets.{signed}
+use Rattle.precoder.proofs.word.Statement.{statement}
+use Rattle.precoder.proofs.word.Tie as tie
+
+mul-at : tie.Need-mul-at
+mul-at c = search needs
+
+shared-slice-read-wide : tie.Need-shared-slice-read-wide
+shared-slice-read-wide c = search needs
+
+wide-requires : tie.Need-wide-requires
+wide-requires c κs = search needs
+
+add-wide : tie.Need-add-wide
+add-wide c = search needs
+
+shared-slice-read-wide-2 : tie.Need-shared-slice-read-wide-2
+shared-slice-read-wide-2 c = search needs
+
+wide-requires-2 : tie.Need-wide-requires-2
+wide-requires-2 c κs = search needs
+
+mul-low : tie.Need-mul-low
+mul-low c = search needs
+
+add-low : tie.Need-add-low
+add-low c = search needs
+
+add-wide-2 : tie.Need-add-wide-2
+add-wide-2 c = search needs
+
+shared-slice-read-wide-3 : tie.Need-shared-slice-read-wide-3
+shared-slice-read-wide-3 c = search needs
+
+wide-requires-3 : tie.Need-wide-requires-3
+wide-requires-3 c κs = search needs
+
+mul-high : tie.Need-mul-high
+mul-high c = search needs
+
+add-wide-3 : tie.Need-add-wide-3
+add-wide-3 c = search needs
+
+shared-slice-read-wide-4 : tie.Need-shared-slice-read-wide-4
+shared-slice-read-wide-4 c = search needs
+
+wide-requires-4 : tie.Need-wide-requires-4
+wide-requires-4 c κs = search needs
+
+mul-high-2 : tie.Need-mul-high-2
+mul-high-2 c = search needs
+
+add-high : tie.Need-add-high
+add-high c = search needs
+
+add-to-signed : tie.Need-add-to-signed
+add-to-signed c = search needs
+
+to-signed-requires : tie.Need-to-signed-requires
+to-signed-requires c κs = search needs
+
+returns : tie.Need-returns
+returns c =
+    let os = c .before .before .before .before .before .before .before .before .before .before .args .octets .now in
+    let at = 4 * c .before .before .before .before .before .before .before .before .before .before .args .i in
+    let o = c .before .before .before .before .before .before .before .wide in
+    let p = c .before .before .before .before .before .wide2 in
+    let q = c .before .before .before .wide3 in
+    let r = c .before .wide4 in
+    let e : o .result + p .result * 256 + (q .result * 65536 + r .result * 16777216) ≡ getD os at 0 + 256 * getD os (at + 1) 0 + 65536 * getD os (at + 2) 0 + 16777216 * getD os (at + 3) 0 =
+    omega (arith, o .ensures .0, p .ensures .0, q .ensures .0, r .ensures .0) in
+    toZ-ofZ (record { sfits = c .to-signed .ok }) ∙ c .to-signed .ensures ∙ ap signed e
+
+pub word-spec : {M : Type 1} → statement M
+word-spec =
+    tie.close
+    (tie.spec
+    mul-at
+    shared-slice-read-wide
+    wide-requires
+    add-wide
+    shared-slice-read-wide-2
+    wide-requires-2
+    mul-low
+    add-low
+    add-wide-2
+    shared-slice-read-wide-3
+    wide-requires-3
+    mul-high
+    add-wide-3
+    shared-slice-read-wide-4
+    wide-requires-4
+    mul-high-2
+    add-high
+    add-to-signed
+    to-signed-requires
+    returns)

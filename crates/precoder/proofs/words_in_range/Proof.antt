@@ -1,0 +1,89 @@
+-- `precoder::words_in_range` meets its contract. The invariant: what remains decides. Assumes nothing.
+use mathlib.Core.Path.{_≡_, refl, sym, ap, _∙_}
+use mathlib.Core.Bool.{Bool, _&&_}
+use mathlib.Core.List.{List}
+use Prim.Native.Nat.{ℕ, _+_, _*_, _-_, _≤_}
+use native.Mathlib.Omega.{arith}
+use borrow.Author.Needs.{needs}
+use borrow.Author.Tests.{not-true, not-false}
+use lib.ListN.{length, drop}
+use mir.Syntax.{w32}
+use mir.Val.{SFits}
+use mir.Facts.{toZ-ofZ}
+use Rattle.precoder.specs.Octets.{valueAt, valuesOf}
+use Rattle.signal.specs.Signal.{isSignal, every}
+use Rattle.precoder.proofs.Quads.{quad-end}
+use Rattle.precoder.proofs.Turns.{remains}
+use Rattle.precoder.proofs.words_in_range.Statement.{statement}
+use Rattle.precoder.proofs.words_in_range.Tie as tie
+
+abbrev Inv-loop : tie.InvT-loop
+Inv-loop octets count i₀ i = (4 * i ≤ length octets) × (every isSignal (valuesOf octets) ≡ every isSignal (valuesOf (drop (4 * i) octets)))
+
+abbrev μ-loop : tie.MeasureT-loop
+μ-loop octets count i₀ i = count - i
+
+loop-holds : tie.Need-loop-holds Inv-loop μ-loop
+loop-holds c = (omega arith, refl)
+
+word-requires : tie.Need-word-requires Inv-loop μ-loop
+word-requires c κs = omega arith
+
+in-range-requires : tie.Need-in-range-requires Inv-loop μ-loop
+in-range-requires c κs = search needs
+
+module _ (c : tie.After-in-range Inv-loop μ-loop) where
+  abbrev os : List ℕ
+  os = c .before .before .before .before .before .args .octets .now
+
+  abbrev at : ℕ
+  at = c .before .before .before .loop .i
+
+  room : 4 * at + 4 ≤ length os
+  room = omega (arith, c .before .before .loop-test .taken)
+
+  -- the number tested is number i
+  tested : c .in-range .result ≡ isSignal (valueAt os (4 * at))
+  tested =
+      let f : SFits w32 (c .before .word .result) = record { sfits = c .before .word .ok } in
+      c .in-range .ensures ∙ ap isSignal (toZ-ofZ f ∙ c .before .word .ensures)
+
+  split : every isSignal (valuesOf os) ≡ (c .in-range .result && every isSignal (valuesOf (drop (4 * (at + 1)) os)))
+  split =
+      c .before .before .before .loop .inv .1 ∙ remains isSignal os at room
+      ∙ ap (λ (t : Bool). t && every isSignal (valuesOf (drop (4 * (at + 1)) os))) (sym tested)
+
+returns : tie.Need-returns Inv-loop μ-loop
+returns c = sym (split (c .before) ∙ ap (λ (t : Bool). t && every isSignal (valuesOf (drop (4 * (at (c .before) + 1)) (os (c .before))))) (not-true (c .before .in-range .result) (c .if1 .taken)))
+
+add-i : tie.Need-add-i Inv-loop μ-loop
+add-i c = omega arith
+
+loop-less : tie.Need-loop-less Inv-loop μ-loop
+loop-less c = omega arith
+
+loop-again : tie.Need-loop-again Inv-loop μ-loop
+loop-again c =
+    (omega (arith, room (c .before)), split (c .before) ∙ ap (λ (t : Bool). t && every isSignal (valuesOf (drop (4 * (at (c .before) + 1)) (os (c .before))))) (not-false (c .before .in-range .result) (c .if1 .left)))
+
+returns-2 : tie.Need-returns-2 Inv-loop μ-loop
+unfolding every
+returns-2 c =
+    let l = c .before .loop in
+    let os = c .before .before .before .args .octets .now in
+    sym (l .inv .1 ∙ ap (every isSignal) (quad-end os (l .i) (omega arith)))
+
+pub words-in-range-spec : {M : Type 1} → statement M
+words-in-range-spec =
+    tie.close
+    (tie.spec
+    Inv-loop
+    μ-loop
+    loop-holds
+    word-requires
+    in-range-requires
+    returns
+    add-i
+    loop-less
+    loop-again
+    returns-2)

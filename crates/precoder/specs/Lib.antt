@@ -1,0 +1,3 @@
+pub mod Precoder
+pub mod Octets
+pub mod Runs

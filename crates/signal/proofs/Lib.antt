@@ -1,0 +1,7 @@
+pub mod Linear
+pub mod Range
+pub mod Rounding
+pub mod Moved
+pub mod Exact
+pub mod One
+pub mod Order

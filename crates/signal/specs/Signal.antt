@@ -1,0 +1,51 @@
+-- Numbers of the channel precoder (000, clause 4.3.4), all in whole steps of 1/131,072: ranges, rounding, folding and the past.
+use mathlib.Core.Path.{_≡_}
+use mathlib.Core.Bool.{Bool, true, _&&_}
+use mathlib.Core.List.{List, [], _∷_}
+use lib.IntN.{ℤ, pos, negℤ, _+ℤ_, _-ℤ_, _*ℤ_}
+use lib.ListN.{take, replicate}
+use lib.Signed.{leZ, shrZ, _≤ℤ_, _<ℤ_}
+
+-- whether a number lies from low to high
+abbrev pub between : ℤ → ℤ → ℤ → Bool
+between low high z = leZ low z && leZ z high
+
+-- x, y and past outputs lie from -131,072 to 131,071
+abbrev pub isSignal : ℤ → Bool
+isSignal z = between (negℤ (pos 131072)) (pos 131071) z
+
+-- a coefficient lies from -2,097,152 to 2,097,151
+abbrev pub isCoefficient : ℤ → Bool
+isCoefficient z = between (negℤ (pos 2097152)) (pos 2097151) z
+
+-- whether a test holds of every number of a list
+unfoldable pub every : (ℤ → Bool) → List ℤ → Bool
+every test [] = true
+every test (z ∷ zs) = test z && every test zs
+
+-- the last 180 outputs, y(m-1) first, are all zero at first
+abbrev pub atStart : List ℤ
+atStart = replicate 180 (pos 0)
+
+-- the past after y: every output moves one place on, and the oldest is dropped
+abbrev pub pastAfter : List ℤ → ℤ → List ℤ
+pastAfter past y = y ∷ take 179 past
+
+-- v is s/131,072 rounded to the nearest whole number, halves upward: v - 1/2 ≤ s/131,072 < v + 1/2
+pub record Rounds (s v : ℤ) : Type 0 where
+  pub low : (pos 131072 *ℤ v -ℤ pos 65536) ≤ℤ s
+  pub high : s <ℤ (pos 131072 *ℤ v +ℤ pos 65536)
+
+-- y = u + 262,144 d, with the one d that puts y from -131,072 to 131,071
+pub record Folds (u y : ℤ) : Type 0 where
+  pub d : ℤ
+  pub is : y ≡ u +ℤ pos 262144 *ℤ d
+  pub signal : isSignal y ≡ true
+
+-- the same computed: the rounded number is the floor of s/131,072 + 1/2
+abbrev pub nearest : ℤ → ℤ
+nearest s = shrZ (s +ℤ pos 65536) 131072
+
+-- and the folded one is u less as many times 262,144 as the floor of u/262,144 + 1/2
+abbrev pub foldOf : ℤ → ℤ
+foldOf u = u -ℤ pos 262144 *ℤ shrZ (u +ℤ pos 131072) 262144

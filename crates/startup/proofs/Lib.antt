@@ -1,0 +1,14 @@
+pub mod Laws
+pub mod Counts
+pub mod History
+pub mod Unique
+pub mod Moves
+pub mod Simulates
+pub mod Fate
+pub mod Three
+pub mod Scanned
+pub mod Logged
+pub mod Turns
+pub mod Agreement
+pub mod Cases
+pub mod One

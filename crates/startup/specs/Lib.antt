@@ -1,0 +1,7 @@
+pub mod Phases
+pub mod Step
+pub mod Attempts
+pub mod Three
+pub mod Run
+pub mod Scan
+pub mod Agrees

@@ -1,0 +1,59 @@
+-- DEMAND 3: the run from a fresh start over any list of numbers, for either end and every silence that is taken, against what the list says.
+use Prim.Native.Nat.{ℕ, suc, _≤_, _<_}
+use mathlib.Core.Path.{_≡_}
+use mathlib.Core.Bool.{cond}
+use mathlib.Core.Logic.{_⊎_, _↔_}
+use mathlib.Core.List.{List, [], _∷_}
+use lib.Dec.{eqb}
+use lib.ListN.{take}
+use Rattle.startup.specs.declared.Supervisor.{Supervisor}
+use Rattle.startup.specs.declared.Answer.{Answer}
+use Rattle.startup.specs.Step.{startOf, stepOf}
+use Rattle.startup.specs.Attempts.{at, count, Card, card, meant, StillOpen, EndsInData, EndsInException, OpensAt}
+
+-- the state after the codes of a list, one step for each
+abbrev pub steps : Supervisor → List ℕ → Supervisor
+steps s [] = s
+steps s (c ∷ cs) = steps (stepOf s c .state) cs
+
+-- the state at the moment n, after the first n codes
+abbrev pub after : Supervisor → List ℕ → ℕ → Supervisor
+after s l n = steps s (take n l)
+
+-- the answer to the code at the place p
+abbrev pub answerTo : Supervisor → List ℕ → ℕ → Answer
+answerTo s l p = stepOf (after s l p) (at l p)
+
+-- the code at the place p is the first since the moment m that is answered with Settling (11) or Exception (13), and it is answered with this one
+pub record FirstShows (phase : ℕ) (s : Supervisor) (l : List ℕ) (m p : ℕ) : Type 0 where
+  pub since : m ≤ p
+  pub shows : answerTo s l p .phase ≡ phase
+  pub not-settling : (q : ℕ) → m ≤ q → q < p → answerTo s l q .phase ≡ 11 → ⊥
+  pub not-exception : (q : ℕ) → m ≤ q → q < p → answerTo s l q .phase ≡ 13 → ⊥
+
+-- the run from the state s, whose attempts open on entering the phase `opening`, does what the list says of the card k
+pub record Follows (s : Supervisor) (k : Card) (opening : ℕ) (l : List ℕ) : Type 0 where
+  -- each of the nine codes is answered 0, with the phase that the state is then in
+  pub answered : (p : ℕ) → at l p ≤ 8 → (answerTo s l p .answer ≡ 0) × (answerTo s l p .phase ≡ after s l (suc p) .phase)
+  -- any other is refused with 2 and skipped
+  pub skipped : (p : ℕ) → 8 < at l p → (answerTo s l p .answer ≡ 2) × (after s l (suc p) ≡ after s l p)
+  -- an attempt opens exactly where the list says one does
+  pub opens : (p : ℕ) → OpensAt k l (suc p) ↔ ((after s l p .phase ≡ opening → ⊥) × (answerTo s l p .phase ≡ opening))
+  -- while it is open the answer's number of ticks is the list's
+  pub ticks : (m p : ℕ) → OpensAt k l m → StillOpen k l m (suc p) → at l p ≤ 8 → answerTo s l p .attempt ≡ count 0 l m (suc p)
+  -- and otherwise it is 0
+  pub no-ticks : (p : ℕ) → ((m : ℕ) → OpensAt k l m → StillOpen k l m (suc p) → ⊥) → answerTo s l p .attempt ≡ 0
+  -- by its 15,000th tick it has ended: the run has shown Settling or Exception, one of the two first
+  pub ends : (m n : ℕ) → OpensAt k l m → m ≤ n → 15000 ≤ count 0 l m n → (p : ℕ) × (p < n) × (FirstShows 11 s l m p ⊎ FirstShows 13 s l m p)
+  -- Settling exactly where the list has shown all that is needed, before that tick and before any 8
+  pub in-data : (m p : ℕ) → OpensAt k l m → FirstShows 11 s l m p ↔ EndsInData k l m p
+  -- Exception exactly where an 8 or that tick comes first
+  pub in-exception : (m p : ℕ) → OpensAt k l m → FirstShows 13 s l m p ↔ EndsInException k l m p
+
+-- "An attempt opens on entering C_r (NTU) or Hearing (LTU)": 3 and 4 in an answer
+abbrev pub Demand3 : ℕ → ℕ → List ℕ → Type 0
+Demand3 end silence l = Follows (startOf end silence .state) (card end (meant silence)) (cond (eqb end 1) 3 4) l
+
+-- a silence that a start takes
+abbrev pub Taken : ℕ → Type 0
+Taken silence = (silence ≡ 0) ⊎ ((2000 ≤ silence) × (silence ≤ 60000))

@@ -1,0 +1,113 @@
+// The run over a list of codes: a step for each, and what became of the attempts that opened in it.
+ghost use mathlib.Core.Path.{_≡_};
+ghost use Prim.Native.Nat.{_-_, _^_, _<_};
+ghost use Rattle.startup.specs.Run.{eventOf, noted, takenOf, runOf};
+use crate::Run;
+use crate::Supervisor;
+use crate::in_attempt;
+use crate::phase;
+
+impl Supervisor {
+    // A step for each code of a list, one an octet; refused codes are skipped. The answer is 0, or what a step would refuse the state with.
+    pub fn run(self, codes: &[u8]) -> Run
+        ensures { λ r. ⌜ r ≡ runOf self (now (codes .entry)) ⌝ }
+    {
+        let refusal = self.refusal();
+        let mut run = Run {
+            answer: refusal,
+            state: self,
+            attempts: 0,
+            opened: 0,
+            how: Run::NONE,
+            ended: 0,
+        };
+        if refusal != answer::DONE {
+            return run;
+        }
+        let mut place = 0;
+        while place < codes.len() {
+            run = run.taken(place, codes[place] as u32);
+            place += 1;
+        }
+        run
+    }
+}
+
+impl Run {
+    // No attempt opened in the list.
+    pub const NONE: u32 = 0;
+    // The last one is still open.
+    pub const OPEN: u32 = 1;
+    // It ended in data mode.
+    pub const DATA: u32 = 2;
+    // It ended in the exception state.
+    pub const EXCEPTION: u32 = 3;
+
+    // One code more, at this place.
+    fn taken(self, place: usize, code: u32) -> Run
+        requires { ⌜ self .attempts < 2 ^ 64 - 1 ⌝ }
+        ensures { λ r. ⌜ r ≡ takenOf place code self ⌝ }
+    {
+        let state = self.state;
+        let answer = state.step(code);
+        let next = answer.state;
+        self.noted(next, place, event(state.phase, next.phase))
+    }
+
+    // The run with this state, after this event at this place. An attempt that was open before the list is not one of it.
+    fn noted(self, state: Supervisor, place: usize, event: u32) -> Run
+        requires { ⌜ self .attempts < 2 ^ 64 - 1 ⌝ }
+        ensures { λ r. ⌜ r ≡ noted self state place event ⌝ }
+    {
+        if event == Self::OPEN {
+            return Run {
+                answer: answer::DONE,
+                state,
+                attempts: self.attempts + 1,
+                opened: place,
+                how: Self::OPEN,
+                ended: 0,
+            };
+        }
+        if Self::OPEN < event {
+            if self.how != Self::NONE {
+                return Run {
+                    answer: answer::DONE,
+                    state,
+                    attempts: self.attempts,
+                    opened: self.opened,
+                    how: event,
+                    ended: place,
+                };
+            }
+        }
+        Run {
+            answer: answer::DONE,
+            state,
+            attempts: self.attempts,
+            opened: self.opened,
+            how: self.how,
+            ended: self.ended,
+        }
+    }
+}
+
+// What a change of phase does to an attempt: opens it, ends it in data mode or in the exception state, or none of these.
+fn event(before: u32, after: u32) -> u32
+    ensures { λ r. ⌜ r ≡ eventOf before after ⌝ }
+{
+    if in_attempt(before) {
+        if in_attempt(after) {
+            return Run::NONE;
+        }
+        if after == phase::SETTLING {
+            return Run::DATA;
+        }
+        return Run::EXCEPTION;
+    }
+    if in_attempt(after) {
+        Run::OPEN
+    } else {
+        Run::NONE
+    }
+}
