@@ -1,0 +1,50 @@
+-- What the scrambler's functions promise.
+use mathlib.Core.Path.{_≡_}
+use mathlib.Core.Bool.{not}
+use mathlib.Core.List.{List, [], _∷_}
+use Prim.Native.Nat.{ℕ, _*_, _^_}
+use lib.Dec.{eqb, leb, ltb}
+use lib.ListN.{length}
+use Rattle.answer.specs.Answer.{Refusal, refuse, answer, held}
+use Rattle.octets.specs.Bits.{bitsOf, part, laid}
+use Rattle.scrambler.specs.Line.{tapOf}
+use Rattle.scrambler.specs.Run.{Way, outOf, nextOf, runOf, afterOf}
+use Rattle.scrambler.specs.declared.Scrambler.{Scrambler}
+use Rattle.scrambler.specs.declared.Step.{Step}
+use Rattle.scrambler.specs.declared.Ran.{Ran}
+
+-- an unknown end is 2
+abbrev pub unknownEnd : ℕ → Refusal
+unknownEnd end = refuse 2 (ltb 1 end)
+
+-- a state of 2^23 or more is 4
+abbrev pub wideState : ℕ → Refusal
+wideState state = refuse 4 (leb (2 ^ 23) state)
+
+-- Scrambler::start: the starting state is 0
+abbrev pub StartPromise : ℕ → Ran → Type 0
+StartPromise end r = r ≡ record { answer = answer (unknownEnd end ∷ []); next = record { end = end; state = 0 } }
+
+-- a step: a bit over 1 is 4 too
+abbrev pub stepRefusals : Scrambler → ℕ → List Refusal
+stepRefusals x bit = unknownEnd (x .end) ∷ wideState (x .state) ∷ refuse 4 (ltb 1 bit) ∷ []
+
+-- Scrambler::scramble and Scrambler::descramble: the bit that comes out and the next state, or 0 and the same state
+abbrev pub StepPromise : Way → Scrambler → ℕ → Step → Type 0
+StepPromise way x bit r =
+    r ≡ record {
+      answer = answer (stepRefusals x bit);
+      bit = held (answer (stepRefusals x bit)) 0 (outOf (tapOf (x .end)) (x .state) bit);
+      next = record { end = x .end; state = held (answer (stepRefusals x bit)) (x .state) (nextOf way (tapOf (x .end)) (x .state) bit) };
+    }
+
+-- a run: a count over eight times the length, or unequal lengths, is 1
+abbrev pub runRefusals : Scrambler → List ℕ → ℕ → List ℕ → List Refusal
+runRefusals x input bits output =
+    refuse 1 (ltb (8 * length input) bits) ∷ refuse 1 (not (eqb (length input) (length output))) ∷ unknownEnd (x .end) ∷ wideState (x .state) ∷ []
+
+-- Scrambler::scramble_run and Scrambler::descramble_run: the next state, and the output, whose bits past the count stay
+pub record RunPromise (way : Way) (x : Scrambler) (input : List ℕ) (bits : ℕ) (output : List ℕ) (r : Ran) (exit : List ℕ) : Type 0 where
+  pub answered : r .answer ≡ answer (runRefusals x input bits output)
+  pub next : r .next ≡ record { end = x .end; state = held (r .answer) (x .state) (afterOf way (tapOf (x .end)) (x .state) (part 0 bits (bitsOf input))) }
+  pub left : exit ≡ held (r .answer) output (laid output 0 (runOf way (tapOf (x .end)) (x .state) (part 0 bits (bitsOf input))))

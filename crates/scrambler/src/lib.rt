@@ -1,0 +1,232 @@
+// The scrambler (document 01, "Scrambler"; 002, clause 7.1.6): a bit at a time, and over a run of bits; and back.
+ghost use mathlib.Core.Path.{_≡_};
+ghost use mathlib.Core.Bool.{true, false};
+ghost use Prim.Native.Nat.{_*_, _^_, _<_, _≤_};
+ghost use lib.Dec.{ltb};
+ghost use lib.ListN.{length};
+ghost use Rattle.answer.specs.Answer.{answer};
+ghost use Rattle.octets.specs.Bits.{bitsOf, part, laid};
+ghost use Rattle.scrambler.specs.Line.{tapOf};
+ghost use Rattle.scrambler.specs.Run.{scramble, descramble, outOf, nextOf, runOf, afterOf, wayOf};
+ghost use Rattle.scrambler.specs.Promises.{StartPromise, stepRefusals, StepPromise, runRefusals, RunPromise};
+
+// An end's scrambler: the end, and the last 23 scrambled bits, the newest at weight 1.
+pub struct Scrambler {
+    pub end: u32,
+    pub state: u32,
+}
+
+// What a step gives: the answer, the bit, and what to go on with.
+pub struct Step {
+    pub answer: u32,
+    pub bit: u32,
+    pub next: Scrambler,
+}
+
+// What a run gives: the answer, and what to go on with.
+pub struct Ran {
+    pub answer: u32,
+    pub next: Scrambler,
+}
+
+// The bit that comes out: the one that comes in, and the bits of the line that lie tap and 23 back.
+fn out(tap: u32, state: u32, bit: u32) -> u32
+    requires { ⌜ (1 ≤ tap) × (tap ≤ 23) × (bit < 2) ⌝ }
+    ensures { λ r. ⌜ r ≡ outOf tap state bit ⌝ }
+{
+    bit ^ ((state >> (tap - 1)) % 2) ^ ((state >> 22) % 2)
+}
+
+// The state after a bit. Scrambling, what came out is on the line; descrambling, what came in.
+fn after(back: bool, tap: u32, state: u32, bit: u32) -> u32
+    requires { ⌜ (1 ≤ tap) × (tap ≤ 23) × (bit < 2) × (state < 2 ^ 23) ⌝ }
+    ensures { λ r. ⌜ r ≡ nextOf (wayOf back) tap state bit ⌝ }
+{
+    if back {
+        (state * 2 + bit) % Scrambler::STATES
+    } else {
+        (state * 2 + out(tap, state, bit)) % Scrambler::STATES
+    }
+}
+
+// The tap of an end that is known.
+fn tap(end: u32) -> u32
+    ensures { λ r. ⌜ r ≡ tapOf end ⌝ }
+{
+    if end == Scrambler::LTU {
+        Scrambler::LTU_TAP
+    } else {
+        Scrambler::NTU_TAP
+    }
+}
+
+// The run itself, where nothing is refused: the state after it.
+fn go(back: bool, tap: u32, start: u32, input: &[u8], bits: usize, output: &mut [u8]) -> u32
+    requires { ⌜ (1 ≤ tap) × (tap ≤ 23) × (start < 2 ^ 23) × (bits ≤ 8 * length (now input)) ⌝ }
+    ensures { λ r. ⌜ (r ≡ afterOf (wayOf back) tap start (part 0 bits (bitsOf (now (input .entry)))))
+        × (now (output .exit) ≡ laid (now (output .entry)) 0 (runOf (wayOf back) tap start (part 0 bits (bitsOf (now (input .entry)))))) ⌝ }
+{
+    let mut state = start;
+    let mut k: usize = 0;
+    while k < bits {
+        let b = octets::bit(input, k, 0) as u32;
+        let s = out(tap, state, b);
+        octets::put_bit(output, k, 0, s as u8);
+        state = after(back, tap, state, b);
+        k += 1;
+    }
+    state
+}
+
+impl Scrambler {
+    // The two ends, and the tap and the starting state of each.
+    pub const LTU: u32 = 0;
+
+    pub const LTU_TAP: u32 = 5;
+
+    pub const LTU_START: u32 = 0;
+
+    pub const NTU: u32 = 1;
+
+    pub const NTU_TAP: u32 = 18;
+
+    pub const NTU_START: u32 = 0;
+
+    // States are the numbers below 2^23.
+    pub const STATES: u32 = 8388608;
+
+    // An end's scrambler at its start.
+    pub fn start(end: u32) -> Ran
+        ensures { λ r. ⌜ StartPromise end r ⌝ }
+    {
+        match end {
+            0 => Ran {
+                answer: answer::DONE,
+                next: Scrambler {
+                    end,
+                    state: Self::LTU_START,
+                },
+            },
+            1 => Ran {
+                answer: answer::DONE,
+                next: Scrambler {
+                    end,
+                    state: Self::NTU_START,
+                },
+            },
+            _ => Ran {
+                answer: answer::UNKNOWN,
+                next: Scrambler { end, state: 0 },
+            },
+        }
+    }
+
+    // What a step refuses, or 0.
+    fn step_refusal(self, bit: u32) -> u32
+        ensures { λ r. ⌜ r ≡ answer (stepRefusals self bit) ⌝ }
+    {
+        if 1 < self.end {
+            return answer::UNKNOWN;
+        }
+        if Self::STATES <= self.state {
+            return answer::RANGE;
+        }
+        if 1 < bit {
+            return answer::RANGE;
+        }
+        answer::DONE
+    }
+
+    // One bit in either direction.
+    fn step(self, back: bool, bit: u32) -> Step
+        ensures { λ r. ⌜ StepPromise (wayOf back) self bit r ⌝ }
+    {
+        let n = self.step_refusal(bit);
+        if n != answer::DONE {
+            return Step {
+                answer: n,
+                bit: 0,
+                next: self,
+            };
+        }
+        let end = self.end;
+        let state = self.state;
+        let t = tap(end);
+        Step {
+            answer: answer::DONE,
+            bit: out(t, state, bit),
+            next: Scrambler {
+                end,
+                state: after(back, t, state, bit),
+            },
+        }
+    }
+
+    // One bit scrambled.
+    pub fn scramble(self, bit: u32) -> Step
+        ensures { λ r. ⌜ StepPromise scramble self bit r ⌝ }
+    {
+        self.step(false, bit)
+    }
+
+    // One bit descrambled.
+    pub fn descramble(self, bit: u32) -> Step
+        ensures { λ r. ⌜ StepPromise descramble self bit r ⌝ }
+    {
+        self.step(true, bit)
+    }
+
+    // What a run refuses, or 0.
+    fn run_refusal(self, input: &[u8], bits: usize, output: &[u8]) -> u32
+        ensures { λ r. ⌜ r ≡ answer (runRefusals self (now (input .entry)) bits (now (output .entry))) ⌝ }
+    {
+        if input.len() < bits / 8 + (bits % 8 + 7) / 8 {
+            return answer::LENGTH;
+        }
+        if input.len() != output.len() {
+            return answer::LENGTH;
+        }
+        if 1 < self.end {
+            return answer::UNKNOWN;
+        }
+        if Self::STATES <= self.state {
+            return answer::RANGE;
+        }
+        answer::DONE
+    }
+
+    // A run of bits in either direction.
+    fn run(self, back: bool, input: &[u8], bits: usize, output: &mut [u8]) -> Ran
+        ensures { λ r. ⌜ RunPromise (wayOf back) self (now (input .entry)) bits (now (output .entry)) r (now (output .exit)) ⌝ }
+    {
+        let n = self.run_refusal(input, bits, output);
+        if n != answer::DONE {
+            return Ran {
+                answer: n,
+                next: self,
+            };
+        }
+        let end = self.end;
+        let state = self.state;
+        let t = tap(end);
+        let last = go(back, t, state, input, bits, output);
+        Ran {
+            answer: answer::DONE,
+            next: Scrambler { end, state: last },
+        }
+    }
+
+    // The first `bits` bits of the input scrambled into the output; further bits of the output stay.
+    pub fn scramble_run(self, input: &[u8], bits: usize, output: &mut [u8]) -> Ran
+        ensures { λ r. ⌜ RunPromise scramble self (now (input .entry)) bits (now (output .entry)) r (now (output .exit)) ⌝ }
+    {
+        self.run(false, input, bits, output)
+    }
+
+    // The other way.
+    pub fn descramble_run(self, input: &[u8], bits: usize, output: &mut [u8]) -> Ran
+        ensures { λ r. ⌜ RunPromise descramble self (now (input .entry)) bits (now (output .entry)) r (now (output .exit)) ⌝ }
+    {
+        self.run(true, input, bits, output)
+    }
+}
