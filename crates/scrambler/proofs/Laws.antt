@@ -1,26 +1,26 @@
 -- Laws of steps and runs. Assumes nothing.
 use mathlib.Core.Path.{_≡_, refl, sym, ap, ap₂, _∙_, subst}
 use mathlib.Core.Bool.{Bool, true, false, not}
-use mathlib.Core.List.{List, [], _∷_, _++_}
+use mathlib.Core.List.{List, [], _∷_, _++_, append-assoc}
 use Prim.Native.Nat.{ℕ, zero, suc, _+_, _-_, _*_, _/_, _%_, _^_, _≤_, _<_, zero-le, suc-le-suc}
 use native.Mathlib.Nat.{mod-lt}
 use native.Mathlib.Numerals.{add-one}
 use native.Mathlib.Omega.{arith}
-use borrow.Author.Tests.{lt-ltb, le-ltb, ltb-false, leb-false}
+use borrow.Author.Tests.{lt-ltb, le-ltb, ltb-false, leb-false, eqb-true, not-false}
 use lib.Bits.{bitXor}
-use lib.Dec.{ltb, eqb}
-use lib.ListN.{length, getD, take, drop}
+use lib.Dec.{ltb, leb, eqb}
+use lib.ListN.{length, getD, take, drop, replicate, length-append, length-drop}
 use lib.Pow.{pow-pos}
 use lib.Seq.{length-take-le, take-suc}
 use Rattle.answer.specs.Answer.{answer, held}
 use Rattle.answer.proofs.Laws.{none, kept}
-use Rattle.octets.specs.Bits.{laid}
-use Rattle.octets.proofs.Digits.{Bits, nil-bits, cons-bits}
-use Rattle.octets.proofs.Laws.{laid-more}
+use Rattle.octets.specs.Bits.{bitsOf, octetsOf, part, laid}
+use Rattle.octets.proofs.Digits.{Bits, nil-bits, cons-bits, append-bits, take-bits}
+use Rattle.octets.proofs.Laws.{bits-length, bits-bits, laid-more, laid-next, laid-end}
 use Rattle.octets.proofs.Xor.{no-two}
 use Rattle.scrambler.specs.Line.{sum3, tapOf}
 use Rattle.scrambler.specs.Run.{Way, outOf, nextOf, runOf, afterOf}
-use Rattle.scrambler.specs.Promises.{stepRefusals, StepPromise, runRefusals, RunPromise}
+use Rattle.scrambler.specs.Promises.{stepRefusals, StepPromise, runRefusals, RunPromise, frameRefusals, clocked, frameOut, FramePromise}
 use Rattle.scrambler.specs.declared.Scrambler.{Scrambler}
 use Rattle.scrambler.specs.declared.Step.{Step}
 
@@ -106,16 +106,16 @@ module _ (way : Way) (tap : ℕ) where
         sym (ap (afterOf way tap start) grown ∙ after-append start (take k F) (b ∷ []) ∙ run-one (afterOf way tap start (take k F)) b .1
         ∙ ap (λ (s : ℕ). nextOf way tap s b) (sym e))
 
-    pub run-next : (out₀ o t : List ℕ) (s : ℕ) → o ≡ laid out₀ 0 (runOf way tap start (take k F)) → s ≡ outOf tap st b → t ≡ laid o (k + 0) (s % 2 ∷ [])
-        → t ≡ laid out₀ 0 (runOf way tap start (take (k + 1) F))
-    run-next out₀ o t s p q r =
+    pub run-next : (at : ℕ) (out₀ o t : List ℕ) (s : ℕ) → o ≡ laid out₀ at (runOf way tap start (take k F)) → s ≡ outOf tap st b → t ≡ laid o (k + at) (s % 2 ∷ [])
+        → t ≡ laid out₀ at (runOf way tap start (take (k + 1) F))
+    run-next at out₀ o t s p q r =
         let R = runOf way tap start (take k F) in
         let lt : s < 2 = subst (λ (x : ℕ). x < 2) (sym q) (sum3-lt b _ _) in
         let one : s % 2 ≡ s = omega arith in
-        let at : k + 0 ≡ 0 + k = omega arith in
-        laid-more out₀ 0 R k s (run-bits start (take k F)) (run-length start (take k F) ∙ length-take-le k F (omega arith)) p
-        (r ∙ ap₂ (λ (n x : ℕ). laid o n (x ∷ [])) at one)
-        ∙ ap (laid out₀ 0)
+        let place : k + at ≡ at + k = omega arith in
+        laid-more out₀ at R k s (run-bits start (take k F)) (run-length start (take k F) ∙ length-take-le k F (omega arith)) p
+        (r ∙ ap₂ (λ (n x : ℕ). laid o n (x ∷ [])) place one)
+        ∙ ap (laid out₀ at)
         (ap (λ (x : ℕ). R ++ (x ∷ [])) (q ∙ ap (λ (x : ℕ). outOf tap x b) e)
         ∙ ap (λ (l : List ℕ). R ++ l) (sym (run-one (afterOf way tap start (take k F)) b .0))
         ∙ sym (run-append start (take k F) (b ∷ []))
@@ -178,3 +178,42 @@ module _ (x : Scrambler) (input : List ℕ) (bits : ℕ) (output : List ℕ) whe
         next = ap (λ (s : ℕ). record { end = x .end; state = s }) (sym (kept n (x .state) _ z));
         left = sym (kept n output _ z);
       }
+
+-- ---- a whole frame
+
+module _ (x : Scrambler) (frame output : List ℕ) where
+  pub frame-sound : answer (frameRefusals x frame output) ≡ 0 → (length frame ≡ 529) × (length output ≡ 529) × (x .state < 2 ^ 23)
+  frame-sound e =
+      let R = frameRefusals x frame output in
+      let one = none 0 (not (eqb (length frame) 529)) (drop 1 R) e in
+      let same = none 0 (not (eqb (length output) 529)) (drop 2 R) (one .1) in
+      let two = none 1 (ltb 1 (x .end)) (drop 3 R) (same .1) in
+      let four = none 3 (leb (2 ^ 23) (x .state)) (drop 4 R) (two .1) in
+      (eqb-true _ _ (not-false _ (one .0)), eqb-true _ _ (not-false _ (same .0)), leb-false _ _ (four .0))
+
+  pub frame-refused : (way : Way) (n : ℕ) → n ≡ answer (frameRefusals x frame output) → (n ≡ 0 → ⊥) → FramePromise way x frame output (record { answer = n; next = x }) output
+  frame-refused way n e z =
+      record {
+        answered = e;
+        next = ap (λ (s : ℕ). record { end = x .end; state = s }) (sym (kept n (x .state) _ z));
+        left = sym (kept n output _ z);
+      }
+
+  -- sync, the run behind it, the pad
+  pub frame-done : (way : Way) (s₁ s₂ s₃ : List ℕ) → length frame ≡ 529 → length output ≡ 529
+      → s₁ ≡ laid output 0 (part 0 14 (bitsOf frame)) → s₂ ≡ laid s₁ 14 (runOf way (tapOf (x .end)) (x .state) (clocked frame)) → s₃ ≡ laid s₂ 4227 (replicate 5 0)
+      → s₃ ≡ frameOut way x frame
+  frame-done way s₁ s₂ s₃ lf lo e₁ e₂ e₃ =
+      let B = bitsOf frame in
+      let S = part 0 14 B in
+      let R = runOf way (tapOf (x .end)) (x .state) (clocked frame) in
+      let Z : List ℕ = replicate 5 0 in
+      let lB : length B ≡ 4232 = bits-length frame ∙ ap (λ (n : ℕ). 8 * n) lf in
+      let lS : 0 + length S ≡ 14 = omega (arith, length-take-le 14 B (omega arith)) in
+      let lR : length R ≡ 4213 =
+      run-length way (tapOf (x .end)) (x .state) (clocked frame) ∙ length-take-le 4213 (drop 14 B) (omega (arith, length-drop 14 B)) in
+      let bS = take-bits 14 B (bits-bits frame) in
+      let lSR : 0 + length (S ++ R) ≡ 4227 = omega (arith, length-append S R) in
+      let f₂ = laid-next output 0 S R 14 bS lS e₁ e₂ in
+      let f₃ = laid-next output 0 (S ++ R) Z 4227 (append-bits S R bS (run-bits way (tapOf (x .end)) (x .state) (clocked frame))) lSR f₂ e₃ in
+      f₃ ∙ laid-end output 0 (S ++ R ++ Z) (omega (arith, length-append (S ++ R) Z)) ∙ ap₂ octetsOf lo (append-assoc S R Z)

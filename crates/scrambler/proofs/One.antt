@@ -10,7 +10,7 @@ use Rattle.scrambler.specs.Run.{Way, scramble, descramble, runOf, afterO
 use Rattle.scrambler.specs.declared.Scrambler.{Scrambler}
 use Rattle.scrambler.specs.declared.Step.{Step}
 use Rattle.scrambler.specs.declared.Ran.{Ran}
-use Rattle.scrambler.specs.Promises.{StartPromise, stepRefusals, StepPromise, runRefusals, RunPromise}
+use Rattle.scrambler.specs.Promises.{StartPromise, stepRefusals, StepPromise, runRefusals, RunPromise, frameRefusals, clocked, frameOut, FramePromise}
 
 pub start-one : (end : ℕ) (r r′ : Ran) → StartPromise end r → StartPromise end r′ → r ≡ r′
 start-one end r r′ p q = p ∙ sym q
@@ -40,3 +40,18 @@ module _ (way : Way) (x : Scrambler) (input : List ℕ) (bits : ℕ) (output : L
   pub run-order : inOrder 1 (runRefusals x input bits output) ≡ true
   unfolding inOrder
   run-order = refl
+
+-- scramble_frame and descramble_frame
+module _ (way : Way) (x : Scrambler) (frame output : List ℕ) where
+  pub frame-one : (r r′ : Ran) (t t′ : List ℕ) → FramePromise way x frame output r t → FramePromise way x frame output r′ t′ → (r ≡ r′) × (t ≡ t′)
+  frame-one r r′ t t′ p q =
+      let e : r .answer ≡ r′ .answer = p .answered ∙ sym (q .answered) in
+      let n : r .next ≡ r′ .next =
+      p .next
+      ∙ ap (λ (k : ℕ). record { end = x .end; state = held k (x .state) (afterOf way (tapOf (x .end)) (x .state) (clocked frame)) }) e
+      ∙ sym (q .next) in
+      (λ i. record { answer = e i; next = n i }, p .left ∙ ap (λ (k : ℕ). held k output (frameOut way x frame)) e ∙ sym (q .left))
+
+  pub frame-order : inOrder 1 (frameRefusals x frame output) ≡ true
+  unfolding inOrder
+  frame-order = refl

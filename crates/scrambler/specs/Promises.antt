@@ -1,12 +1,14 @@
 -- What the scrambler's functions promise.
 use mathlib.Core.Path.{_≡_}
 use mathlib.Core.Bool.{not}
-use mathlib.Core.List.{List, [], _∷_}
+use mathlib.Core.List.{List, [], _∷_, _++_}
 use Prim.Native.Nat.{ℕ, _*_, _^_}
 use lib.Dec.{eqb, leb, ltb}
-use lib.ListN.{length}
-use Rattle.answer.specs.Answer.{Refusal, refuse, answer, held}
-use Rattle.octets.specs.Bits.{bitsOf, part, laid}
+use lib.ListN.{length, replicate}
+use Rattle.answer.specs.Answer.{Refusal, refuse, wrongLength, answer, held}
+use Rattle.octets.specs.Bits.{valueOf, bitsOf, octetsOf, part, laid}
+use Rattle.layout.specs.Places.{pad}
+use Rattle.layout.specs.Frame.{fieldOf}
 use Rattle.scrambler.specs.Line.{tapOf}
 use Rattle.scrambler.specs.Run.{Way, outOf, nextOf, runOf, afterOf}
 use Rattle.scrambler.specs.declared.Scrambler.{Scrambler}
@@ -48,3 +50,23 @@ pub record RunPromise (way : Way) (x : Scrambler) (input : List ℕ) (bits : ℕ
   pub answered : r .answer ≡ answer (runRefusals x input bits output)
   pub next : r .next ≡ record { end = x .end; state = held (r .answer) (x .state) (afterOf way (tapOf (x .end)) (x .state) (part 0 bits (bitsOf input))) }
   pub left : exit ≡ held (r .answer) output (laid output 0 (runOf way (tapOf (x .end)) (x .state) (part 0 bits (bitsOf input))))
+
+-- a whole frame: lengths, the end, the state, then the pad (6)
+abbrev pub frameRefusals : Scrambler → List ℕ → List ℕ → List Refusal
+frameRefusals x frame output =
+    wrongLength frame 529 ∷ wrongLength output 529 ∷ unknownEnd (x .end) ∷ wideState (x .state)
+    ∷ refuse 6 (not (eqb (valueOf (fieldOf pad (bitsOf frame))) 0)) ∷ []
+
+-- the bits of a frame that clock the state: 15 to 4,227
+abbrev pub clocked : List ℕ → List ℕ
+clocked frame = part 14 4213 (bitsOf frame)
+
+-- the octets that come out: the 14 sync bits straight through, the rest run, the pad zero
+abbrev pub frameOut : Way → Scrambler → List ℕ → List ℕ
+frameOut way x frame = octetsOf 529 (part 0 14 (bitsOf frame) ++ (runOf way (tapOf (x .end)) (x .state) (clocked frame) ++ replicate 5 0))
+
+-- Scrambler::scramble_frame and Scrambler::descramble_frame
+pub record FramePromise (way : Way) (x : Scrambler) (frame output : List ℕ) (r : Ran) (exit : List ℕ) : Type 0 where
+  pub answered : r .answer ≡ answer (frameRefusals x frame output)
+  pub next : r .next ≡ record { end = x .end; state = held (r .answer) (x .state) (afterOf way (tapOf (x .end)) (x .state) (clocked frame)) }
+  pub left : exit ≡ held (r .answer) output (frameOut way x frame)

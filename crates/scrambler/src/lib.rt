@@ -1,14 +1,17 @@
 // The scrambler (document 01, "Scrambler"; 002, clause 7.1.6): a bit at a time, and over a run of bits; and back.
 ghost use mathlib.Core.Path.{_≡_};
 ghost use mathlib.Core.Bool.{true, false};
-ghost use Prim.Native.Nat.{_*_, _^_, _<_, _≤_};
+ghost use Prim.Native.Nat.{_+_, _*_, _^_, _<_, _≤_};
 ghost use lib.Dec.{ltb};
 ghost use lib.ListN.{length};
 ghost use Rattle.answer.specs.Answer.{answer};
 ghost use Rattle.octets.specs.Bits.{bitsOf, part, laid};
 ghost use Rattle.scrambler.specs.Line.{tapOf};
 ghost use Rattle.scrambler.specs.Run.{scramble, descramble, outOf, nextOf, runOf, afterOf, wayOf};
-ghost use Rattle.scrambler.specs.Promises.{StartPromise, stepRefusals, StepPromise, runRefusals, RunPromise};
+ghost use Rattle.scrambler.specs.Promises.{StartPromise, stepRefusals, StepPromise, runRefusals, RunPromise, frameRefusals, FramePromise};
+
+// The bits of a frame that clock the state: all but sync and pad.
+const CLOCKED: usize = 4213;
 
 // An end's scrambler: the end, and the last 23 scrambled bits, the newest at weight 1.
 pub struct Scrambler {
@@ -60,18 +63,26 @@ fn tap(end: u32) -> u32
     }
 }
 
-// The run itself, where nothing is refused: the state after it.
-fn go(back: bool, tap: u32, start: u32, input: &[u8], bits: usize, output: &mut [u8]) -> u32
-    requires { ⌜ (1 ≤ tap) × (tap ≤ 23) × (start < 2 ^ 23) × (bits ≤ 8 * length (now input)) ⌝ }
-    ensures { λ r. ⌜ (r ≡ afterOf (wayOf back) tap start (part 0 bits (bitsOf (now (input .entry)))))
-        × (now (output .exit) ≡ laid (now (output .entry)) 0 (runOf (wayOf back) tap start (part 0 bits (bitsOf (now (input .entry)))))) ⌝ }
+// The run itself, over the bits from place `at` on, where nothing is refused: the state after it.
+fn go(
+    back: bool,
+    tap: u32,
+    start: u32,
+    input: &[u8],
+    at: u32,
+    bits: usize,
+    output: &mut [u8],
+) -> u32
+    requires { ⌜ (1 ≤ tap) × (tap ≤ 23) × (start < 2 ^ 23) × (at + bits ≤ 8 * length (now input)) ⌝ }
+    ensures { λ r. ⌜ (r ≡ afterOf (wayOf back) tap start (part at bits (bitsOf (now (input .entry)))))
+        × (now (output .exit) ≡ laid (now (output .entry)) at (runOf (wayOf back) tap start (part at bits (bitsOf (now (input .entry)))))) ⌝ }
 {
     let mut state = start;
     let mut k: usize = 0;
     while k < bits {
-        let b = octets::bit(input, k, 0) as u32;
+        let b = octets::bit(input, k, at) as u32;
         let s = out(tap, state, b);
-        octets::put_bit(output, k, 0, s as u8);
+        octets::put_bit(output, k, at, s as u8);
         state = after(back, tap, state, b);
         k += 1;
     }
@@ -209,7 +220,7 @@ impl Scrambler {
         let end = self.end;
         let state = self.state;
         let t = tap(end);
-        let last = go(back, t, state, input, bits, output);
+        let last = go(back, t, state, input, 0, bits, output);
         Ran {
             answer: answer::DONE,
             next: Scrambler { end, state: last },
@@ -228,5 +239,64 @@ impl Scrambler {
         ensures { λ r. ⌜ RunPromise descramble self (now (input .entry)) bits (now (output .entry)) r (now (output .exit)) ⌝ }
     {
         self.run(true, input, bits, output)
+    }
+
+    // What a whole frame refuses, or 0.
+    fn frame_refusal(self, frame: &[u8], output: &[u8]) -> u32
+        ensures { λ r. ⌜ r ≡ answer (frameRefusals self (now (frame .entry)) (now (output .entry))) ⌝ }
+    {
+        if frame.len() != layout::FRAME_OCTETS {
+            return answer::LENGTH;
+        }
+        if output.len() != layout::FRAME_OCTETS {
+            return answer::LENGTH;
+        }
+        if 1 < self.end {
+            return answer::UNKNOWN;
+        }
+        if Self::STATES <= self.state {
+            return answer::RANGE;
+        }
+        if !octets::is_clear(frame, layout::PAD_AT, layout::PAD_BITS) {
+            return answer::PAD;
+        }
+        answer::DONE
+    }
+
+    // A whole frame in either direction: sync passes straight through, the pad is zero.
+    fn frame(self, back: bool, frame: &[u8], output: &mut [u8]) -> Ran
+        ensures { λ r. ⌜ FramePromise (wayOf back) self (now (frame .entry)) (now (output .entry)) r (now (output .exit)) ⌝ }
+    {
+        let n = self.frame_refusal(frame, output);
+        if n != answer::DONE {
+            return Ran {
+                answer: n,
+                next: self,
+            };
+        }
+        let end = self.end;
+        let state = self.state;
+        let t = tap(end);
+        octets::copy(output, 0, frame, 0, layout::SYNC_BITS);
+        let last = go(back, t, state, frame, layout::SYNC_BITS, CLOCKED, output);
+        octets::clear(output, layout::PAD_AT, layout::PAD_BITS);
+        Ran {
+            answer: answer::DONE,
+            next: Scrambler { end, state: last },
+        }
+    }
+
+    // A whole frame scrambled.
+    pub fn scramble_frame(self, frame: &[u8], output: &mut [u8]) -> Ran
+        ensures { λ r. ⌜ FramePromise scramble self (now (frame .entry)) (now (output .entry)) r (now (output .exit)) ⌝ }
+    {
+        self.frame(false, frame, output)
+    }
+
+    // A whole frame descrambled.
+    pub fn descramble_frame(self, frame: &[u8], output: &mut [u8]) -> Ran
+        ensures { λ r. ⌜ FramePromise descramble self (now (frame .entry)) (now (output .entry)) r (now (output .exit)) ⌝ }
+    {
+        self.frame(true, frame, output)
     }
 }

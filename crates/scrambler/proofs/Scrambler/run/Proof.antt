@@ -3,6 +3,7 @@ use borrow.Author.Needs.{needs}
 use mathlib.Core.Path.{_≡_, sym, ap, subst, _∙_}
 use mathlib.Core.List.{List}
 use Prim.Native.Nat.{ℕ, _≤_}
+use native.Mathlib.Omega.{arith}
 use Rattle.answer.specs.Answer.{answer}
 use Rattle.octets.specs.Bits.{bitsOf, part, laid}
 use Rattle.scrambler.specs.Run.{runOf, afterOf, wayOf}
@@ -28,7 +29,7 @@ go-requires c κs =
     let a = c .before .before .before .before .before .before .before .args in
     let t = subst (λ (n : ℕ). (1 ≤ n) × (n ≤ 23)) (sym (c .before .tap .ensures)) (tap-range (a .self .end)) in
     let s = run-sound (a .self) (a .input .now) (a .bits) (a .output .now) (sym (c .before .before .before .run-refusal .ensures) ∙ c .before .before .if1 .left) in
-    (t .0, t .1, s .1, s .0)
+    (t .0, t .1, s .1, omega arith)
 
 same-length-2 : tie.Need-same-length-2
 same-length-2 c = search needs
