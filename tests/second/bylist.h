@@ -9,7 +9,7 @@
 #include <stdint.h>
 
 struct by_list {
-    uint32_t opened;
+    uint64_t opened;
     uint64_t opened_at;
     uint32_t ended;
     uint64_t ended_at;

@@ -76,10 +76,11 @@ static struct sdsl_run try_run(struct sdsl_supervisor state, const uint8_t *octe
     want(&comparison, same_state(lib.state, ref.state), "states differ");
     want(&comparison, lib.answer == 0 || same_state(lib.state, state), "a refused run changed the state");
     want_kept(&comparison, &codes, "the codes changed");
-    settle(comparison, &runs, STATE_FORM " %zu codes: library %u opened %u at %llu ended %u at %llu " STATE_FORM
-           ", reference %u opened %u at %llu ended %u at %llu " STATE_FORM, STATE_ARGUMENTS(state), len, lib.answer, lib.opened,
-           (unsigned long long)lib.opened_at, lib.ended, (unsigned long long)lib.ended_at, STATE_ARGUMENTS(lib.state), ref.answer,
-           ref.opened, (unsigned long long)ref.opened_at, ref.ended, (unsigned long long)ref.ended_at, STATE_ARGUMENTS(ref.state));
+    settle(comparison, &runs, STATE_FORM " %zu codes: library %u opened %llu at %llu ended %u at %llu " STATE_FORM
+           ", reference %u opened %llu at %llu ended %u at %llu " STATE_FORM, STATE_ARGUMENTS(state), len, lib.answer,
+           (unsigned long long)lib.opened, (unsigned long long)lib.opened_at, lib.ended, (unsigned long long)lib.ended_at,
+           STATE_ARGUMENTS(lib.state), ref.answer, (unsigned long long)ref.opened, (unsigned long long)ref.opened_at, ref.ended,
+           (unsigned long long)ref.ended_at, STATE_ARGUMENTS(ref.state));
     give_back(&codes);
     return lib;
 }
@@ -93,9 +94,9 @@ static void try_fresh_run(uint32_t end, uint32_t silence, const uint8_t *octets,
     want(&comparison, lib.answer == 0, "refused");
     want(&comparison, lib.opened == list.opened && lib.opened_at == list.opened_at, "openings differ");
     want(&comparison, lib.ended == list.ended && lib.ended_at == list.ended_at, "endings differ");
-    settle(comparison, &lists, "end %u silence %u %zu codes: library %u opened %u at %llu ended %u at %llu, the list opened %u at %llu"
-           " ended %u at %llu", end, silence, len, lib.answer, lib.opened, (unsigned long long)lib.opened_at, lib.ended,
-           (unsigned long long)lib.ended_at, list.opened, (unsigned long long)list.opened_at, list.ended,
+    settle(comparison, &lists, "end %u silence %u %zu codes: library %u opened %llu at %llu ended %u at %llu, the list opened %llu"
+           " at %llu ended %u at %llu", end, silence, len, lib.answer, (unsigned long long)lib.opened, (unsigned long long)lib.opened_at,
+           lib.ended, (unsigned long long)lib.ended_at, (unsigned long long)list.opened, (unsigned long long)list.opened_at, list.ended,
            (unsigned long long)list.ended_at);
 }
 

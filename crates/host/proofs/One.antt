@@ -3,12 +3,31 @@ use mathlib.Core.Path.{_≡_, refl, sym, ap, _∙_}
 use mathlib.Core.Bool.{true}
 use mathlib.Core.List.{List, _∷_}
 use Prim.Native.Nat.{ℕ}
+use lib.IntN.{ℤ}
 use Rattle.answer.specs.Answer.{wrongLength, held, inOrder}
 use Rattle.layout.specs.Refusals.{writeRefusals}
 use Rattle.numbers.specs.Promises.{numbersOf}
 use Rattle.writer.specs.Promises.{frameOctets}
+use Rattle.symbol.proofs.One.{activation-level-one, data-level-one, level-code-one, step-one, run-one}
+use Rattle.signal.proofs.One.{shaper-one}
+use Rattle.precoder.specs.Runs.{PrecodesRun, DecodesRun}
+use Rattle.precoder.proofs.One.{precode-run-one, decode-run-one}
 use Rattle.host.specs.declared.frames.FrameFields.{FrameFields}
+use Rattle.host.specs.declared.symbols.Level.{Level}
+use Rattle.host.specs.declared.symbols.Code.{Code}
+use Rattle.host.specs.declared.symbols.Encoded.{Encoded}
+use Rattle.host.specs.declared.symbols.EncodedRun.{EncodedRun}
+use Rattle.host.specs.declared.symbols.Shaped.{Shaped}
+use Rattle.host.specs.declared.supervisor.Supervisor.{Supervisor}
+use Rattle.host.specs.declared.supervisor.Stepped.{Stepped}
+use Rattle.host.specs.declared.supervisor.Run.{Run}
 use Rattle.host.specs.Frames.{FrameWritten, FrameRead, frameReadRefusals}
+use Rattle.host.specs.Symbols.{ActivationLevelGiven, DataLevelGiven, CodeGiven, SymbolEncoded, SymbolsEncoded, SampleShaped, asLevel, encoder}
+use Rattle.host.specs.Supervisor.{Started, StateStepped, CodesRun}
+use Rattle.scrambler.specs.Run.{Way}
+use Rattle.scrambler.proofs.One.{run-one as scrambler-run-one, frame-one}
+use Rattle.host.specs.declared.scrambling.Scrambled.{Scrambled}
+use Rattle.host.specs.Scrambling.{crossing, ScrambledRun, ScrambledFrame}
 
 module _ (kind count : ℕ) (os : List ℕ) (a b : ℕ) (vendor frame : List ℕ) where
   pub sdsl-frame-write-one : (r r′ : ℕ) (t t′ : List ℕ) → FrameWritten kind count os a b vendor frame r t → FrameWritten kind count os a b vendor frame r′ t′
@@ -30,3 +49,66 @@ module _ (frame os vendor : List ℕ) where
   pub frame-read-order : inOrder 1 (frameReadRefusals frame os vendor) ≡ true
   unfolding inOrder
   frame-read-order = refl
+
+-- a level that is one as symbol's is one as C's
+one-level : (r r′ : Level) → asLevel r ≡ asLevel r′ → r ≡ r′
+one-level r r′ e = λ i. record { answer = e i .answer; sixteenths = e i .sixteenths }
+
+pub sdsl-activation-level-one : (bit : ℕ) (r r′ : Level) → ActivationLevelGiven bit r → ActivationLevelGiven bit r′ → r ≡ r′
+sdsl-activation-level-one bit r r′ p q = one-level r r′ (activation-level-one bit _ _ p q)
+
+pub sdsl-data-level-one : (code : ℕ) (r r′ : Level) → DataLevelGiven code r → DataLevelGiven code r′ → r ≡ r′
+sdsl-data-level-one code r r′ p q = one-level r r′ (data-level-one code _ _ p q)
+
+pub sdsl-level-code-one : (level : ℤ) (r r′ : Code) → CodeGiven level r → CodeGiven level r′ → r ≡ r′
+sdsl-level-code-one level r r′ p q =
+    let e = level-code-one level _ _ p q in
+    λ i. record { answer = e i .answer; code = e i .code }
+
+module _ (a b register : ℕ) where
+  pub sdsl-encode-one : (symbol : ℕ) (r r′ : Encoded) → SymbolEncoded a b register symbol r → SymbolEncoded a b register symbol r′ → r ≡ r′
+  sdsl-encode-one symbol r r′ p q =
+      let e = step-one (encoder a b register) symbol _ _ p q in
+      λ i. record { answer = e i .answer; code = e i .code; sixteenths = e i .sixteenths; register = e i .next .register }
+
+  pub sdsl-encode-run-one : (symbols codes : List ℕ) (r r′ : EncodedRun) (d d′ : List ℕ)
+      → SymbolsEncoded a b register symbols codes r d → SymbolsEncoded a b register symbols codes r′ d′ → (r ≡ r′) × (d ≡ d′)
+  sdsl-encode-run-one symbols codes r r′ d d′ p q =
+      let e = run-one (encoder a b register) symbols codes _ _ d d′ p q in
+      (λ i. record { answer = e .0 i .answer; register = e .0 i .next .register }, e .1)
+
+pub sdsl-precode-one : (coefficients history xs ys : List ℕ) (r r′ : ℕ) (h h′ d d′ : List ℕ)
+    → PrecodesRun coefficients history xs ys r h d → PrecodesRun coefficients history xs ys r′ h′ d′ → (r ≡ r′) × (h ≡ h′) × (d ≡ d′)
+sdsl-precode-one = precode-run-one
+
+pub sdsl-decode-one : (coefficients history ys xs : List ℕ) (r r′ : ℕ) (h h′ d d′ : List ℕ)
+    → DecodesRun coefficients history ys xs r h d → DecodesRun coefficients history ys xs r′ h′ d′ → (r ≡ r′) × (h ≡ h′) × (d ≡ d′)
+sdsl-decode-one = decode-run-one
+
+pub sdsl-shaper-one : (y : ℤ) (r r′ : Shaped) → SampleShaped y r → SampleShaped y r′ → r ≡ r′
+sdsl-shaper-one y r r′ p q =
+    let e = shaper-one y _ _ p q in
+    λ i. record { answer = e i .answer; value = e i .value }
+
+pub sdsl-start-one : (end silence : ℕ) (r r′ : Stepped) → Started end silence r → Started end silence r′ → r ≡ r′
+sdsl-start-one end silence r r′ p q = p ∙ sym q
+
+pub sdsl-step-one : (s : Supervisor) (code : ℕ) (r r′ : Stepped) → StateStepped s code r → StateStepped s code r′ → r ≡ r′
+sdsl-step-one s code r r′ p q = p ∙ sym q
+
+pub sdsl-run-codes-one : (s : Supervisor) (codes : List ℕ) (r r′ : Run) → CodesRun s codes r → CodesRun s codes r′ → r ≡ r′
+sdsl-run-codes-one s codes r r′ p q = p ∙ sym q
+
+-- sdsl_scramble and sdsl_descramble
+pub sdsl-scramble-one : (way : Way) (end state : ℕ) (input : List ℕ) (bits : ℕ) (output : List ℕ) (r r′ : Scrambled) (t t′ : List ℕ)
+    → ScrambledRun way end state input bits output r t → ScrambledRun way end state input bits output r′ t′ → (r ≡ r′) × (t ≡ t′)
+sdsl-scramble-one way end state input bits output r r′ t t′ p q =
+    let e = scrambler-run-one way (record { end = end; state = state }) input bits output (p .ran) (q .ran) t t′ (p .promise) (q .promise) in
+    (p .crossed ∙ ap crossing (e .0) ∙ sym (q .crossed), e .1)
+
+-- sdsl_scramble_frame and sdsl_descramble_frame
+pub sdsl-scramble-frame-one : (way : Way) (end state : ℕ) (frame output : List ℕ) (r r′ : Scrambled) (t t′ : List ℕ)
+    → ScrambledFrame way end state frame output r t → ScrambledFrame way end state frame output r′ t′ → (r ≡ r′) × (t ≡ t′)
+sdsl-scramble-frame-one way end state frame output r r′ t t′ p q =
+    let e = frame-one way (record { end = end; state = state }) frame output (p .ran) (q .ran) t t′ (p .promise) (q .promise) in
+    (p .crossed ∙ ap crossing (e .0) ∙ sym (q .crossed), e .1)

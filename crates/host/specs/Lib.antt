@@ -1,1 +1,4 @@
 pub mod Frames
+pub mod Scrambling
+pub mod Symbols
+pub mod Supervisor

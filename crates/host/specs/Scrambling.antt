@@ -1,0 +1,24 @@
+-- What the exported scrambler promises: that of the crate, with the answer and the next state as two numbers.
+use mathlib.Core.Path.{_≡_}
+use mathlib.Core.List.{List}
+use Prim.Native.Nat.{ℕ}
+use Rattle.scrambler.specs.declared.Ran.{Ran}
+use Rattle.scrambler.specs.Run.{Way}
+use Rattle.scrambler.specs.Promises.{RunPromise, FramePromise}
+use Rattle.host.specs.declared.scrambling.Scrambled.{Scrambled}
+
+-- what a run gives, as it crosses
+abbrev pub crossing : Ran → Scrambled
+crossing ran = record { answer = ran .answer; state = ran .next .state }
+
+-- sdsl_scramble, sdsl_descramble
+pub record ScrambledRun (way : Way) (end state : ℕ) (input : List ℕ) (bits : ℕ) (output : List ℕ) (r : Scrambled) (exit : List ℕ) : Type 0 where
+  pub ran : Ran
+  pub crossed : r ≡ crossing ran
+  pub promise : RunPromise way (record { end = end; state = state }) input bits output ran exit
+
+-- sdsl_scramble_frame, sdsl_descramble_frame
+pub record ScrambledFrame (way : Way) (end state : ℕ) (frame output : List ℕ) (r : Scrambled) (exit : List ℕ) : Type 0 where
+  pub ran : Ran
+  pub crossed : r ≡ crossing ran
+  pub promise : FramePromise way (record { end = end; state = state }) frame output ran exit

@@ -1,0 +1,66 @@
+-- What the exported symbol functions promise: what symbol and signal promise of the same numbers. A struct of C's is read as the crate's own.
+use mathlib.Core.List.{List}
+use Prim.Native.Nat.{ℕ}
+use lib.IntN.{ℤ}
+use Rattle.symbol.specs.declared.Level.{Level as SymbolLevel}
+use Rattle.symbol.specs.declared.Code.{Code as SymbolCode}
+use Rattle.symbol.specs.declared.Encoder.{Encoder}
+use Rattle.symbol.specs.declared.Step.{Step}
+use Rattle.symbol.specs.declared.Run.{Run}
+use Rattle.symbol.specs.Levels.{ActivationLevel, DataLevel, LevelCode}
+use Rattle.symbol.specs.Encoder.{Stepped, Ran}
+use Rattle.signal.specs.declared.Shaped.{Shaped as SignalShaped}
+use Rattle.signal.specs.Shaper.{Shapes}
+use Rattle.host.specs.declared.symbols.Level.{Level}
+use Rattle.host.specs.declared.symbols.Code.{Code}
+use Rattle.host.specs.declared.symbols.Encoded.{Encoded}
+use Rattle.host.specs.declared.symbols.EncodedRun.{EncodedRun}
+use Rattle.host.specs.declared.symbols.Shaped.{Shaped}
+
+-- struct sdsl_level
+abbrev pub asLevel : Level → SymbolLevel
+asLevel r = record { answer = r .answer; sixteenths = r .sixteenths }
+
+-- struct sdsl_code
+abbrev pub asCode : Code → SymbolCode
+asCode r = record { answer = r .answer; code = r .code }
+
+-- the encoder of the words A and B and a register
+abbrev pub encoder : ℕ → ℕ → ℕ → Encoder
+encoder a b register = record { a = a; b = b; register = register }
+
+-- struct sdsl_encoded, of a call with the words a and b
+abbrev pub asStep : ℕ → ℕ → Encoded → Step
+asStep a b r = record { answer = r .answer; code = r .code; sixteenths = r .sixteenths; next = encoder a b (r .register) }
+
+-- struct sdsl_encoded_run, of a call with the words a and b
+abbrev pub asRun : ℕ → ℕ → EncodedRun → Run
+asRun a b r = record { answer = r .answer; next = encoder a b (r .register) }
+
+-- struct sdsl_shaped
+abbrev pub asShaped : Shaped → SignalShaped
+asShaped r = record { answer = r .answer; value = r .value }
+
+-- sdsl_activation_level
+abbrev pub ActivationLevelGiven : ℕ → Level → Type 0
+ActivationLevelGiven bit r = ActivationLevel bit (asLevel r)
+
+-- sdsl_data_level
+abbrev pub DataLevelGiven : ℕ → Level → Type 0
+DataLevelGiven code r = DataLevel code (asLevel r)
+
+-- sdsl_level_code
+abbrev pub CodeGiven : ℤ → Code → Type 0
+CodeGiven level r = LevelCode level (asCode r)
+
+-- sdsl_encode
+abbrev pub SymbolEncoded : ℕ → ℕ → ℕ → ℕ → Encoded → Type 0
+SymbolEncoded a b register symbol r = Stepped (encoder a b register) symbol (asStep a b r)
+
+-- sdsl_encode_run, and what the room for the codes holds afterwards
+abbrev pub SymbolsEncoded : ℕ → ℕ → ℕ → List ℕ → List ℕ → EncodedRun → List ℕ → Type 0
+SymbolsEncoded a b register symbols codes r codes′ = Ran (encoder a b register) symbols codes (asRun a b r) codes′
+
+-- sdsl_shaper
+abbrev pub SampleShaped : ℤ → Shaped → Type 0
+SampleShaped y r = Shapes y (asShaped r)
