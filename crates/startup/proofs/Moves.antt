@@ -131,7 +131,7 @@ module _ (en sil : ℕ) where
       by-cases (eqb x 8) (λ e8. rw (eqb-true x 8 e8))
       (λ e8. by-cases (eqb x 0)
       (λ e0. rw (eqb-true x 0 e0, more t t′ _ p e0)
-      (by-cases (leb sil (t + 1)) (λ y. simp (and-true, y)) (λ y. let z : t + 1 < sil = leb-false sil (t + 1) y in simp (and-true, y, lt-ltb t 59999 (omega arith)))))
+      (by-cases (leb sil (t + 1)) (λ y. simp (y)) (λ y. let z : t + 1 < sil = leb-false sil (t + 1) y in simp (y, lt-ltb t 59999 (omega arith)))))
       (λ e0. simp (e8, e0, same t t′ _ p e0, lt-leb sil t h)))
 
 -- A STEP IS THE PHASE'S RULE

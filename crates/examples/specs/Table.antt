@@ -1,0 +1,137 @@
+-- The thirteen examples of document 01 ("Proved examples"): what is called, on what, and what is due. What is due is copied from document 01.
+use mathlib.Core.Bool.{cond}
+use mathlib.Core.List.{List, [], _∷_, _++_, map}
+use Prim.Native.Nat.{ℕ, zero, suc, _+_, _-_, _*_, _/_}
+use lib.IntN.{ℤ, pos, negℤ, natAbs}
+use lib.ListN.{replicate}
+use lib.Signed.{nonNeg}
+use Rattle.octets.specs.Bits.{octetsOf}
+use Rattle.remainder.specs.Division.{checkBits, generator}
+use Rattle.remainder.specs.Register.{registerOf}
+use Rattle.layout.specs.Frame.{trainingSync, finalSync, message, checkOf}
+use Rattle.scrambler.specs.Line.{tapOf}
+use Rattle.scrambler.specs.Run.{scramble, runOf}
+use Rattle.symbol.specs.Levels.{levelAt, dataLevels}
+use Rattle.symbol.specs.Encoder.{codesOf, sentAfter, heldIn}
+use Rattle.symbol.specs.Encoder.{registerOf as encoderRegister}
+use Rattle.signal.specs.Signal.{nearest}
+use Rattle.precoder.specs.Precoder.{exactSum, outputOf}
+
+-- what an example calls, and on what
+pub data Call : Type 0 where
+  -- the octets of a training frame's sync, and of a final frame's
+  training final : Call
+  -- the numbers of the bits from 15 to 4211 that are 1 in a training frame with C(1), A and B, all else zero
+  ones : ℤ → ℕ → ℕ → Call
+  -- a message that is zero but for one frame bit: the numbers of its check bits that are 1, and their frame bits
+  check : ℕ → Call
+  -- the exponents in the remainder of message bits
+  remainder : List ℕ → Call
+  -- what comes out for an end, a state and bits
+  scrambled : ℕ → ℕ → List ℕ → Call
+  -- the levels in sixteenths, then the register: A, B, register, symbols
+  encoded : ℕ → ℕ → ℕ → List ℕ → Call
+  -- v: coefficients, past outputs
+  rounded : List ℤ → List ℤ → Call
+  -- y: coefficients, past outputs, x
+  precoded : List ℤ → List ℤ → ℤ → Call
+  -- the value y/131,072 that the shaper's float has exactly, in thousandths
+  shaped : ℤ → Call
+
+-- the numbers of the bits that are not 0, the first having number n
+unfoldable pub onesFrom : ℕ → List ℕ → List ℕ
+onesFrom n [] = []
+onesFrom n (zero ∷ bs) = onesFrom (n + 1) bs
+onesFrom n (suc b ∷ bs) = n ∷ onesFrom (n + 1) bs
+
+-- natural numbers as whole numbers
+unfoldable pub whole : List ℕ → List ℤ
+whole [] = []
+whole (n ∷ ns) = pos n ∷ whole ns
+
+-- the levels of codes
+unfoldable pub levels : List ℕ → List ℤ
+levels [] = []
+levels (c ∷ cs) = levelAt dataLevels c ∷ levels cs
+
+-- check bits by number, and then by frame bit: c1 is frame bit 4212
+unfoldable pub places : List ℕ → List ℤ
+places cs = whole cs ++ whole (map (λ (c : ℕ). 4211 + c) cs)
+
+-- what exponents stand in a polynomial of degree below 16, the highest first: of D^15 the bit is c1
+unfoldable pub exponents : List ℕ → List ℕ
+exponents [] = []
+exponents (c ∷ cs) = (16 - c) ∷ exponents cs
+
+-- what the definitions give
+unfoldable pub given : Call → List ℤ
+given training = whole (octetsOf 2 trainingSync)
+given final = whole (octetsOf 2 finalSync)
+given (ones c a b) = whole (onesFrom 15 (message (c ∷ replicate 179 (pos 0)) a b (replicate 16 0) (replicate 67 0)))
+given (check n) = places (onesFrom 1 (checkBits 16 (checkOf (replicate (n - 15) 0 ++ (1 ∷ replicate (4211 - n) 0)))))
+given (remainder m) = whole (exponents (onesFrom 1 (checkBits 16 (registerOf 16 generator 0 m))))
+given (scrambled end state bits) = whole (runOf scramble (tapOf end) state bits)
+given (encoded a b register symbols) =
+    levels (codesOf a b (heldIn register) symbols) ++ (pos (encoderRegister (sentAfter (heldIn register) symbols)) ∷ [])
+given (rounded cs past) = nearest (exactSum 180 cs past) ∷ []
+given (precoded cs past x) = outputOf cs past x ∷ []
+given (shaped y) = cond (nonNeg y) (pos (natAbs y * 1000 / 131072)) (negℤ (pos (natAbs y * 1000 / 131072))) ∷ []
+
+-- an example's number in document 01, what it calls, and what is due
+pub record Row : Type 0 where
+  pub number : ℕ
+  pub call : Call
+  pub due : List ℤ
+
+abbrev pub row : ℕ → Call → List ℤ → Row
+row n c d = record { number = n; call = c; due = d }
+
+-- one value in front of 179 zeros
+abbrev pub first : ℤ → List ℤ
+first z = z ∷ replicate 179 (pos 0)
+
+-- 180 coefficients of -2,097,152, and 180 past values of -131,072
+abbrev pub lowest : List ℤ
+lowest = replicate 180 (negℤ (pos 2097152))
+
+abbrev pub furthest : List ℤ
+furthest = replicate 180 (negℤ (pos 131072))
+
+-- the thirteen examples, in their order; of an example with several parts a row each
+unfoldable pub table : List Row
+table =
+    row 1 training (whole (159 ∷ 53 ∷ []))
+    ∷ row 1 final (whole (107 ∷ 62 ∷ []))
+    ∷ row 2 (ones (pos 1) 0 0) (whole (15 ∷ []))
+    ∷ row 2 (ones (negℤ (pos 2097152)) 0 0) (whole (36 ∷ []))
+    ∷ row 3 (ones (pos 0) 1 0) (whole (3975 ∷ []))
+    ∷ row 3 (ones (pos 0) 0 1048576) (whole (4016 ∷ []))
+    ∷ row 4 (check 4211) (whole (4 ∷ 11 ∷ 16 ∷ 4215 ∷ 4222 ∷ 4227 ∷ []))
+    ∷ row 5 (remainder (1 ∷ 0 ∷ [])) (whole (13 ∷ 6 ∷ 1 ∷ []))
+    ∷ row 6 (scrambled 0 0 (replicate 25 1))
+    (whole (1 ∷ 1 ∷ 1 ∷ 1 ∷ 1 ∷ 0 ∷ 0 ∷ 0 ∷ 0 ∷ 0 ∷ 1 ∷ 1 ∷ 1 ∷ 1 ∷ 1 ∷ 0 ∷ 0 ∷ 0 ∷ 0 ∷ 0 ∷ 1 ∷ 1 ∷ 1 ∷ 0 ∷ 0 ∷ []))
+    ∷ row 7 (scrambled 1 0 (replicate 24 1)) (whole (replicate 18 1 ++ (replicate 5 0 ++ (1 ∷ []))))
+    ∷ row 8 (scrambled 0 8388607 (1 ∷ [])) (whole (1 ∷ []))
+    ∷ row 8 (scrambled 1 8388607 (1 ∷ [])) (whole (1 ∷ []))
+    ∷ row 9 (encoded 1 2 0 (5 ∷ 3 ∷ [])) (whole (13 ∷ 3 ∷ 2 ∷ []))
+    ∷ row 10 (precoded (first (pos 65536)) (first (pos 73728)) (pos 73728)) (pos 36864 ∷ [])
+    ∷ row 11 (precoded (first (negℤ (pos 131072))) (first (pos 122880)) (pos 122880)) (negℤ (pos 16384) ∷ [])
+    ∷ row 11 (shaped (negℤ (pos 16384))) (negℤ (pos 125) ∷ [])
+    ∷ row 12 (rounded (first (pos 1)) (first (pos 65536))) (pos 1 ∷ [])
+    ∷ row 12 (rounded (first (pos 1)) (first (negℤ (pos 65536)))) (pos 0 ∷ [])
+    ∷ row 12 (rounded (first (pos 1)) (first (negℤ (pos 65537)))) (negℤ (pos 1) ∷ [])
+    ∷ row 13 (rounded lowest furthest) (pos 377487360 ∷ [])
+    ∷ row 13 (precoded lowest furthest (pos 131071)) (pos 131071 ∷ [])
+    ∷ row 13 (precoded lowest furthest (pos 0)) (pos 0 ∷ [])
+    ∷ row 13 (precoded lowest furthest (negℤ (pos 131072))) (negℤ (pos 131072) ∷ [])
+    ∷ []
+
+-- what the definitions give for every row
+unfoldable pub allGiven : List Row → List (List ℤ)
+allGiven [] = []
+allGiven (r ∷ rs) = given (r .call) ∷ allGiven rs
+
+-- what is due in every row
+unfoldable pub allDue : List Row → List (List ℤ)
+allDue [] = []
+allDue (r ∷ rs) = r .due ∷ allDue rs
