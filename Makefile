@@ -1,13 +1,20 @@
-# make        builds the static library for the card's host software: build/libsdsl.a
+# make        builds the static library for the card's host software, build/libsdsl.a, and the bench lister, build/lister
 # make test   proves every crate, then runs every test; the last line is 'N passed, 0 failed'
 .PHONY: all test clean
 
-all: build/libsdsl.a
+SOURCES = crates.txt $(shell find crates -name '*.rt' -o -name '*.antt')
 
-build/libsdsl.a: crates.txt $(shell find crates -name '*.rt' -o -name '*.antt')
+all: build/libsdsl.a build/lister
+
+build/libsdsl.a: $(SOURCES)
 	rt staticlib host
 	mkdir -p build
 	cp target/staticlib/libhost.a $@
+
+build/lister: $(SOURCES)
+	rt check lister
+	mkdir -p build
+	cp target/bin/lister $@
 
 test:
 	bash tests/run

@@ -184,7 +184,7 @@ sets-bits l i (b ∷ bs) h k = sets-bits (set l i b) (suc i) bs (one l i h) (λ 
     one (x ∷ l) (suc i) h zero = h 0
     one (x ∷ l) (suc i) h (suc j) = one l i (λ m. h (suc m)) j
 
-sets-append : (l : List ℕ) (at : ℕ) (xs ys : List ℕ) → sets l at (xs ++ ys) ≡ sets (sets l at xs) (at + length xs) ys
+pub sets-append : (l : List ℕ) (at : ℕ) (xs ys : List ℕ) → sets l at (xs ++ ys) ≡ sets (sets l at xs) (at + length xs) ys
 sets-append l at [] ys = ap (λ (n : ℕ). sets l n ys) (sym (add-zero at))
 sets-append l at (x ∷ xs) ys =
     sets-append (set l at x) (suc at) xs ys

@@ -54,15 +54,22 @@ module _ (B : List ℕ) (s : ℕ) (e : s ≡ valueOf (part 0 14 B)) where
 
 -- ---- check bits
 
-pub checks-is : (f : List ℕ) (r c t : ℕ) → length f ≡ 529 → CheckBits f 14 4197 r → c ≡ valueOf (part 4211 16 (bitsOf f)) → t ≡ valueOf (reverse (digitsOf 16 c))
-    → eqb t r ≡ eqb (polynomial (fieldOf check (bitsOf f))) (checkOf (messageOf (bitsOf f)))
-checks-is f r c t l d e g =
+-- as the code reads them
+pub check-number : (f : List ℕ) (c t : ℕ) → length f ≡ 529 → c ≡ valueOf (part 4211 16 (bitsOf f)) → t ≡ valueOf (reverse (digitsOf 16 c))
+    → t ≡ polynomial (fieldOf check (bitsOf f))
+check-number f c t l e g =
     let B = bitsOf f in
     let K = part 4211 16 B in
     let n : length K ≡ 16 = length-take-le 16 (drop 4211 B) (omega (arith, length-drop 4211 B, bits-length f)) in
     let back : digitsOf 16 c ≡ K =
     ap (digitsOf 16) e ∙ ap (λ (i : ℕ). digitsOf i (valueOf K)) (sym n) ∙ digits-value K (take-bits 16 (drop 4211 B) (drop-bits 4211 B (bits-bits f))) in
-    ap₂ eqb (g ∙ ap (λ (x : List ℕ). valueOf (reverse x)) back)
+    g ∙ ap (λ (x : List ℕ). valueOf (reverse x)) back
+
+pub checks-is : (f : List ℕ) (r c t : ℕ) → length f ≡ 529 → CheckBits f 14 4197 r → c ≡ valueOf (part 4211 16 (bitsOf f)) → t ≡ valueOf (reverse (digitsOf 16 c))
+    → eqb t r ≡ eqb (polynomial (fieldOf check (bitsOf f))) (checkOf (messageOf (bitsOf f)))
+checks-is f r c t l d e g =
+    let B = bitsOf f in
+    ap₂ eqb (check-number f c t l e g)
     (computed 16 generator (lit≤ tt) generator-degree (messageOf B) r (take-bits 4197 (drop 14 B) (drop-bits 14 B (bits-bits f))) d)
 
 -- ---- coefficients

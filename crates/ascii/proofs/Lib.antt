@@ -1,0 +1,4 @@
+pub mod Room
+pub mod Numbers
+pub mod Reading
+pub mod One

@@ -1,0 +1,12 @@
+-- What the functions that put text into a lent room promise.
+use mathlib.Core.Path.{_≡_}
+use mathlib.Core.List.{List}
+use Prim.Native.Nat.{ℕ, _+_, _-_, min}
+use lib.ListN.{length}
+use lib.Seq.{sets}
+
+-- put_word, put_decimal and the others, each with its own text, from a place on: what would lie past the room's end is left out, and the
+-- next place comes back
+pub record Put (room : List ℕ) (at : ℕ) (text : List ℕ) (next : ℕ) (exit : List ℕ) : Type 0 where
+  pub behind : next ≡ at + min (length text) (length room - at)
+  pub laid : exit ≡ sets room at text

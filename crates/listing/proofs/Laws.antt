@@ -1,0 +1,227 @@
+-- Laws of the listing's lines. Assumes nothing.
+use mathlib.Core.Path.{_≡_, refl, sym, ap, ap₂, _∙_}
+use mathlib.Core.Bool.{Bool, true, false, cond, not, _&&_, true≢false}
+use mathlib.Core.List.{List, [], _∷_, _++_, append-nil, append-assoc, reverse}
+use Prim.Native.Nat.{ℕ, zero, suc, _+_, _-_, _≤_, _<_}
+use native.Mathlib.Nat.{add-zero}
+use native.Mathlib.Numerals.{add-one}
+use native.Mathlib.Omega.{arith}
+use borrow.Author.Tests.{eq-eqb, eqb-true, not-false}
+use lib.Dec.{eqb}
+use lib.IntN.{ℤ, pos, negsuc}
+use lib.ListN.{length, getD, take}
+use lib.Seq.{take-suc, length-take-le}
+use lib.Signed.{mag}
+use mir.Syntax.{w32}
+use mir.Val.{ofZ}
+use Rattle.answer.specs.Answer.{answer}
+use Rattle.answer.proofs.Laws.{none, given}
+use Rattle.octets.specs.Bits.{digitsOf, valueOf, bitsOf}
+use Rattle.octets.proofs.Digits.{turned-lt}
+use Rattle.remainder.specs.Division.{polynomial}
+use Rattle.layout.specs.Places.{wordA, wordB, check}
+use Rattle.layout.specs.Frame.{trainingSync, fieldOf, coefficientsOf}
+use Rattle.layout.specs.Refusals.{hasSync, bitRefusals, checkRefusals, readRefusals}
+use Rattle.reader.specs.declared.Found.{Found}
+use Rattle.reader.specs.Promises.{foundOf, coefficientsLeft, vendorOctets, Read}
+use Rattle.ascii.specs.Text.{text, decimal}
+use Rattle.ascii.specs.Promises.{Put}
+use Rattle.ascii.proofs.Room.{put-first}
+use Rattle.listing.specs.Promises.{Listed}
+use Rattle.listing.specs.Listing.{isZero, allZero, highest, numberLine, coefficientLine, coefficientLines, trainingText, finalText, listed, listing}
+
+pub both : (a b : Bool) → (a && b) ≡ true → (a ≡ true) × (b ≡ true)
+both true b e = (refl, e)
+both false b e = absurd (true≢false (sym e))
+
+-- ---- the highest non-zero coefficient
+
+-- zero, as the code tests it
+pub zero-is : (z : ℤ) → mag z < 2147483648 → ofZ w32 z ≡ 0 → isZero z ≡ true
+unfolding isZero
+zero-is (pos zero) h e = refl
+zero-is (pos (suc n)) h e = absurd (omega arith)
+zero-is (negsuc n) h e = absurd (omega arith)
+
+pub zero-not : (z : ℤ) → (ofZ w32 z ≡ 0 → ⊥) → isZero z ≡ false
+unfolding isZero
+zero-not (pos zero) h = absurd (h refl)
+zero-not (pos (suc n)) h = refl
+zero-not (negsuc n) h = refl
+
+-- a last coefficient that is zero
+all-zero : (cs : List ℤ) (c : ℤ) → isZero c ≡ true → allZero (cs ++ (c ∷ [])) ≡ allZero cs
+unfolding allZero
+all-zero [] c e = ap (λ (b : Bool). b && true) e
+all-zero (d ∷ cs) c e = ap (λ (b : Bool). isZero d && b) (all-zero cs c e)
+
+highest-zero : (cs : List ℤ) (c : ℤ) → isZero c ≡ true → highest (cs ++ (c ∷ [])) ≡ highest cs
+unfolding highest allZero
+highest-zero [] c e = ap (λ (b : Bool). cond (b && true) 0 1) e
+highest-zero (d ∷ cs) c e =
+    ap₂ (λ (b : Bool) (n : ℕ). cond (isZero d && b) 0 (suc n)) (all-zero cs c e) (highest-zero cs c e)
+
+-- a last coefficient that is not
+all-not : (cs : List ℤ) (c : ℤ) → isZero c ≡ false → allZero (cs ++ (c ∷ [])) ≡ false
+unfolding allZero
+all-not [] c e = ap (λ (b : Bool). b && true) e
+all-not (d ∷ cs) c e = ap (λ (b : Bool). isZero d && b) (all-not cs c e) ∙ never (isZero d)
+  where
+    never : (b : Bool) → (b && false) ≡ false
+    never true = refl
+    never false = refl
+
+highest-last : (cs : List ℤ) (c : ℤ) → isZero c ≡ false → highest (cs ++ (c ∷ [])) ≡ suc (length cs)
+unfolding highest
+highest-last [] c e = ap (λ (b : Bool). cond b 0 1) (all-not [] c e)
+highest-last (d ∷ cs) c e = ap₂ (λ (b : Bool) (n : ℕ). cond b 0 (suc n)) (all-not (d ∷ cs) c e) (highest-last cs c e)
+
+-- the same of the first n, by coefficient number n
+module _ (cs : List ℤ) (n : ℕ) (some : 0 < n) (within : n ≤ length cs) where
+  split : take n cs ≡ take (n - 1) cs ++ (getD cs (n - 1) (pos 0) ∷ [])
+  split =
+      let e : n ≡ suc (n - 1) = omega arith in
+      ap (λ (k : ℕ). take k cs) e ∙ take-suc cs (n - 1) (pos 0) (omega arith)
+
+  pub highest-here : isZero (getD cs (n - 1) (pos 0)) ≡ false → highest (take n cs) ≡ n
+  highest-here e =
+      ap highest split ∙ highest-last (take (n - 1) cs) (getD cs (n - 1) (pos 0)) e
+      ∙ omega (arith, length-take-le (n - 1) cs (omega arith))
+
+  pub highest-below : isZero (getD cs (n - 1) (pos 0)) ≡ true → highest (take (n - 1) cs) ≡ highest (take n cs)
+  highest-below e = sym (ap highest split ∙ highest-zero (take (n - 1) cs) (getD cs (n - 1) (pos 0)) e)
+
+-- none
+pub highest-none : 0 ≡ highest []
+unfolding highest
+highest-none = refl
+
+-- it is one of the coefficients
+pub highest-within : (cs : List ℤ) → highest cs ≤ length cs
+unfolding highest
+highest-within [] = omega arith
+highest-within (c ∷ cs) = pick (allZero (c ∷ cs)) (highest-within cs)
+  where
+    pick : (b : Bool) → highest cs ≤ length cs → cond b 0 (suc (highest cs)) ≤ suc (length cs)
+    pick true h = omega arith
+    pick false h = omega arith
+
+-- ---- coefficient lines, one more
+
+lines-append : (k : ℕ) (cs : List ℤ) (c : ℤ) → coefficientLines k (cs ++ (c ∷ [])) ≡ coefficientLines k cs ++ coefficientLine (k + length cs) c
+unfolding coefficientLines coefficientLine
+lines-append k [] c = append-nil (coefficientLine k c) ∙ ap (λ (n : ℕ). coefficientLine n c) (sym (add-zero k))
+lines-append k (d ∷ cs) c =
+    ap (λ (l : List ℕ). coefficientLine k d ++ l) (lines-append (suc k) cs c)
+    ∙ sym (append-assoc (coefficientLine k d) (coefficientLines (suc k) cs) (coefficientLine (suc k + length cs) c))
+    ∙ ap (λ (n : ℕ). coefficientLine k d ++ coefficientLines (suc k) cs ++ coefficientLine n c) (omega arith)
+
+pub lines-none : [] ≡ coefficientLines 1 []
+unfolding coefficientLines
+lines-none = refl
+
+pub lines-next : (cs : List ℤ) (k : ℕ) → k < length cs
+    → coefficientLines 1 (take k cs) ++ coefficientLine (k + 1) (getD cs k (pos 0)) ≡ coefficientLines 1 (take (k + 1) cs)
+lines-next cs k h =
+    let e : k + 1 ≡ 1 + length (take k cs) = omega (arith, length-take-le k cs (omega arith)) in
+    ap (λ (n : ℕ). coefficientLines 1 (take k cs) ++ coefficientLine n (getD cs k (pos 0))) e
+    ∙ sym (lines-append 1 (take k cs) (getD cs k (pos 0)))
+    ∙ ap (coefficientLines 1) (sym (take-suc cs k (pos 0) h) ∙ ap (λ (n : ℕ). take n cs) (sym (add-one k)))
+
+-- ---- check bits as a number
+
+pub check-small : (c t : ℕ) → t ≡ valueOf (reverse (digitsOf 16 c)) → t < 65536
+check-small c t e = omega (arith, turned-lt 16 c)
+
+-- ---- the listing, of what reading gives
+
+module _ (f : List ℕ) (cs : List ℤ) (v : List ℕ) (lc : length cs ≡ 180) (lv : length v ≡ 16) (r : Found) (cs′ : List ℤ) (v′ : List ℕ) (d : Read f cs v r cs′ v′) where
+  abbrev B : List ℕ
+  B = bitsOf f
+
+  -- a training frame's numbers and a final one's
+  abbrev T : Found
+  T = record { answer = 0; kind = 0; a = valueOf (fieldOf wordA B); b = valueOf (fieldOf wordB B) }
+
+  abbrev F : Found
+  F = record { answer = 0; kind = 1; a = 0; b = 0 }
+
+  -- with rooms of the right length, reading answers as checking does
+  same : answer (readRefusals f cs v) ≡ answer (checkRefusals f)
+  same = simp (eq-eqb (length cs) 180 lc, eq-eqb (length v) 16 lv)
+
+  found : r ≡ foundOf (answer (checkRefusals f)) B
+  found = d .found ∙ ap (λ (n : ℕ). foundOf n B) same
+
+  -- a refusal
+  pub refused-text : (r .answer ≡ 0 → ⊥) → text "refused " ++ decimal (r .answer) ++ (10 ∷ []) ≡ listing f
+  unfolding listing listed numberLine
+  refused-text h = go (answer (checkRefusals f)) found
+    where
+      done : (t : Bool) → cond {A = Found} t T F .answer ≡ 0
+      done true = refl
+      done false = refl
+
+      go : (n : ℕ) → r ≡ foundOf n B → text "refused " ++ decimal (r .answer) ++ (10 ∷ []) ≡ listed n B
+      go zero e = absurd (h (ap (λ (x : Found). x .answer) e ∙ done (hasSync trainingSync B)))
+      go (suc n) e = ap (λ (x : Found). text "refused " ++ decimal (x .answer) ++ (10 ∷ [])) e
+
+  module _ (z : r .answer ≡ 0) where
+    -- no refusal
+    none-applies : answer (checkRefusals f) ≡ 0
+    none-applies = go (answer (checkRefusals f)) found
+      where
+        go : (n : ℕ) → r ≡ foundOf n B → n ≡ 0
+        go zero e = refl
+        go (suc n) e = sym (ap (λ (x : Found). x .answer) e) ∙ z
+
+    pub read-length : length f ≡ 529
+    read-length = eqb-true (length f) 529 (not-false _ (none 0 (not (eqb (length f) 529)) (bitRefusals B) none-applies .0))
+
+    coefficients-are : cs′ ≡ coefficientsLeft B cs
+    coefficients-are = d .coefficients-left ∙ given _ cs (coefficientsLeft B cs) (same ∙ none-applies)
+
+    vendor-is : v′ ≡ vendorOctets B
+    vendor-is = d .vendor-left ∙ given _ v (vendorOctets B) (same ∙ none-applies)
+
+    found-is : r ≡ foundOf 0 B
+    found-is = found ∙ ap (λ (n : ℕ). foundOf n B) none-applies
+
+    -- what is printed where nothing is wrong
+    listing-is : listed 0 B ≡ listing f
+    unfolding listing
+    listing-is = ap (λ (n : ℕ). listed n B) (sym none-applies)
+
+    module _ (c : ℕ) (e : c ≡ polynomial (fieldOf check B)) where
+      abbrev training : List ℕ
+      training = trainingText (coefficientsOf B) (T .a) (T .b) (vendorOctets B) (polynomial (fieldOf check B))
+
+      abbrev final : List ℕ
+      final = finalText (vendorOctets B) (polynomial (fieldOf check B))
+
+      pub training-text : r .kind ≡ 0 → trainingText cs′ (r .a) (r .b) v′ c ≡ listing f
+      unfolding listed
+      training-text k = go (hasSync trainingSync B) found-is coefficients-are ∙ listing-is
+        where
+          go : (t : Bool) → r ≡ cond t T F → cs′ ≡ cond t (coefficientsOf B) cs → trainingText cs′ (r .a) (r .b) v′ c ≡ cond t training final
+          go true p q =
+              ap (λ (x : List ℤ). trainingText x (r .a) (r .b) v′ c) q
+              ∙ ap (λ (x : Found). trainingText (coefficientsOf B) (x .a) (x .b) v′ c) p
+              ∙ ap₂ (trainingText (coefficientsOf B) (T .a) (T .b)) vendor-is e
+          go false p q =
+              let kind-is : _≡_ {A = ℕ} 0 1 = sym k ∙ ap (λ (x : Found). x .kind) p in
+              absurd (omega arith)
+
+      pub final-text : (r .kind ≡ 0 → ⊥) → finalText v′ c ≡ listing f
+      unfolding listed
+      final-text k = go (hasSync trainingSync B) found-is ∙ listing-is
+        where
+          go : (t : Bool) → r ≡ cond t T F → finalText v′ c ≡ cond t training final
+          go true p = absurd (k (ap (λ (x : Found). x .kind) p))
+          go false p = ap₂ finalText vendor-is e
+
+-- a listing put from the first place on
+pub put-listing : (octets s t : List ℕ) (r : ℕ) → Put s 0 (listing octets) r t → Listed octets s r t
+put-listing octets s t r p =
+    let w = put-first (listing octets) s t r p in
+    record { count = w .0; room-left = w .1 }

@@ -1,0 +1,5 @@
+pub mod Laws
+pub mod NonZero
+pub mod Fits
+pub mod One
+pub mod Example

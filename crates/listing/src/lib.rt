@@ -1,0 +1,125 @@
+// The bench listing (document 01): a frame's text, put into a lent room. What the text is, is specs/Listing.antt.
+ghost use mathlib.Core.Path.{_≡_};
+ghost use mathlib.Core.List.{_∷_, [], _++_};
+ghost use Prim.Native.Nat.{_<_, _≤_};
+ghost use lib.ListN.{length, take};
+ghost use Rattle.ascii.specs.Text.{decimal};
+ghost use Rattle.ascii.specs.Promises.{Put};
+ghost use Rattle.listing.specs.Listing.{coefficientLine, coefficientLines, vendorLine, checkLine, trainingText, finalText};
+ghost use Rattle.listing.specs.Listing.{highest as highestOf};
+ghost use Rattle.listing.specs.Promises.{Listed};
+
+// A line that names a number.
+fn put_number_line(room: &mut [u8], at: usize, name: &[u8], n: u32) -> usize
+    ensures { λ r. ⌜ Put (now (room .entry)) at (now (name .entry) ++ decimal n ++ (10 ∷ [])) r (now (room .exit)) ⌝ }
+{
+    let named = ascii::put_word(room, at, name);
+    let next = ascii::put_decimal(room, named, n);
+    ascii::put(room, next, b'\n')
+}
+
+// The line of coefficient number k.
+fn put_coefficient_line(room: &mut [u8], at: usize, k: u32, c: i32) -> usize
+    ensures { λ r. ⌜ Put (now (room .entry)) at (coefficientLine k c) r (now (room .exit)) ⌝ }
+{
+    let named = ascii::put_word(room, at, b"c ");
+    let numbered = ascii::put_decimal(room, named, k);
+    let parted = ascii::put(room, numbered, b' ');
+    let next = ascii::put_signed(room, parted, c);
+    ascii::put(room, next, b'\n')
+}
+
+// A line for each of the first n coefficients.
+fn put_coefficient_lines(room: &mut [u8], at: usize, cs: &[i32], n: u32) -> usize
+    requires { ⌜ (n ≤ length (now cs)) × (n ≤ 180) ⌝ }
+    ensures { λ r. ⌜ Put (now (room .entry)) at (coefficientLines 1 (take n (now (cs .entry)))) r (now (room .exit)) ⌝ }
+{
+    let mut next = at;
+    let mut k: u32 = 0;
+    while k < n {
+        let i = k as usize;
+        next = put_coefficient_line(room, next, k + 1, cs[i]);
+        k += 1;
+    }
+    next
+}
+
+// The number of the highest non-zero coefficient, counted from 1; 0 where there is none.
+fn highest(cs: &[i32]) -> u32
+    requires { ⌜ length (now cs) ≡ 180 ⌝ }
+    ensures { λ r. ⌜ r ≡ highestOf (now (cs .entry)) ⌝ }
+{
+    let mut n: u32 = 180;
+    while 0 < n {
+        let i = (n - 1) as usize;
+        if cs[i] != 0 {
+            return n;
+        }
+        n -= 1;
+    }
+    0
+}
+
+// The vendor line.
+fn put_vendor_line(room: &mut [u8], at: usize, vendor: &[u8]) -> usize
+    ensures { λ r. ⌜ Put (now (room .entry)) at (vendorLine (now (vendor .entry))) r (now (room .exit)) ⌝ }
+{
+    let named = ascii::put_word(room, at, b"vendor ");
+    let next = ascii::put_hexes(room, named, vendor);
+    ascii::put(room, next, b'\n')
+}
+
+// The check line.
+fn put_check_line(room: &mut [u8], at: usize, check: u32) -> usize
+    requires { ⌜ check < 65536 ⌝ }
+    ensures { λ r. ⌜ Put (now (room .entry)) at (checkLine check) r (now (room .exit)) ⌝ }
+{
+    let named = ascii::put_word(room, at, b"check ");
+    let half = ascii::put_hex(room, named, (check / 256) as u8);
+    let next = ascii::put_hex(room, half, (check % 256) as u8);
+    ascii::put(room, next, b'\n')
+}
+
+// A training frame's text.
+fn put_training(room: &mut [u8], cs: &[i32], a: u32, b: u32, vendor: &[u8], check: u32) -> usize
+    requires { ⌜ (length (now cs) ≡ 180) × (check < 65536) ⌝ }
+    ensures { λ r. ⌜ Put (now (room .entry)) 0 (trainingText (now (cs .entry)) a b (now (vendor .entry)) check) r (now (room .exit)) ⌝ }
+{
+    let n = highest(cs);
+    let mut at = ascii::put_word(room, 0, b"kind training\n");
+    at = put_number_line(room, at, b"coefficients ", n);
+    at = put_coefficient_lines(room, at, cs, n);
+    at = put_number_line(room, at, b"A ", a);
+    at = put_number_line(room, at, b"B ", b);
+    at = put_vendor_line(room, at, vendor);
+    put_check_line(room, at, check)
+}
+
+// A final frame's text.
+fn put_final(room: &mut [u8], vendor: &[u8], check: u32) -> usize
+    requires { ⌜ check < 65536 ⌝ }
+    ensures { λ r. ⌜ Put (now (room .entry)) 0 (finalText (now (vendor .entry)) check) r (now (room .exit)) ⌝ }
+{
+    let mut at = ascii::put_word(room, 0, b"kind final\n");
+    at = put_vendor_line(room, at, vendor);
+    put_check_line(room, at, check)
+}
+
+// The listing of the octets read, and how much of the room it takes.
+pub fn list(frame: &[u8], room: &mut [u8]) -> usize
+    ensures { λ r. ⌜ Listed (now (frame .entry)) (now (room .entry)) r (now (room .exit)) ⌝ }
+{
+    let mut cs = [0i32; layout::COEFFICIENTS];
+    let mut vendor = [0u8; layout::VENDOR_OCTETS];
+    let found = reader::read(frame, &mut cs, &mut vendor);
+    if found.answer != answer::DONE {
+        return put_number_line(room, 0, b"refused ", found.answer);
+    }
+    let bits = octets::field(frame, layout::CHECK_AT, layout::CHECK_BITS);
+    let check = octets::turned(layout::CHECK_BITS, bits);
+    if found.kind == layout::TRAINING {
+        put_training(room, &cs, found.a, found.b, &vendor, check)
+    } else {
+        put_final(room, &vendor, check)
+    }
+}

@@ -1,0 +1,143 @@
+"""The lister's cases, from document 01 alone: frames are laid bit by bit, check bits divided out by hand, and the text put together here.
+The command to run is given as arguments.
+"""
+import random
+import subprocess
+import sys
+
+SEED = 20261116
+TRAINING = "11111001101011"
+FINAL = "11010110011111"
+LEAST, MOST = -2097152, 2097151
+
+
+def lowest_first(n, width):
+    """The bits of n, two's complement where it is below zero, least bit first."""
+    return [(n >> k) & 1 for k in range(width)]
+
+
+def divided(message):
+    """Schoolbook division by D^16 + D^12 + D^5 + 1 of the message times D^16: the remainder's 16 bits, that of D^15 first."""
+    rest = message + [0] * 16
+    for k in range(len(message)):
+        if rest[k]:
+            for power in (16, 12, 5, 0):
+                rest[k + 16 - power] ^= 1
+    return rest[-16:]
+
+
+def payload(coefficients, a, b, vendor, reserved):
+    bits = []
+    for k in range(180):
+        bits += lowest_first(coefficients[k] if k < len(coefficients) else 0, 22)
+    bits += lowest_first(a, 21) + lowest_first(b, 21)
+    for octet in vendor:
+        bits += lowest_first(octet, 8)
+    return bits + reserved
+
+
+def frame_bits(sync, message):
+    bits = [int(bit) for bit in sync] + message + divided(message) + [0] * 5
+    assert len(bits) == 4232
+    return bits
+
+
+def in_octets(bits):
+    return bytes(sum(bits[8 * k + j] << j for j in range(8)) for k in range(len(bits) // 8))
+
+
+def check_digits(message):
+    return f"{int(''.join(map(str, divided(message))), 2):04X}"
+
+
+def last_lines(vendor, message):
+    return f"vendor {''.join(f'{octet:02X}' for octet in vendor)}\ncheck {check_digits(message)}\n"
+
+
+def training(coefficients, a, b, vendor):
+    """A training frame, and the text for it."""
+    message = payload(coefficients, a, b, vendor, [0] * 67)
+    highest = 0
+    for k, c in enumerate(coefficients, 1):
+        if c != 0:
+            highest = k
+    lines = "".join(f"c {k} {coefficients[k - 1]}\n" for k in range(1, highest + 1))
+    text = f"kind training\ncoefficients {highest}\n{lines}A {a}\nB {b}\n" + last_lines(vendor, message)
+    return in_octets(frame_bits(TRAINING, message)), text
+
+
+def final(message, vendor):
+    return in_octets(frame_bits(FINAL, message)), "kind final\n" + last_lines(vendor, message)
+
+
+def wrong(octets, *flips):
+    """The octets with the paper's bits, counted from 1, turned over."""
+    changed = bytearray(octets)
+    for n in flips:
+        changed[(n - 1) // 8] ^= 1 << (n - 1) % 8
+    return bytes(changed)
+
+
+failures = 0
+
+
+def case(name, octets, text):
+    global failures
+    got = subprocess.run(sys.argv[1:], input=octets, capture_output=True)
+    right = got.stdout == text.encode("ascii") and got.returncode == 0 and got.stderr == b""
+    failures += not right
+    print(("pass: " if right else "FAIL: ") + name)
+    if not right:
+        print(f"  printed {got.stdout[:200]!r}\n  not     {text[:200]!r}")
+
+
+rng = random.Random(SEED)
+zeros = bytes(16)
+counted = bytes(range(0xF0, 0x100))
+none = [0] * 180
+
+# document 01's example, its octets and its text written out
+example = bytes([0x9F, 0x35]) + bytes(527)
+case("document 01's example", example,
+     "kind training\ncoefficients 0\nA 0\nB 0\nvendor 00000000000000000000000000000000\ncheck 0000\n")
+assert training(none, 0, 0, zeros)[0] == example
+
+case("c 1 -131072", *training([-131072], 1, 1048576, counted))
+case("180 coefficients at the least", *training([LEAST] * 180, MOST, MOST, counted))
+case("180 coefficients at the most", *training([MOST] * 180, MOST, 0, counted[::-1]))
+case("zeros between non-zero ones", *training([0, 5, 0, 0, -1, 0, 0, 7] + [0] * 120 + [-10, 0, 0], 9, 10, counted))
+case("coefficient 180 alone", *training([0] * 179 + [1], 0, 100, zeros))
+case("coefficient 1 alone, 10", *training([10], 99, 101, zeros))
+
+empty = payload([], 0, 0, counted, [0] * 67)
+case("a final frame", *final(empty, counted))
+arbitrary = [rng.randrange(2) for _ in range(4197)]
+place = 4017 - 15
+carried = in_octets(arbitrary[place:place + 128])
+case("a final frame with arbitrary payload and reserved bits", *final(arbitrary, carried))
+
+good = training([3, 0, -4], 5, 6, counted)[0]
+case("refused 5: sync", wrong(good, 1), "refused 5\n")
+case("refused 6: each pad bit, first", wrong(good, 4228), "refused 6\n")
+case("refused 6: last", wrong(good, 4232), "refused 6\n")
+case("refused 7: a message bit", wrong(good, 15), "refused 7\n")
+case("refused 7: a check bit", wrong(good, 4227), "refused 7\n")
+reserved = payload([3, 0, -4], 5, 6, counted, [0] * 66 + [1])
+case("refused 8: the last reserved bit", in_octets(frame_bits(TRAINING, reserved)), "refused 8\n")
+reserved = payload([3, 0, -4], 5, 6, counted, [1] + [0] * 66)
+case("refused 8: the first reserved bit", in_octets(frame_bits(TRAINING, reserved)), "refused 8\n")
+case("refused 5 before 6 and 7", wrong(good, 2, 4229, 4212), "refused 5\n")
+case("refused 6 before 7 and 8", wrong(good, 4230, 4150), "refused 6\n")
+case("refused 7 before 8", wrong(good, 4150), "refused 7\n")
+for length in (0, 1, 528):
+    case(f"{length} octets", good[:length], "refused 1\n")
+case("530 octets", good + b"\0", "refused 1\n")
+case("100000 octets", good + bytes(100000 - 529), "refused 1\n")
+
+wide = [rng.choice([LEAST, -10, -9, -1, 0, 0, 0, 1, 9, 10, 100, MOST, rng.randint(LEAST, MOST)]) for _ in range(180)]
+case(f"180 coefficients of every length (seed {SEED})", *training(wide, 2097150, 1000000, rng.randbytes(16)))
+for k in range(20):
+    count = rng.randrange(181)
+    numbers = [rng.choice([0, rng.randint(LEAST, MOST), rng.randint(-20, 20)]) for _ in range(count)]
+    case(f"random training frame {k + 1}", *training(numbers, rng.randint(0, MOST), rng.randint(0, 1 << rng.randrange(1, 21)), rng.randbytes(16)))
+sys.exit(failures != 0)
