@@ -1,14 +1,28 @@
 -- The one claim over the table: in every row the definitions that the contracts cite give what is due. Assumes nothing.
-use mathlib.Core.Path.{_≡_, refl}
+use mathlib.Core.Path.{_≡_, refl, sym}
+use mathlib.Core.Bool.{true}
+use lib.IntN.{ℤ, pos, -ℤ-+ℤ-cancel}
 use Rattle.octets.specs.Bits.{digitsOf, valueOf, bitsOf, octetsOf}
 use Rattle.octets.specs.Signed.{twosOf, numberBits}
 use Rattle.remainder.specs.Register.{registerOf}
 use Rattle.layout.specs.Frame.{trainingSync, finalSync, message}
 use Rattle.scrambler.specs.Run.{runOf}
 use Rattle.symbol.specs.Encoder.{onesLeft, sentAfter, codesOf, lowBits, numberOf}
-use Rattle.precoder.specs.Precoder.{exactSum}
-use Rattle.examples.specs.Table.{places, table, given, whole, levels, onesFrom, exponents, allGiven, allDue}
+use Rattle.signal.specs.Signal.{isSignal}
+use Rattle.signal.proofs.Rounding.{rounds-nearest}
+use Rattle.precoder.specs.Precoder.{exactSum, Sends}
+use Rattle.examples.specs.Table.{lowest, furthest, places, table, given, whole, levels, onesFrom, exponents, allGiven, allDue}
 
 pub examples : allGiven table ≡ allDue table
 unfolding table given whole levels places onesFrom exponents allGiven allDue digitsOf valueOf bitsOf octetsOf twosOf numberBits registerOf trainingSync finalSync message runOf onesLeft sentAfter codesOf lowBits numberOf exactSum
 examples = refl
+
+-- the thirteenth for every x: v is 1,440 times 262,144, so x goes out as itself
+pub thirteenth : (x : ℤ) → isSignal x ≡ true → Sends lowest furthest x x
+unfolding exactSum
+thirteenth x h =
+    record {
+      v = pos 377487360;
+      rounds = rounds-nearest (exactSum 180 lowest furthest);
+      folds = record { d = pos 1440; is = sym (-ℤ-+ℤ-cancel x (pos 377487360)); signal = h };
+    }
