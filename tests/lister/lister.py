@@ -81,14 +81,23 @@ def wrong(octets, *flips):
 failures = 0
 
 
-def case(name, octets, text):
-    global failures
+def run(octets):
     got = subprocess.run(sys.argv[1:], input=octets, capture_output=True)
-    right = got.stdout == text.encode("ascii") and got.returncode == 0 and got.stderr == b""
+    return got.returncode, got.stdout, got.stderr
+
+
+def report(name, right):
+    global failures
     failures += not right
     print(("pass: " if right else "FAIL: ") + name)
+
+
+def case(name, octets, text):
+    got = run(octets)
+    right = got == (0, text.encode("ascii"), b"")
+    report(name, right)
     if not right:
-        print(f"  printed {got.stdout[:200]!r}\n  not     {text[:200]!r}")
+        print(f"  ended with {got[0]}, printed {got[1][:200]!r}\n  and not {text[:200]!r}")
 
 
 rng = random.Random(SEED)
@@ -118,8 +127,8 @@ case("a final frame with arbitrary payload and reserved bits", *final(arbitrary,
 
 good = training([3, 0, -4], 5, 6, counted)[0]
 case("refused 5: sync", wrong(good, 1), "refused 5\n")
-case("refused 6: each pad bit, first", wrong(good, 4228), "refused 6\n")
-case("refused 6: last", wrong(good, 4232), "refused 6\n")
+case("refused 6: the first pad bit", wrong(good, 4228), "refused 6\n")
+case("refused 6: the last pad bit", wrong(good, 4232), "refused 6\n")
 case("refused 7: a message bit", wrong(good, 15), "refused 7\n")
 case("refused 7: a check bit", wrong(good, 4227), "refused 7\n")
 reserved = payload([3, 0, -4], 5, 6, counted, [0] * 66 + [1])
@@ -136,8 +145,10 @@ case("100000 octets", good + bytes(100000 - 529), "refused 1\n")
 
 wide = [rng.choice([LEAST, -10, -9, -1, 0, 0, 0, 1, 9, 10, 100, MOST, rng.randint(LEAST, MOST)]) for _ in range(180)]
 case(f"180 coefficients of every length (seed {SEED})", *training(wide, 2097150, 1000000, rng.randbytes(16)))
-for k in range(20):
-    count = rng.randrange(181)
-    numbers = [rng.choice([0, rng.randint(LEAST, MOST), rng.randint(-20, 20)]) for _ in range(count)]
-    case(f"random training frame {k + 1}", *training(numbers, rng.randint(0, MOST), rng.randint(0, 1 << rng.randrange(1, 21)), rng.randbytes(16)))
+many = []
+for _ in range(20):
+    numbers = [rng.choice([0, rng.randint(LEAST, MOST), rng.randint(-20, 20)]) for _ in range(rng.randrange(181))]
+    many.append(training(numbers, rng.randint(0, MOST), rng.randint(0, 1 << rng.randrange(1, 21)), rng.randbytes(16)))
+differ = sum(run(octets) != (0, text.encode("ascii"), b"") for octets, text in many)
+report(f"{len(many)} random training frames (seed {SEED}): {differ} differ", differ == 0)
 sys.exit(failures != 0)
