@@ -398,109 +398,123 @@ static struct sdsl_stepped played(const struct side *side, uint32_t end, uint32_
     return at;
 }
 
+/* The silence of every case but those of the silence itself. */
+#define SILENCE 2000
+
 /* After the script the phase is this, and the attempt has these ticks. */
 static void expect(const struct side *side, uint32_t end, const struct script *script, uint32_t phase, uint32_t attempt, const char *what)
 {
-    struct sdsl_stepped at = played(side, end, 0, script);
+    struct sdsl_stepped at = played(side, end, SILENCE, script);
     name(at.answer == 0 && at.phase == phase && at.attempt == attempt && at.state.phase == phase, what, side);
 }
 
 static void expect_run(const struct side *side, uint32_t end, const struct script *script, uint64_t opened_at, uint32_t ended,
                        uint64_t ended_at, const char *what)
 {
-    struct sdsl_run run = side->run(side->start(end, 0).state, script->codes, script->len);
+    struct sdsl_run run = side->run(side->start(end, SILENCE).state, script->codes, script->len);
     name(run.answer == 0 && run.opened == 1 && run.opened_at == opened_at && run.ended == ended && run.ended_at == ended_at, what, side);
+}
+
+/* A code so many times, and then the phase and the attempt's ticks. */
+struct line {
+    uint8_t code;
+    size_t times;
+    uint32_t phase;
+    uint32_t attempt;
+    const char *what;
+};
+
+static void walk(const struct side *side, uint32_t end, struct script *script, const struct line *lines, size_t count)
+{
+    for (size_t i = 0; i < count; i++) {
+        for (size_t n = 0; n < lines[i].times; n++) {
+            say(script, lines[i].code);
+        }
+        expect(side, end, script, lines[i].phase, lines[i].attempt, lines[i].what);
+    }
+}
+
+#define WALK(side, end, script, lines) walk(side, end, script, lines, ITEMS(lines))
+
+/* An attempt brought to its tick 14,999, where 7 is awaited: 7 there is data mode, and after one tick more it comes too late. */
+static void last_tick(const struct side *side, uint32_t end, struct script *script, uint64_t opened_at)
+{
+    static const struct line in_time[] = {{7, 1, SDSL_SETTLING, 0, "7 after tick 14,999"}};
+    static const struct line too_late[] = {{SDSL_TICK, 1, SDSL_EXCEPTION, 0, "tick 15,000"},
+                                           {7, 1, SDSL_EXCEPTION, 0, "7 after tick 15,000"}};
+    size_t at_14999 = script->len;
+    WALK(side, end, script, in_time);
+    expect_run(side, end, script, opened_at, SDSL_IN_DATA_MODE, at_14999, "run, 7 after tick 14,999");
+    script->len = at_14999;
+    WALK(side, end, script, too_late);
+    expect_run(side, end, script, opened_at, SDSL_IN_EXCEPTION, at_14999, "run, 7 after tick 15,000");
 }
 
 static void ntu_cases(const struct side *side)
 {
+    static const struct line to_14999[] = {
+        {SDSL_TICK, 0, SDSL_READY, 0, "NTU starts ready"},
+        {1, 1, SDSL_GAP, 0, "NTU 1 starts Gap"},
+        {SDSL_TICK, 299, SDSL_GAP, 0, "NTU Gap at 299"},
+        {SDSL_TICK, 1, SDSL_CR, 0, "NTU C_r at 300"},
+        {SDSL_TICK, 999, SDSL_CR, 999, "NTU C_r at 999"},
+        {SDSL_TICK, 1, SDSL_QUIET, 1000, "NTU Quiet at 1,000"},
+        {4, 1, SDSL_QUIET, 1000, "NTU 4 in Quiet"},
+        {5, 1, SDSL_QUIET, 1000, "NTU 5 in Quiet"},
+        {SDSL_TICK, 1499, SDSL_QUIET, 2499, "NTU Quiet at 2,499"},
+        {SDSL_TICK, 1, SDSL_SR, 2500, "NTU S_r at 2,500"},
+        {5, 1, SDSL_SR, 2500, "NTU S_r with 5 alone"},
+        {SDSL_TICK, 10, SDSL_SR, 2510, "NTU an early 4 is not remembered"},
+        {4, 1, SDSL_TR, 2510, "NTU T_r after 4 and 5"},
+        {SDSL_TICK, 12489, SDSL_TR, 14999, "NTU tick 14,999"},
+    };
+    static const struct line to_valid[] = {
+        {7, 1, SDSL_SETTLING, 0, "NTU Settling"},
+        {SDSL_TICK, 999, SDSL_SETTLING, 0, "NTU Settling at 999"},
+        {SDSL_TICK, 1, SDSL_VALID, 0, "NTU Valid at 1,000"},
+    };
+    static const struct line silence[] = {
+        {8, 1, SDSL_EXCEPTION, 0, "NTU 8 in Valid"},
+        {SDSL_TICK, 1999, SDSL_EXCEPTION, 0, "NTU silence at 1,999"},
+        {8, 1, SDSL_EXCEPTION, 0, "NTU 8 in the silence"},
+        {SDSL_TICK, 1999, SDSL_EXCEPTION, 0, "NTU 8 starts the silence again"},
+        {SDSL_TICK, 1, SDSL_READY, 0, "NTU ready 2,000 after the second 8"},
+    };
+    static const struct line silence_of_an_attempt[] = {
+        {SDSL_TICK, 1999, SDSL_EXCEPTION, 0, "NTU silence at 1,999 after tick 15,000"},
+        {SDSL_TICK, 1, SDSL_READY, 0, "NTU ready 2,000 after tick 15,000"},
+    };
     static struct script s;
     s.len = 0;
-    expect(side, SDSL_NTU, &s, SDSL_READY, 0, "NTU starts ready");
-    say(&s, 1);
-    expect(side, SDSL_NTU, &s, SDSL_GAP, 0, "NTU 1 starts Gap");
-    wait(&s, 299);
-    expect(side, SDSL_NTU, &s, SDSL_GAP, 0, "NTU Gap at 299");
-    wait(&s, 1);
-    expect(side, SDSL_NTU, &s, SDSL_CR, 0, "NTU C_r at 300");
-    wait(&s, 999);
-    expect(side, SDSL_NTU, &s, SDSL_CR, 999, "NTU C_r at 999");
-    wait(&s, 1);
-    expect(side, SDSL_NTU, &s, SDSL_QUIET, 1000, "NTU Quiet at 1,000");
-    say(&s, 4);
-    say(&s, 5);
-    wait(&s, 1499);
-    expect(side, SDSL_NTU, &s, SDSL_QUIET, 2499, "NTU Quiet at 2,499");
-    wait(&s, 1);
-    expect(side, SDSL_NTU, &s, SDSL_SR, 2500, "NTU S_r at 2,500");
-    say(&s, 5);
-    wait(&s, 10);
-    expect(side, SDSL_NTU, &s, SDSL_SR, 2510, "NTU an early 4 is not remembered");
-    say(&s, 4);
-    expect(side, SDSL_NTU, &s, SDSL_TR, 2510, "NTU T_r after 4 and 5");
-    wait(&s, 12489);
-    expect(side, SDSL_NTU, &s, SDSL_TR, 14999, "NTU tick 14,999");
+    WALK(side, SDSL_NTU, &s, to_14999);
     size_t at_14999 = s.len;
-    say(&s, 7);
-    expect(side, SDSL_NTU, &s, SDSL_SETTLING, 0, "NTU 7 after tick 14,999");
-    expect_run(side, SDSL_NTU, &s, 300, SDSL_IN_DATA_MODE, at_14999, "NTU run, 7 after tick 14,999");
-    wait(&s, 999);
-    expect(side, SDSL_NTU, &s, SDSL_SETTLING, 0, "NTU Settling at 999");
-    wait(&s, 1);
-    expect(side, SDSL_NTU, &s, SDSL_VALID, 0, "NTU Valid at 1,000");
-
+    last_tick(side, SDSL_NTU, &s, 300);
+    WALK(side, SDSL_NTU, &s, silence_of_an_attempt);
     s.len = at_14999;
-    wait(&s, 1);
-    say(&s, 7);
-    expect(side, SDSL_NTU, &s, SDSL_EXCEPTION, 0, "NTU 7 after tick 15,000");
-    expect_run(side, SDSL_NTU, &s, 300, SDSL_IN_EXCEPTION, at_14999, "NTU run, 7 after tick 15,000");
-    wait(&s, 1999);
-    expect(side, SDSL_NTU, &s, SDSL_EXCEPTION, 0, "NTU silence at 1,999");
-    wait(&s, 1);
-    expect(side, SDSL_NTU, &s, SDSL_READY, 0, "NTU ready after 2,000");
-    s.len--;
-    say(&s, 8);
-    wait(&s, 1999);
-    expect(side, SDSL_NTU, &s, SDSL_EXCEPTION, 0, "NTU 8 starts the silence again");
-    wait(&s, 1);
-    expect(side, SDSL_NTU, &s, SDSL_READY, 0, "NTU ready 2,000 after the second 8");
+    WALK(side, SDSL_NTU, &s, to_valid);
+    WALK(side, SDSL_NTU, &s, silence);
 }
 
 static void ltu_cases(const struct side *side)
 {
+    static const struct line to_14999[] = {
+        {1, 1, SDSL_AWAIT, 0, "LTU 1 starts Await"},
+        {SDSL_TICK, 20000, SDSL_AWAIT, 0, "LTU Await has no limit"},
+        {2, 1, SDSL_HEARING, 0, "LTU 2 starts Hearing"},
+        {SDSL_TICK, 1000, SDSL_HEARING, 1000, "LTU Hearing waits for 3"},
+        {3, 1, SDSL_QUIET, 1000, "LTU 3 starts Quiet"},
+        {4, 1, SDSL_QUIET, 1000, "LTU 4 in Quiet"},
+        {SDSL_TICK, 500, SDSL_SC, 1500, "LTU S_c after 500"},
+        {SDSL_TICK, 5000, SDSL_SC, 6500, "LTU an early 4 is not remembered"},
+        {4, 1, SDSL_TC, 6500, "LTU T_c with 4 after 5,000"},
+        {7, 1, SDSL_TC, 6500, "LTU 7 before 6 changes nothing"},
+        {6, 1, SDSL_FC, 6500, "LTU 6 starts F_c"},
+        {SDSL_TICK, 8499, SDSL_FC, 14999, "LTU tick 14,999"},
+    };
     static struct script s;
     s.len = 0;
-    say(&s, 1);
-    expect(side, SDSL_LTU, &s, SDSL_AWAIT, 0, "LTU 1 starts Await");
-    wait(&s, 20000);
-    expect(side, SDSL_LTU, &s, SDSL_AWAIT, 0, "LTU Await has no limit");
-    say(&s, 2);
-    expect(side, SDSL_LTU, &s, SDSL_HEARING, 0, "LTU 2 starts Hearing");
-    wait(&s, 1000);
-    say(&s, 3);
-    expect(side, SDSL_LTU, &s, SDSL_QUIET, 1000, "LTU 3 starts Quiet");
-    say(&s, 4);
-    wait(&s, 500);
-    expect(side, SDSL_LTU, &s, SDSL_SC, 1500, "LTU S_c after 500");
-    wait(&s, 5000);
-    expect(side, SDSL_LTU, &s, SDSL_SC, 6500, "LTU an early 4 is not remembered");
-    say(&s, 4);
-    expect(side, SDSL_LTU, &s, SDSL_TC, 6500, "LTU T_c with 4 after 5,000");
-    say(&s, 7);
-    expect(side, SDSL_LTU, &s, SDSL_TC, 6500, "LTU 7 before 6 changes nothing");
-    say(&s, 6);
-    expect(side, SDSL_LTU, &s, SDSL_FC, 6500, "LTU 6 starts F_c");
-    wait(&s, 8499);
-    size_t at_14999 = s.len;
-    expect(side, SDSL_LTU, &s, SDSL_FC, 14999, "LTU tick 14,999");
-    say(&s, 7);
-    expect(side, SDSL_LTU, &s, SDSL_SETTLING, 0, "LTU 7 after tick 14,999");
-    expect_run(side, SDSL_LTU, &s, 20001, SDSL_IN_DATA_MODE, at_14999, "LTU run, 7 after tick 14,999");
-    s.len = at_14999;
-    wait(&s, 1);
-    say(&s, 7);
-    expect(side, SDSL_LTU, &s, SDSL_EXCEPTION, 0, "LTU 7 after tick 15,000");
-    expect_run(side, SDSL_LTU, &s, 20001, SDSL_IN_EXCEPTION, at_14999, "LTU run, 7 after tick 15,000");
+    WALK(side, SDSL_LTU, &s, to_14999);
+    last_tick(side, SDSL_LTU, &s, 20001);
 
     /* The 15,000th tick in place of the one that ends Quiet, or S_c. */
     for (size_t hearing = 9498; hearing <= 9501; hearing++) {
@@ -544,7 +558,7 @@ static void other_cases(const struct side *side)
         }
         size_t opened_at = s.len - 1;
         wait(&s, 100);
-        struct sdsl_stepped before = played(side, end, 0, &s);
+        struct sdsl_stepped before = played(side, end, SILENCE, &s);
         struct sdsl_stepped nine = side->step(before.state, 9);
         name(nine.answer == 2 && nine.phase == 0 && nine.attempt == 0 && same_state(nine.state, before.state), "code 9 in mid-attempt", side);
         say(&s, 9);

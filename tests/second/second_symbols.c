@@ -26,26 +26,25 @@ static const uint32_t odd_numbers[] = {255, 256, 257, 263, 271, 65536, 65537, 65
 
 /* ---- Levels ---- */
 
-static void try_activation_level(uint32_t bit)
+static void try_level(struct tally *tally, struct sdsl_level (*library)(uint32_t), struct sdsl_level (*reference)(uint32_t), uint32_t n)
 {
-    struct sdsl_level lib = sdsl_activation_level(bit);
-    struct sdsl_level ref = ref_activation_level(bit);
+    struct sdsl_level lib = library(n);
+    struct sdsl_level ref = reference(n);
     struct comparison comparison = {NULL};
     want(&comparison, lib.answer == ref.answer, "answers differ");
     want(&comparison, lib.sixteenths == ref.sixteenths, "levels differ");
-    settle(comparison, &activation_levels, "bit %u: library %u level %d, reference %u level %d", bit, lib.answer, lib.sixteenths,
-           ref.answer, ref.sixteenths);
+    settle(comparison, tally, "%u: library %u level %d, reference %u level %d", n, lib.answer, lib.sixteenths, ref.answer,
+           ref.sixteenths);
+}
+
+static void try_activation_level(uint32_t bit)
+{
+    try_level(&activation_levels, sdsl_activation_level, ref_activation_level, bit);
 }
 
 static void try_data_level(uint32_t code)
 {
-    struct sdsl_level lib = sdsl_data_level(code);
-    struct sdsl_level ref = ref_data_level(code);
-    struct comparison comparison = {NULL};
-    want(&comparison, lib.answer == ref.answer, "answers differ");
-    want(&comparison, lib.sixteenths == ref.sixteenths, "levels differ");
-    settle(comparison, &data_levels, "code %u: library %u level %d, reference %u level %d", code, lib.answer, lib.sixteenths,
-           ref.answer, ref.sixteenths);
+    try_level(&data_levels, sdsl_data_level, ref_data_level, code);
 }
 
 static void try_level_code(int32_t sixteenths)
