@@ -14,7 +14,7 @@ use Rattle.startup.specs.declared.Answer.{Answer}
 use Rattle.startup.specs.Phases.{Ready, Gap, Await, Cr, Hearing, Settling, Valid, Exception, phasesOf, isOf, inAttempt}
 use Rattle.startup.specs.Step.{moved, stateRefusals, answered as answeredOf, stepOf, fresh, startOf}
 use Rattle.startup.specs.Attempts.{at, one, count, Need, shown, Card, card, meant, all, StillOpen, EndsInData, EndsInException, OpensAt}
-use Rattle.startup.specs.Three.{after, answerTo, FirstShows, Follows, Demand3, Taken}
+use Rattle.startup.specs.Three.{after, answerTo, FirstShows, Follows, Demand3, Taken, ours}
 use Rattle.startup.proofs.Laws.{by-cases, clash}
 use Rattle.startup.proofs.Counts.{count-self, shown-less}
 use Rattle.startup.proofs.History.{Reached, begun, went, reached-le, not-all}
@@ -151,7 +151,7 @@ module _ (b : Bool) (sil : ℕ) (lo : 2000 ≤ sil) (hi : sil ≤ 60000) (l : Li
       (λ t. clash _ (open-run m (suc q) o x .0) (ap inAttempt (sym (phase-is q (leb-true _ _ t)) ∙ e) ∙ out))
       (λ f. clash (eqb 0 0) refl (ap (λ (z : ℕ). eqb z 0) (sym (refused-is q (leb-false _ _ f) .0) ∙ e) ∙ nz))
 
-  shows : (m p ph : ℕ) → OpensAt k l m → StillOpen k l m p → after s₀ l (suc p) .phase ≡ ph → inAttempt ph ≡ false → FirstShows ph s₀ l m p
+  shows : (m p ph : ℕ) → OpensAt k l m → StillOpen k l m p → after s₀ l (suc p) .phase ≡ ph → inAttempt ph ≡ false → FirstShows ours ph s₀ l m p
   shows m p ph o x e out = record {
     since = x .since;
     shows = phase-is p (changes p (λ q. clash _ (open-run m p o x .0) (ap inAttempt (sym q ∙ e) ∙ out))) ∙ e;
@@ -159,21 +159,21 @@ module _ (b : Bool) (sil : ℕ) (lo : 2000 ≤ sil) (hi : sil ≤ 60000) (l : Li
     not-exception = λ q h i. open-shows m q 13 o (open-back k sd l m (suc q) p (omega arith) i x) refl refl;
   }
 
-  data-shows : (m p : ℕ) → OpensAt k l m → EndsInData k l m p → FirstShows 11 s₀ l m p
+  data-shows : (m p : ℕ) → OpensAt k l m → EndsInData k l m p → FirstShows ours 11 s₀ l m p
   data-shows m p o d = shows m p 11 o (data-open k sd l m p d) (data-run m p o d) refl
 
-  exception-shows : (m p : ℕ) → OpensAt k l m → EndsInException k l m p → FirstShows 13 s₀ l m p
+  exception-shows : (m p : ℕ) → OpensAt k l m → EndsInException k l m p → FirstShows ours 13 s₀ l m p
   exception-shows m p o x = shows m p 13 o (x .before) (exception-run m p o x) refl
 
   -- what first shows one of the two finds the attempt open, and ends it
-  shows-open : (m p ph : ℕ) → OpensAt k l m → FirstShows ph s₀ l m p → StillOpen k l m p
+  shows-open : (m p ph : ℕ) → OpensAt k l m → FirstShows ours ph s₀ l m p → StillOpen k l m p
   shows-open m p ph o f =
       ⊎-elim (λ x. x)
       (⊎-elim (λ w. absurd (f .not-settling (w .0) (data-open k sd l m (w .0) (w .2) .since) (w .1) (data-shows m (w .0) o (w .2) .shows)))
       (λ w. absurd (f .not-exception (w .0) (w .2 .before .since) (w .1) (exception-shows m (w .0) o (w .2) .shows))))
       (fate k sd l m p (f .since))
 
-  shows-ends : (m p ph : ℕ) → OpensAt k l m → inAttempt ph ≡ false → eqb ph 0 ≡ false → FirstShows ph s₀ l m p → EndsInData k l m p ⊎ EndsInException k l m p
+  shows-ends : (m p ph : ℕ) → OpensAt k l m → inAttempt ph ≡ false → eqb ph 0 ≡ false → FirstShows ours ph s₀ l m p → EndsInData k l m p ⊎ EndsInException k l m p
   shows-ends m p ph o out nz f =
       ⊎-elim (λ y. absurd (open-shows m p ph o y out nz (f .shows))) (λ w. w) (next-fate k sd l m p (shows-open m p ph o f))
 
@@ -244,7 +244,7 @@ module _ (b : Bool) (sil : ℕ) (lo : 2000 ≤ sil) (hi : sil ≤ 60000) (l : Li
   ticks-are : (p : ℕ) → at l p ≤ 8 → answerTo s₀ l p .attempt ≡ cond (inAttempt (after s₀ l (suc p) .phase)) (after s₀ l (suc p) .attempt) 0
   ticks-are p h = ap (λ (x : Answer). x .attempt) (answer-is p h)
 
-  pub follows : Follows s₀ k (opening b) l
+  pub follows : Follows ours s₀ k (opening b) l
   follows = record {
     answered = λ p h. (ap (λ (x : Answer). x .answer) (answer-is p h), phase-is p h);
     skipped = λ p h. (ap (λ (x : Answer). x .answer) (refused (after s₀ l p) (at l p) h), skipped-is p h);
@@ -275,17 +275,17 @@ started end silence h t =
     simp (le-ltb 1 end h, le-ltb (meant silence) 2000 (r .0), le-ltb 60000 (meant silence) (r .1))
 
 -- DEMAND 3
-pub demand3 : (end silence : ℕ) → end ≤ 1 → Taken silence → (l : List ℕ) → Demand3 end silence l
+pub demand3 : (end silence : ℕ) → end ≤ 1 → Taken silence → (l : List ℕ) → Demand3 ours end silence l
 demand3 end silence h t l =
-    ⊎-elim (λ q. subst (λ (e : ℕ). Demand3 e silence l) (sym q) ntu)
-    (λ z. let q : end ≡ 0 = omega arith in subst (λ (e : ℕ). Demand3 e silence l) (sym q) ltu)
+    ⊎-elim (λ q. subst (λ (e : ℕ). Demand3 ours e silence l) (sym q) ntu)
+    (λ z. let q : end ≡ 0 = omega arith in subst (λ (e : ℕ). Demand3 ours e silence l) (sym q) ltu)
     (eq-or-lt-of-le h)
   where
     r : (2000 ≤ meant silence) × (meant silence ≤ 60000)
     r = meant-range silence t
 
-    ntu : Demand3 1 silence l
-    ntu = subst (λ (s : Supervisor). Follows s (card 1 (meant silence)) 3 l) (sym (started 1 silence (omega arith) t)) (follows true (meant silence) (r .0) (r .1) l)
+    ntu : Demand3 ours 1 silence l
+    ntu = subst (λ (s : Supervisor). Follows ours s (card 1 (meant silence)) 3 l) (sym (started 1 silence (omega arith) t)) (follows true (meant silence) (r .0) (r .1) l)
 
-    ltu : Demand3 0 silence l
-    ltu = subst (λ (s : Supervisor). Follows s (card 0 (meant silence)) 4 l) (sym (started 0 silence (omega arith) t)) (follows false (meant silence) (r .0) (r .1) l)
+    ltu : Demand3 ours 0 silence l
+    ltu = subst (λ (s : Supervisor). Follows ours s (card 0 (meant silence)) 4 l) (sym (started 0 silence (omega arith) t)) (follows false (meant silence) (r .0) (r .1) l)
