@@ -137,7 +137,7 @@ either-kind : (s : Bool) (x y : ℕ) → cond s (foundIn x y) foundFinal .kind �
 either-kind true x y e = refl
 either-kind false x y e = absurd (omega (arith, e))
 
-found-answer : (n : ℕ) (bits : List ℕ) → foundOf n bits .answer ≡ n
+pub found-answer : (n : ℕ) (bits : List ℕ) → foundOf n bits .answer ≡ n
 found-answer zero bits = either-answer (hasSync trainingSync bits) (valueOf (fieldOf wordA bits)) (valueOf (fieldOf wordB bits))
 found-answer (suc n) bits = refl
 

@@ -1,1 +1,4 @@
+pub mod Library
+pub mod Contracts
+pub mod One
 pub mod Frames

@@ -1,0 +1,201 @@
+-- Demand 1 holds of every library that keeps our contracts. Assumes nothing.
+use mathlib.Core.Path.{_≡_, refl, sym, ap, _∙_, subst}
+use mathlib.Core.Bool.{Bool, true, false, cond, not, _&&_, false≢true}
+use mathlib.Core.List.{List, [], _∷_}
+use Prim.Native.Nat.{ℕ, zero, suc, _≤_, zero-le}
+use borrow.Author.Tests.{leb-true}
+use lib.Dec.{leb, eqb, ltb}
+use lib.Ieee.{Float, binary32, ofBits}
+use lib.IntN.{ℤ, pos}
+use Rattle.answer.specs.Answer.{Refusal, answer, held, inOrder}
+use Rattle.answer.proofs.Laws.{kept}
+use Rattle.layout.specs.Refusals.{checkRefusals}
+use Rattle.layout.proofs.Order.{check-order}
+use Rattle.scrambler.specs.declared.Ran.{Ran}
+use Rattle.scrambler.specs.Run.{Way}
+use Rattle.scrambler.proofs.One.{run-order as scrambler-order, frame-order}
+use Rattle.symbol.specs.declared.Encoder.{Encoder}
+use Rattle.symbol.proofs.Order.{activation-order, data-order, back-order, step-order, run-order}
+use Rattle.signal.specs.Shaper.{Exactly}
+use Rattle.signal.proofs.Order.{shaper-order}
+use Rattle.signal.proofs.Exact.{exact-zero, exact-unique}
+use Rattle.precoder.proofs.Order.{run-order as precoder-order}
+use Rattle.startup.specs.declared.Supervisor.{Supervisor as State}
+use Rattle.startup.specs.declared.Run.{Run as StartupRun}
+use Rattle.startup.specs.Step.{startRefusals, stepRefusals, stateRefusals, startOf, stepOf}
+use Rattle.startup.specs.Run.{eventOf, goesOn, opens, ends, noted, takenOf, runFrom, begun, runOf}
+use Rattle.startup.proofs.One.{start-in-order, step-in-order, state-in-order}
+use Rattle.reader.specs.declared.Found.{Found}
+use Rattle.reader.specs.Promises.{foundOf}
+use Rattle.host.specs.declared.frames.FrameFields.{FrameFields}
+use Rattle.host.specs.declared.scrambling.Scrambled.{Scrambled}
+use Rattle.host.specs.declared.supervisor.Supervisor.{Supervisor}
+use Rattle.host.specs.declared.supervisor.Stepped.{Stepped}
+use Rattle.host.specs.declared.supervisor.Run.{Run}
+use Rattle.host.specs.Supervisor.{stateIn, stateOf, runFieldsOf}
+use Rattle.host.specs.Frames.{fieldsOf}
+use Rattle.host.specs.Symbols.{encoder}
+use Rattle.host.proofs.One.{frame-write-order, frame-read-order}
+use Rattle.demands.specs.Library.{Outcome, None, none, Library, Line, RunCall, FrameCall}
+use Rattle.demands.specs.Contracts.{Keeps}
+use Rattle.demands.specs.One.{Answers, One, noState, readChecks, runChecks, frameChecks}
+use Rattle.demands.proofs.Frames.{found-answer}
+
+-- checks in the order of the table answer with a number of the table
+ordered : (low n : ℕ) (t : Bool) (ts : List Refusal) → inOrder low (record { number = n; applies = t } ∷ ts) ≡ true → (leb n 8 ≡ true) × (inOrder n ts ≡ true)
+unfolding inOrder
+ordered low n t ts e = pick (leb low n) (leb n 8) (inOrder n ts) e
+  where
+    pick : (a b c : Bool) → (a && (b && c)) ≡ true → (b ≡ true) × (c ≡ true)
+    pick true true c e = (refl, e)
+    pick true false c e = absurd (false≢true e)
+    pick false b c e = absurd (false≢true e)
+
+pub table : (low : ℕ) (ts : List Refusal) → inOrder low ts ≡ true → answer ts ≤ 8
+table low [] e = zero-le
+table low (t ∷ ts) e =
+    let w = ordered low (t .number) (t .applies) ts e in
+    pick (t .applies) (leb-true _ _ (w .0)) (table (t .number) ts (w .1))
+  where
+    pick : (b : Bool) → t .number ≤ 8 → answer ts ≤ 8 → cond b (t .number) (answer ts) ≤ 8
+    pick true x y = x
+    pick false x y = y
+
+answers : {C N M : Type 0} {f : C → Outcome N M} {checks : C → List Refusal} {before : C → M} {nothing : N}
+    → ((c : C) → inOrder 1 (checks c) ≡ true) → ((c : C) → f c .answer ≡ answer (checks c))
+    → ((c : C) → (f c .answer ≡ 0 → ⊥) → f c .numbers ≡ nothing) → ((c : C) → (f c .answer ≡ 0 → ⊥) → f c .memory ≡ before c)
+    → Answers f checks before nothing
+answers {checks = checks} o e n m =
+    record {
+      in-table = λ c. subst (λ (k : ℕ). k ≤ 8) (sym (e c)) (table 1 (checks c) (o c));
+      in-order = o;
+      first = e;
+      no-numbers = n;
+      unchanged = m;
+    }
+
+-- a number that is not 0, named otherwise
+other : {n m : ℕ} → n ≡ m → (n ≡ 0 → ⊥) → m ≡ 0 → ⊥
+other e h z = h (e ∙ z)
+
+only : (x : None) → x ≡ none
+only none = refl
+
+found-none : (n : ℕ) (bits : List ℕ) → (n ≡ 0 → ⊥) → foundOf n bits ≡ record { answer = n; kind = 0; a = 0; b = 0 }
+found-none zero bits h = absurd (h refl)
+found-none (suc n) bits h = refl
+
+-- a run of codes answers 0 where its state is legal
+noted-answer : (r : StartupRun) (s : State) (p e : ℕ) → noted r s p e .answer ≡ 0
+noted-answer r s p e = pick (eqb e 1) (ltb 1 e && not (eqb (r .how) 0))
+  where
+    pick : (b c : Bool) → cond b (opens r s p) (cond c (ends r s p e) (goesOn r s)) .answer ≡ 0
+    pick true c = refl
+    pick false true = refl
+    pick false false = refl
+
+run-answer : (p : ℕ) (r : StartupRun) (l : List ℕ) → r .answer ≡ 0 → runFrom p r l .answer ≡ 0
+run-answer p r [] e = e
+run-answer p r (c ∷ cs) e = run-answer (suc p) (takenOf p c r) cs (noted-answer r (stepOf (r .state) c .state) p (eventOf (r .state .phase) (stepOf (r .state) c .state .phase)))
+
+held-run : (n : ℕ) (s : State) (l : List ℕ) → held n (begun n s) (runFrom 0 (begun 0 s) l) .answer ≡ n
+held-run zero s l = run-answer 0 (begun 0 s) l refl
+held-run (suc n) s l = refl
+
+module _ (x : Library) (k : Keeps x) where
+  read-answer : (c : _) → x .read c .answer ≡ answer (readChecks c)
+  read-answer c = ap (λ (f : FrameFields). f .answer) (k .read c .found) ∙ found-answer (answer (readChecks c)) _
+
+  run-is : (way : Way) → Answers (x .run way) runChecks (λ c. record { state = c .state; output = c .output }) none
+  run-is way =
+      answers (λ c. scrambler-order way (record { end = c .end; state = c .state }) (c .input) (c .bits) (c .output))
+      (λ c. ap (λ (r : Scrambled). r .answer) (k .run way c .crossed) ∙ k .run way c .promise .answered) (λ c h. only _)
+      (λ c h.
+      let w = k .run way c in
+      let e : x .run way c .answer ≡ w .ran .answer = ap (λ (r : Scrambled). r .answer) (w .crossed) in
+      let s : x .run way c .memory .state ≡ c .state =
+      ap (λ (r : Scrambled). r .state) (w .crossed) ∙ ap (λ (y : _). y .state) (w .promise .next) ∙ kept (w .ran .answer) _ _ (other e h) in
+      let o : x .run way c .memory .output ≡ c .output = w .promise .left ∙ kept (w .ran .answer) _ _ (other e h) in
+      λ i. record { state = s i; output = o i })
+
+  frame-is : (way : Way) → Answers (x .frame way) frameChecks (λ c. record { state = c .state; output = c .output }) none
+  frame-is way =
+      answers (λ c. frame-order way (record { end = c .end; state = c .state }) (c .frame) (c .output))
+      (λ c. ap (λ (r : Scrambled). r .answer) (k .frame way c .crossed) ∙ k .frame way c .promise .answered) (λ c h. only _)
+      (λ c h.
+      let w = k .frame way c in
+      let e : x .frame way c .answer ≡ w .ran .answer = ap (λ (r : Scrambled). r .answer) (w .crossed) in
+      let s : x .frame way c .memory .state ≡ c .state =
+      ap (λ (r : Scrambled). r .state) (w .crossed) ∙ ap (λ (y : _). y .state) (w .promise .next) ∙ kept (w .ran .answer) _ _ (other e h) in
+      let o : x .frame way c .memory .output ≡ c .output = w .promise .left ∙ kept (w .ran .answer) _ _ (other e h) in
+      λ i. record { state = s i; output = o i })
+
+  codes-answer : (c : _) → x .run-codes c .answer ≡ answer (stateRefusals (stateIn (c .state)))
+  codes-answer c = ap (λ (r : Run). r .answer) (k .run-codes c) ∙ held-run (answer (stateRefusals (stateIn (c .state)))) (stateIn (c .state)) (c .codes)
+
+  pub one : One x
+  one = record {
+    write = answers (λ c. frame-write-order (c .kind) (c .count) (c .coefficients) (c .a) (c .b) (c .vendor) (c .frame)) (λ c. k .write c .answered)
+        (λ c h. only _) (λ c h. k .write c .left ∙ kept _ _ _ h);
+    check = answers check-order (k .check) (λ c h. only _) (λ c h. only _);
+    read = answers (λ c. frame-read-order (c .frame) (c .coefficients) (c .vendor)) read-answer
+        (λ c h.
+        let e = k .read c .found ∙ ap fieldsOf (found-none _ _ (other (read-answer c) h)) in
+        λ i. record { kind = e i .kind; a = e i .a; b = e i .b })
+        (λ c h.
+        let z = other (read-answer c) h in
+        let m = k .read c .coefficients-left ∙ kept (answer (readChecks c)) _ _ z in
+        let v = k .read c .vendor-left ∙ kept (answer (readChecks c)) _ _ z in
+        λ i. record { coefficients = m i; vendor = v i });
+    run = run-is;
+    frame = frame-is;
+    activation = answers activation-order (λ c. k .activation c .answered) (λ c h. k .activation c .level ∙ kept _ _ _ h) (λ c h. only _);
+    level = answers data-order (λ c. k .level c .answered) (λ c h. k .level c .level ∙ kept _ _ _ h) (λ c h. only _);
+    code = answers back-order (λ c. k .code c .answered) (λ c h. k .code c .code ∙ kept _ _ _ h) (λ c h. only _);
+    encode = answers (λ c. step-order (encoder (c .a) (c .b) (c .register)) (c .symbol)) (λ c. k .encode c .answered)
+        (λ c h.
+        let y = k .encode c .code ∙ kept _ _ _ h in
+        let l = k .encode c .level ∙ kept _ _ _ h in
+        λ i. record { code = y i; sixteenths = l i })
+        (λ c h. ap (λ (e : Encoder). e .register) (k .encode c .next ∙ kept _ _ _ h));
+    encode-run = answers (λ c. run-order (encoder (c .a) (c .b) (c .register)) (c .symbols) (c .codes)) (λ c. k .encode-run c .answered) (λ c h. only _)
+        (λ c h.
+        let n = k .encode-run c .next ∙ kept _ _ _ h in
+        let w = k .encode-run c .written ∙ kept _ _ _ h in
+        λ i. record { register = n i .register; codes = w i });
+    precode = answers (λ c. precoder-order (c .coefficients) (c .history) (c .symbols) (c .room)) (λ c. k .precode c .answered) (λ c h. only _)
+        (λ c h.
+        let p = k .precode c .past ∙ kept _ _ _ h in
+        let w = k .precode c .written ∙ kept _ _ _ h in
+        λ i. record { history = p i; room = w i });
+    decode = answers (λ c. precoder-order (c .coefficients) (c .history) (c .symbols) (c .room)) (λ c. k .decode c .answered) (λ c h. only _)
+        (λ c h.
+        let p = k .decode c .past ∙ kept _ _ _ h in
+        let w = k .decode c .written ∙ kept _ _ _ h in
+        λ i. record { history = p i; room = w i });
+    shape = answers shaper-order (λ y. k .shape y .answered)
+        (λ y h. exact-unique _ _ (pos 0) (subst (Exactly (x .shape y .numbers)) (kept _ _ _ h) (k .shape y .value)) exact-zero) (λ y h. only _);
+    start = answers (λ c. start-in-order (c .end) (c .silence)) (λ c. ap (λ (r : Stepped). r .answer) (k .start c))
+        (λ c h.
+        let z = other (ap (λ (r : Stepped). r .answer) (k .start c)) h in
+        let p = ap (λ (r : Stepped). r .phase) (k .start c) ∙ kept _ _ _ z in
+        let a = ap (λ (r : Stepped). r .attempt) (k .start c) ∙ kept _ _ _ z in
+        λ i. record { phase = p i; attempt = a i })
+        (λ c h.
+        let z = other (ap (λ (r : Stepped). r .answer) (k .start c)) h in
+        ap (λ (r : Stepped). r .state) (k .start c) ∙ ap stateOf (kept _ _ _ z));
+    step = answers (λ c. step-in-order (stateIn (c .state)) (c .code)) (λ c. ap (λ (r : Stepped). r .answer) (k .step c))
+        (λ c h.
+        let z = other (ap (λ (r : Stepped). r .answer) (k .step c)) h in
+        let p = ap (λ (r : Stepped). r .phase) (k .step c) ∙ kept _ _ _ z in
+        let a = ap (λ (r : Stepped). r .attempt) (k .step c) ∙ kept _ _ _ z in
+        λ i. record { phase = p i; attempt = a i })
+        (λ c h.
+        let z = other (ap (λ (r : Stepped). r .answer) (k .step c)) h in
+        ap (λ (r : Stepped). r .state) (k .step c) ∙ ap stateOf (kept _ _ _ z));
+    run-codes = answers (λ c. state-in-order (stateIn (c .state))) codes-answer
+        (λ c h.
+        let e = k .run-codes c ∙ ap runFieldsOf (kept _ _ _ (other (codes-answer c) h)) in
+        λ i. record { opened = e i .opened; opened-at = e i .«opened_at»; ended = e i .ended; ended-at = e i .«ended_at» })
+        (λ c h. ap (λ (r : Run). r .state) (k .run-codes c ∙ ap runFieldsOf (kept _ _ _ (other (codes-answer c) h))));
+  }

@@ -1,0 +1,87 @@
+-- DEMAND 1, over a library of any make. "Junk, short buffers, impossible numbers, reports out of turn: each call ends and answers with a number
+-- of document 01's table. A refused call changes no lent memory and no state, and no caller has to check first."
+use mathlib.Core.Path.{_≡_}
+use mathlib.Core.Bool.{true}
+use mathlib.Core.List.{List, [], _∷_}
+use Prim.Native.Nat.{ℕ, _≤_}
+use lib.Ieee.{Float, binary32, ofBits}
+use lib.IntN.{ℤ, pos}
+use Rattle.answer.specs.Answer.{Refusal, wrongLength, answer, inOrder}
+use Rattle.layout.specs.Refusals.{writeRefusals, checkRefusals}
+use Rattle.scrambler.specs.Run.{Way}
+use Rattle.scrambler.specs.Promises.{runRefusals, frameRefusals}
+use Rattle.numbers.specs.Promises.{numbersOf}
+use Rattle.symbol.specs.Levels.{activationTests, dataTests, backTests}
+use Rattle.symbol.specs.Encoder.{stepTests, runTests}
+use Rattle.signal.specs.Shaper.{shaperTests}
+use Rattle.precoder.specs.Runs.{runTests as precoderTests}
+use Rattle.startup.specs.Step.{startRefusals, stepRefusals, stateRefusals}
+use Rattle.host.specs.declared.supervisor.Supervisor.{Supervisor}
+use Rattle.host.specs.Frames.{frameReadRefusals}
+use Rattle.host.specs.Symbols.{encoder}
+use Rattle.host.specs.Supervisor.{stateIn}
+use Rattle.demands.specs.Library.{Outcome, None, none, WriteCall, ReadCall, Fields, Rooms, RunCall, FrameCall, Line, EncodeCall, Symbol, EncodeRunCall, Codes, PrecodeCall, Signal, StartCall, StepCall, Shown, CodesCall, Attempts, Library}
+
+-- a function answers by document 01's table: by these checks, what its memory holds before, and nothing in its other numbers
+pub record Answers {C N M : Type 0} (f : C → Outcome N M) (checks : C → List Refusal) (before : C → M) (nothing : N) : Type 0 where
+  -- the number is one of the table
+  pub in-table : (c : C) → f c .answer ≤ 8
+  -- "Checks run in the order of these numbers,
+  pub in-order : (c : C) → inOrder 1 (checks c) ≡ true
+  -- and the first that applies is answered. None is given otherwise.
+  pub first : (c : C) → f c .answer ≡ answer (checks c)
+  -- With any but 0 every other number returned is 0,
+  pub no-numbers : (c : C) → (f c .answer ≡ 0 → ⊥) → f c .numbers ≡ nothing
+  -- a state comes back equal, and all lent memory holds what it held."
+  pub unchanged : (c : C) → (f c .answer ≡ 0 → ⊥) → f c .memory ≡ before c
+
+-- no state: what a refused start gives, and every later step refuses
+abbrev pub noState : Supervisor
+noState = record { end = 0; phase = 0; ticks = 0; attempt = 0; silence = 0; converged = 0; seen = 0 }
+
+-- the checks of writing, with the coefficients as 720 octets
+abbrev pub writeChecks : WriteCall → List Refusal
+writeChecks c = wrongLength (c .coefficients) 720 ∷ writeRefusals (c .kind) (c .count) (numbersOf (c .coefficients)) (c .a) (c .b) (c .vendor) (c .frame)
+
+-- of reading
+abbrev pub readChecks : ReadCall → List Refusal
+readChecks c = frameReadRefusals (c .frame) (c .coefficients) (c .vendor)
+
+-- of scrambling or descrambling a run
+abbrev pub runChecks : RunCall → List Refusal
+runChecks c = runRefusals (record { end = c .end; state = c .state }) (c .input) (c .bits) (c .output)
+
+-- and a frame
+abbrev pub frameChecks : FrameCall → List Refusal
+frameChecks c = frameRefusals (record { end = c .end; state = c .state }) (c .frame) (c .output)
+
+-- of encoding a symbol
+abbrev pub encodeChecks : EncodeCall → List Refusal
+encodeChecks c = stepTests (encoder (c .a) (c .b) (c .register)) (c .symbol)
+
+-- and a run of them
+abbrev pub encodeRunChecks : EncodeRunCall → List Refusal
+encodeRunChecks c = runTests (encoder (c .a) (c .b) (c .register)) (c .symbols) (c .codes)
+
+-- of the precoder's runs, either way
+abbrev pub precodeChecks : PrecodeCall → List Refusal
+precodeChecks c = precoderTests (c .coefficients) (c .history) (c .symbols) (c .room)
+
+-- THE DEMAND, function by function: its checks, what its memory holds before, and the numbers that a refusal gives
+pub record One (x : Library) : Type 0 where
+  pub write : Answers (x .write) writeChecks (λ c. c .frame) none
+  pub check : Answers (x .check) checkRefusals (λ c. none) none
+  pub read : Answers (x .read) readChecks (λ c. record { coefficients = c .coefficients; vendor = c .vendor }) (record { kind = 0; a = 0; b = 0 })
+  pub run : (way : Way) → Answers (x .run way) runChecks (λ c. record { state = c .state; output = c .output }) none
+  pub frame : (way : Way) → Answers (x .frame way) frameChecks (λ c. record { state = c .state; output = c .output }) none
+  pub activation : Answers (x .activation) activationTests (λ c. none) (pos 0)
+  pub level : Answers (x .level) dataTests (λ c. none) (pos 0)
+  pub code : Answers (x .code) backTests (λ c. none) 0
+  pub encode : Answers (x .encode) encodeChecks (λ c. c .register) (record { code = 0; sixteenths = pos 0 })
+  pub encode-run : Answers (x .encode-run) encodeRunChecks (λ c. record { register = c .register; codes = c .codes }) none
+  pub precode : Answers (x .precode) precodeChecks (λ c. record { history = c .history; room = c .room }) none
+  pub decode : Answers (x .decode) precodeChecks (λ c. record { history = c .history; room = c .room }) none
+  pub shape : Answers (x .shape) shaperTests (λ c. none) (ofBits binary32 0)
+  pub start : Answers (x .start) (λ c. startRefusals (c .end) (c .silence)) (λ c. noState) (record { phase = 0; attempt = 0 })
+  pub step : Answers (x .step) (λ c. stepRefusals (stateIn (c .state)) (c .code)) (λ c. c .state) (record { phase = 0; attempt = 0 })
+  pub run-codes : Answers (x .run-codes) (λ c. stateRefusals (stateIn (c .state))) (λ c. c .state) (record { opened = 0; opened-at = 0; ended = 0; ended-at = 0 })
