@@ -1,2 +1,4 @@
 pub mod Frames
 pub mod One
+pub mod Fit
+pub mod Two

@@ -78,7 +78,7 @@ answers {checks = checks} o e n m =
 other : {n m : ℕ} → n ≡ m → (n ≡ 0 → ⊥) → m ≡ 0 → ⊥
 other e h z = h (e ∙ z)
 
-only : (x : None) → x ≡ none
+pub only : (x : None) → x ≡ none
 only none = refl
 
 found-none : (n : ℕ) (bits : List ℕ) → (n ≡ 0 → ⊥) → foundOf n bits ≡ record { answer = n; kind = 0; a = 0; b = 0 }

@@ -1,0 +1,95 @@
+-- What a call to which no check applies was handed. Assumes nothing.
+use mathlib.Core.Path.{_≡_, refl, sym, ap, _∙_}
+use mathlib.Core.Bool.{Bool, true, false, not, _||_, true≢false}
+use mathlib.Core.Logic.{_⊎_, inl, inr}
+use mathlib.Core.List.{List}
+use Prim.Native.Nat.{ℕ, zero, suc, _≤_}
+use native.Mathlib.Omega.{arith}
+use borrow.Author.Tests.{eq-eqb, eqb-true, ltb-false, not-false}
+use lib.Dec.{eqb, ltb}
+use lib.IntN.{ℤ}
+use lib.ListN.{length, drop, take}
+use Rattle.answer.specs.Answer.{answer}
+use Rattle.answer.proofs.Laws.{none, passed}
+use Rattle.octets.specs.Bits.{bitsOf}
+use Rattle.layout.specs.Refusals.{allInRange, bitRefusals, writeRefusals}
+use Rattle.numbers.specs.Promises.{numbersOf}
+use Rattle.host.specs.Frames.{frameReadRefusals}
+use Rattle.demands.specs.Library.{WriteCall, ReadCall}
+use Rattle.demands.specs.One.{writeChecks, readChecks}
+use Rattle.demands.specs.Two.{Right}
+
+neither : (s t : Bool) → (s || t) ≡ false → (s ≡ false) × (t ≡ false)
+neither true t e = absurd (true≢false e)
+neither false t e = (refl, e)
+
+-- a training frame to write
+pub record Fit (c : WriteCall) : Type 0 where
+  pub coefficients : length (c .coefficients) ≡ 720
+  pub vendor : length (c .vendor) ≡ 16
+  pub frame : length (c .frame) ≡ 529
+  pub count : c .count ≤ 180
+  pub range : allInRange (take (c .count) (numbersOf (c .coefficients))) ≡ true
+  pub a : c .a ≤ 2097151
+  pub b : c .b ≤ 2097151
+
+-- the lengths, whatever the kind
+module _ (c : WriteCall) (h : Right (writeChecks c)) where
+  pub lengths-fit : (length (c .coefficients) ≡ 720) × (length (c .vendor) ≡ 16) × (length (c .frame) ≡ 529)
+      × (answer (drop 3 (writeRefusals (c .kind) (c .count) (numbersOf (c .coefficients)) (c .a) (c .b) (c .vendor) (c .frame))) ≡ 0)
+  lengths-fit =
+      let L = writeRefusals (c .kind) (c .count) (numbersOf (c .coefficients)) (c .a) (c .b) (c .vendor) (c .frame) in
+      let zero = none 0 (not (eqb (length (c .coefficients)) 720)) L h in
+      let one = none 0 (not (eqb (length (numbersOf (c .coefficients))) 180)) (drop 1 L) (zero .1) in
+      let two = none 0 (not (eqb (length (c .vendor)) 16)) (drop 2 L) (one .1) in
+      let three = none 0 (not (eqb (length (c .frame)) 529)) (drop 3 L) (two .1) in
+      (eqb-true _ _ (not-false _ (zero .0)), eqb-true _ _ (not-false _ (two .0)), eqb-true _ _ (not-false _ (three .0)), three .1)
+
+  pub training-fit : c .kind ≡ 0 → Fit c
+  training-fit e =
+      let l = lengths-fit in
+      let L = writeRefusals 0 (c .count) (numbersOf (c .coefficients)) (c .a) (c .b) (c .vendor) (c .frame) in
+      let z : answer (drop 3 L) ≡ 0 =
+      ap (λ (k : ℕ). answer (drop 3 (writeRefusals k (c .count) (numbersOf (c .coefficients)) (c .a) (c .b) (c .vendor) (c .frame)))) (sym e) ∙ l .3 in
+      let four = none 1 (ltb 1 0) (drop 4 L) z in
+      let five = none 2 (ltb (c .count) 128 || ltb 180 (c .count)) (drop 5 L) (four .1) in
+      let six = none 3 (not (allInRange (take (c .count) (numbersOf (c .coefficients))))) (drop 6 L) (five .1) in
+      let seven = none 3 (ltb 2097151 (c .a) || ltb 2097151 (c .b)) (drop 7 L) (six .1) in
+      let words = neither (ltb 2097151 (c .a)) (ltb 2097151 (c .b)) (seven .0) in
+      record {
+        coefficients = l .0;
+        vendor = l .1;
+        frame = l .2;
+        count = ltb-false 180 (c .count) (neither (ltb (c .count) 128) (ltb 180 (c .count)) (five .0) .1);
+        range = not-false _ (six .0);
+        a = ltb-false 2097151 (c .a) (words .0);
+        b = ltb-false 2097151 (c .b) (words .1);
+      }
+
+  -- a frame is a training frame or a final one
+  pub kind-fit : (c .kind ≡ 0) ⊎ (c .kind ≡ 1)
+  kind-fit =
+      let L = writeRefusals (c .kind) (c .count) (numbersOf (c .coefficients)) (c .a) (c .b) (c .vendor) (c .frame) in
+      one (c .kind) (ltb-false 1 (c .kind) (none 1 (ltb 1 (c .kind)) (drop 4 L) (lengths-fit .3) .0))
+    where
+      one : (k : ℕ) → k ≤ 1 → (k ≡ 0) ⊎ (k ≡ 1)
+      one zero l = inl refl
+      one (suc zero) l = inr refl
+      one (suc (suc k)) l = absurd (omega (arith, l))
+
+-- a frame to read
+pub read-fit : (c : ReadCall) → Right (readChecks c)
+    → (length (c .coefficients) ≡ 720) × (length (c .frame) ≡ 529) × (length (c .vendor) ≡ 16) × (answer (bitRefusals (bitsOf (c .frame))) ≡ 0)
+read-fit c h =
+    let L = frameReadRefusals (c .frame) (c .coefficients) (c .vendor) in
+    let one = none 0 (not (eqb (length (c .coefficients)) 720)) (drop 1 L) h in
+    let two = none 0 (not (eqb (length (c .frame)) 529)) (drop 2 L) (one .1) in
+    let three = none 0 (not (eqb (length (c .vendor)) 16)) (drop 3 L) (two .1) in
+    (eqb-true _ _ (not-false _ (one .0)), eqb-true _ _ (not-false _ (two .0)), eqb-true _ _ (not-false _ (three .0)), three .1)
+
+-- and back: a frame of these bits in rooms of the right lengths
+pub read-right : (c : ReadCall) → length (c .coefficients) ≡ 720 → length (c .frame) ≡ 529 → length (c .vendor) ≡ 16
+    → answer (bitRefusals (bitsOf (c .frame))) ≡ 0 → Right (readChecks c)
+read-right c l m n z =
+    let L = frameReadRefusals (c .frame) (c .coefficients) (c .vendor) in
+    passed 1 (drop 1 L) (ap not (eq-eqb _ _ l)) ∙ passed 1 (drop 2 L) (ap not (eq-eqb _ _ m)) ∙ passed 1 (drop 3 L) (ap not (eq-eqb _ _ n)) ∙ z
