@@ -2,3 +2,4 @@ pub mod Frames
 pub mod One
 pub mod Fit
 pub mod Two
+pub mod Interwork

@@ -5,7 +5,7 @@ use Prim.Native.Nat.{ℕ, zero, _+_, _*_, _≤_, _<_}
 use native.Mathlib.Omega.{arith}
 use lib.Dec.{lit≤}
 use lib.ListN.{length, take, drop, replicate, length-append, length-drop, length-replicate}
-use lib.Seq.{length-take-le, take-all, take-at, take-add, drop-drop}
+use lib.Seq.{length-take-le, take-all, take-at, drop-at, take-add, drop-drop}
 use Rattle.octets.specs.Bits.{valueOf, bitsOf, octetsOf, part}
 use Rattle.octets.proofs.Digits.{Bits, append-bits, take-bits, drop-bits, zeros-bits, zeros-value, value-one}
 use Rattle.octets.proofs.Laws.{Octets, bits-length, bits-bits, bits-octets, octets-bits}
@@ -60,14 +60,22 @@ module _ (x : Scrambler) (frame : List ℕ) (l : length frame ≡ 529) (o : Octe
       ∙ ap (λ (t : List ℕ). S ++ t) (take-add 4213 5 (drop 14 B) ∙ ap (λ (t : List ℕ). clocked frame ++ take 5 t) (drop-drop 4213 14 B) ∙ ap (λ (t : List ℕ). clocked frame ++ t) z)
 
   -- what was sent, as bits
-  sent : bitsOf (frameOut scramble x frame) ≡ S ++ (R ++ Z)
+  pub sent : bitsOf (frameOut scramble x frame) ≡ S ++ (R ++ Z)
   sent =
       bits-octets 529 (S ++ (R ++ Z))
       (length-append S (R ++ Z) ∙ omega (arith, length-append R Z, S-length, R-length))
       (append-bits S (R ++ Z) (take-bits 14 B (bits-bits frame)) (append-bits R Z (run-bits scramble tap (x .state) (clocked frame)) (zeros-bits 5)))
 
-  received : clocked (frameOut scramble x frame) ≡ R
+  pub received : clocked (frameOut scramble x frame) ≡ R
   received = ap (part 14 4213) sent ∙ part-is S R Z 14 4213 S-length R-length
+
+  -- and the pad
+  pub pad-out : valueOf (fieldOf pad (bitsOf (frameOut scramble x frame))) ≡ 0
+  pad-out =
+      ap (λ (t : List ℕ). valueOf (part 4227 5 t)) sent
+      ∙ ap (λ (t : List ℕ). valueOf (take 5 t))
+      (sym (drop-drop 4213 14 (S ++ (R ++ Z))) ∙ ap (drop 4213) (drop-at S (R ++ Z) 14 S-length) ∙ drop-at R Z 4213 R-length)
+      ∙ zeros-value 5
 
   pub frame-back : frameOut descramble x (frameOut scramble x frame) ≡ frame
   frame-back =

@@ -1,0 +1,215 @@
+-- What one card writes or scrambles, the other gets back: for libraries of any two makes that are exact to the paper. Assumes nothing.
+use mathlib.Core.Path.{_≡_, refl, sym, ap, ap₂, _∙_, subst}
+use mathlib.Core.Bool.{Bool, true, false, not}
+use mathlib.Core.List.{List, [], _∷_, _++_}
+use Prim.Native.Nat.{ℕ, _+_, _*_, _≤_, _<_, _^_}
+use native.Mathlib.Omega.{arith}
+use borrow.Author.Tests.{eq-eqb, eqb-true, ltb-false, not-false}
+use lib.Dec.{eqb, ltb, leb}
+use lib.IntN.{ℤ, pos}
+use lib.ListN.{length, drop, take, replicate}
+use lib.Seq.{sets-eq, take-at, length-take-le}
+use Rattle.answer.specs.Answer.{answer, held}
+use Rattle.answer.proofs.Laws.{none as none-applies, passed, given as held-given}
+use Rattle.octets.specs.Bits.{valueOf, bitsOf, octetsOf, part, laid}
+use Rattle.octets.proofs.Digits.{Bits, take-bits, drop-bits}
+use Rattle.octets.proofs.Laws.{bits-bits, bits-length, octets-length, laid-length, laid-bits}
+use Rattle.octets.proofs.Numbers.{numbers-length}
+use Rattle.layout.specs.Places.{wordA, wordB, vendor, pad}
+use Rattle.layout.specs.Frame.{used, trainingBits, finalBits, fieldOf, coefficientsOf}
+use Rattle.layout.specs.Refusals.{bitRefusals, hasSync}
+use Rattle.layout.proofs.RoundTrip.{training-laid, training-answers, a-back, b-back, used-back, vendor-back, final-laid, final-answers, final-vendor}
+use Rattle.numbers.specs.Promises.{numbersOf}
+use Rattle.scrambler.specs.Line.{tapOf, Scrambles, Descrambles, newest}
+use Rattle.scrambler.specs.Run.{scramble, descramble, runOf}
+use Rattle.scrambler.specs.Promises.{runRefusals, frameRefusals, frameOut}
+use Rattle.scrambler.specs.declared.Scrambler.{Scrambler}
+use Rattle.scrambler.proofs.Laws.{tap-range, run-bits, run-length, run-sound, frame-sound}
+use Rattle.scrambler.proofs.Exactly.{scrambles-run, descrambles-run, back as comes-back}
+use Rattle.scrambler.proofs.Frames.{received, pad-out, frame-back}
+use Rattle.signal.specs.Signal.{isSignal, every, pastAfter}
+use Rattle.signal.proofs.Range.{and-true}
+use Rattle.precoder.specs.Octets.{valuesOf, octetsOf as wordsOf}
+use Rattle.precoder.specs.Runs.{SendsAll, outputsOf, inputsOf, pastAfterAll, PrecodesRun, DecodesRun}
+use Rattle.precoder.proofs.Signals.{input-is}
+use Rattle.precoder.proofs.Back.{outputs-sent, sent-unique, outputs-length, octets-values, run-done, run-back as run-back-of}
+use Rattle.precoder.proofs.Quads.{octets-length as words-length}
+use Rattle.precoder.proofs.Turns.{lengths-are}
+use Rattle.demands.specs.Library.{Outcome, None, none, WriteCall, ReadCall, Fields, Rooms, RunCall, FrameCall, Line, PrecodeCall, Signal, Library}
+use Rattle.demands.specs.One.{writeChecks, readChecks, runChecks, frameChecks, precodeChecks}
+use Rattle.demands.specs.Two.{Right, Octets, inOctets, done, given, clocked, around, Frames, Scrambling, Precoding, Exact, Back}
+use Rattle.demands.proofs.Fit.{lengths-fit, training-fit, read-right}
+
+-- ---- frames
+
+module _ (x y : Library) (ex : Frames x) (ey : Frames y) (c : WriteCall) (room v : List ℕ) (h : Right (writeChecks c)) (o : Octets (c .vendor)) (lr : length room ≡ 720) (lv : length v ≡ 16) where
+  abbrev call : List ℕ → ReadCall
+  call frame = record { frame = frame; coefficients = room; vendor = v }
+
+  training-back : c .kind ≡ 0 → y .read (call (x .write c .memory))
+      ≡ done (record { kind = 0; a = c .a; b = c .b }) (record { coefficients = inOctets (used (c .count) (numbersOf (c .coefficients))); vendor = c .vendor })
+  training-back e =
+      let f = training-fit c h e in
+      let cs = numbersOf (c .coefficients) in
+      let n = numbers-length 32 180 (bitsOf (c .coefficients)) in
+      let T = trainingBits (c .count) cs (c .a) (c .b) (c .vendor) in
+      let F = octetsOf 529 T in
+      let B : bitsOf F ≡ T = training-laid (c .count) cs (c .a) (c .b) (c .vendor) (f .count) n (f .vendor) in
+      let t = training-answers (c .count) cs (c .a) (c .b) (c .vendor) (f .count) n (f .vendor) in
+      let r : Right (readChecks (call F)) = read-right (call F) lr (octets-length 529 T) lv (ap (λ (b : List ℕ). answer (bitRefusals b)) B ∙ t .0) in
+      ap (λ (m : Outcome None (List ℕ)). y .read (call (m .memory))) (ex .training c e h)
+      ∙ ey .read-training (call F) r (ap (hasSync _) B ∙ t .1)
+      ∙ ap (λ (b : List ℕ). done (record { kind = 0; a = valueOf (fieldOf wordA b); b = valueOf (fieldOf wordB b) }) (record { coefficients = inOctets (coefficientsOf b); vendor = octetsOf 16 (fieldOf vendor b) })) B
+      ∙ ap₂ (λ (p q : ℕ). done (record { kind = 0; a = p; b = q }) (record { coefficients = inOctets (coefficientsOf T); vendor = octetsOf 16 (fieldOf vendor T) }))
+      (a-back (c .count) cs (c .a) (c .b) (c .vendor) (f .count) n (f .vendor) (f .a)) (b-back (c .count) cs (c .a) (c .b) (c .vendor) (f .count) n (f .vendor) (f .b))
+      ∙ ap₂ (λ (p : List ℤ) (q : List ℕ). done (record { kind = 0; a = c .a; b = c .b }) (record { coefficients = inOctets p; vendor = q }))
+      (used-back (c .count) cs (c .a) (c .b) (c .vendor) (f .count) n (f .vendor) (f .range)) (vendor-back (c .count) cs (c .a) (c .b) (c .vendor) (f .count) n (f .vendor) o)
+
+  final-back : c .kind ≡ 1 → y .read (call (x .write c .memory)) ≡ done (record { kind = 1; a = 0; b = 0 }) (record { coefficients = room; vendor = c .vendor })
+  final-back e =
+      let l = lengths-fit c h .1 in
+      let T = finalBits (c .vendor) in
+      let F = octetsOf 529 T in
+      let B : bitsOf F ≡ T = final-laid (c .vendor) l in
+      let t = final-answers (c .vendor) l in
+      let r : Right (readChecks (call F)) = read-right (call F) lr (octets-length 529 T) lv (ap (λ (b : List ℕ). answer (bitRefusals b)) B ∙ t .0) in
+      ap (λ (m : Outcome None (List ℕ)). y .read (call (m .memory))) (ex .final c e h)
+      ∙ ey .read-final (call F) r (ap (hasSync _) B ∙ t .1)
+      ∙ ap (λ (b : List ℕ). done (record { kind = 1; a = 0; b = 0 }) (record { coefficients = room; vendor = octetsOf 16 (fieldOf vendor b) })) B
+      ∙ ap (λ (q : List ℕ). done (record { kind = 1; a = 0; b = 0 }) (record { coefficients = room; vendor = q })) (final-vendor (c .vendor) l o)
+
+-- ---- scrambling
+
+-- bits laid over octets from the start stand there
+laid-there : (s bs : List ℕ) (n : ℕ) → Bits bs → length bs ≡ n → n ≤ 8 * length s → part 0 n (bitsOf (laid s 0 bs)) ≡ bs
+laid-there s bs n h l m =
+    ap (part 0 n) (laid-bits s 0 bs h ∙ sets-eq bs (bitsOf s) 0 (omega (arith, bits-length s)))
+    ∙ take-at bs (drop (0 + length bs) (bitsOf s)) n l
+
+-- the checks of a run that passed, for another input and output of the same length
+run-right : (c : RunCall) (input output : List ℕ) → Right (runChecks c) → length input ≡ length (c .output) → length output ≡ length (c .output)
+    → (length (c .input) ≡ length (c .output)) × (c .bits ≤ 8 * length (c .output)) × Right (runChecks (record { end = c .end; state = c .state; input = input; bits = c .bits; output = output }))
+run-right c input output h l m =
+    let R = runChecks c in
+    let R′ = runChecks (record { end = c .end; state = c .state; input = input; bits = c .bits; output = output }) in
+    let one = none-applies 0 (ltb (8 * length (c .input)) (c .bits)) (drop 1 R) h in
+    let two = none-applies 0 (not (eqb (length (c .input)) (length (c .output)))) (drop 2 R) (one .1) in
+    let e : length (c .input) ≡ length (c .output) = eqb-true _ _ (not-false _ (two .0)) in (
+      e,
+      subst (λ (n : ℕ). c .bits ≤ 8 * n) e (ltb-false _ _ (one .0)),
+      passed 1 (drop 1 R′) (ap (λ (n : ℕ). ltb (8 * n) (c .bits)) (l ∙ sym e) ∙ one .0)
+          ∙ passed 1 (drop 2 R′) (ap not (eq-eqb _ _ (l ∙ sym m))) ∙ two .1,
+    )
+
+module _ (x y : Library) (ex : Scrambling x) (ey : Scrambling y) where
+  run-back : (c : RunCall) (room : List ℕ) → Right (runChecks c) → length room ≡ length (c .output)
+      → y .run descramble (record { end = c .end; state = c .state; input = x .run scramble c .memory .output; bits = c .bits; output = room })
+      ≡ done none (record { state = x .run scramble c .memory .state; output = laid room 0 (given c) })
+  run-back c room h l =
+      let tap = tapOf (c .end) in
+      let t = tap-range (c .end) in
+      let w = ex .scrambled c h in
+      let s = w .0 in
+      let call : List ℕ → RunCall = λ o. record { end = c .end; state = c .state; input = o; bits = c .bits; output = room } in
+      let F : Bits (given c) = take-bits (c .bits) (bitsOf (c .input)) (bits-bits (c .input)) in
+      let is : s ≡ runOf scramble tap (c .state) (given c) = scrambles-run tap (t .0) (t .1) (c .state) (given c) s (w .1) in
+      let S : Bits s = subst Bits (sym is) (run-bits scramble tap (c .state) (given c)) in
+      let O = laid (c .output) 0 s in
+      let r = run-right c O room h (laid-length (c .output) 0 s) l in
+      let n : length s ≡ c .bits = w .1 .size ∙ length-take-le (c .bits) (bitsOf (c .input)) (omega (arith, bits-length (c .input), r .0, r .1)) in
+      let there : given (call O) ≡ s = laid-there (c .output) s (c .bits) S n (r .1) in
+      let v = ey .descrambled (call O) (r .2) in
+      let f : v .0 ≡ given c =
+      descrambles-run tap (t .0) (t .1) (c .state) (given (call O)) (v .0) (take-bits (c .bits) (bitsOf O) (bits-bits O)) (v .1)
+      ∙ ap (runOf descramble tap (c .state)) (there ∙ is) ∙ comes-back tap (c .state) (given c) F .0 in
+      ap (λ (m : Outcome None Line). y .run descramble (call (m .memory .output))) (w .2) ∙ v .2
+      ∙ ap₂ (λ (a b : List ℕ). done none (record { state = newest (c .state) a; output = laid room 0 b })) there f
+      ∙ ap (λ (m : Outcome None Line). done none (record { state = m .memory .state; output = laid room 0 (given c) })) (sym (w .2))
+
+  frame-comes-back : (c : FrameCall) (room : List ℕ) → Right (frameChecks c) → Octets (c .frame) → length room ≡ 529
+      → y .frame descramble (record { end = c .end; state = c .state; frame = x .frame scramble c .memory .output; output = room })
+      ≡ done none (record { state = x .frame scramble c .memory .state; output = c .frame })
+  frame-comes-back c room h o l =
+      let X : Scrambler = record { end = c .end; state = c .state } in
+      let tap = tapOf (c .end) in
+      let t = tap-range (c .end) in
+      let w = ex .frame-scrambled c h in
+      let s = w .0 in
+      let call : List ℕ → FrameCall = λ f. record { end = c .end; state = c .state; frame = f; output = room } in
+      let R = frameChecks c in
+      let one = none-applies 0 (not (eqb (length (c .frame)) 529)) (drop 1 R) h in
+      let two = none-applies 0 (not (eqb (length (c .output)) 529)) (drop 2 R) (one .1) in
+      let three = none-applies 1 (ltb 1 (c .end)) (drop 3 R) (two .1) in
+      let four = none-applies 3 (leb (2 ^ 23) (c .state)) (drop 4 R) (three .1) in
+      let five = none-applies 5 (not (eqb (valueOf (fieldOf pad (bitsOf (c .frame)))) 0)) [] (four .1) in
+      let lf : length (c .frame) ≡ 529 = eqb-true _ _ (not-false _ (one .0)) in
+      let p : valueOf (fieldOf pad (bitsOf (c .frame))) ≡ 0 = eqb-true _ _ (not-false _ (five .0)) in
+      let is : s ≡ runOf scramble tap (c .state) (clocked c) = scrambles-run tap (t .0) (t .1) (c .state) (clocked c) s (w .1) in
+      let O = frameOut scramble X (c .frame) in
+      let out : around c s ≡ O = ap (around c) is in
+      let R′ = frameChecks (call O) in
+      let r : Right R′ =
+      passed 1 (drop 1 R′) (ap not (eq-eqb _ _ (octets-length 529 _))) ∙ passed 1 (drop 2 R′) (ap not (eq-eqb _ _ l))
+      ∙ passed 2 (drop 3 R′) (three .0) ∙ passed 4 (drop 4 R′) (four .0) ∙ passed 6 [] (ap not (eq-eqb _ _ (pad-out X (c .frame) lf o p))) in
+      let v = ey .frame-descrambled (call O) r in
+      let f : v .0 ≡ runOf descramble tap (c .state) (clocked (call O)) =
+      descrambles-run tap (t .0) (t .1) (c .state) (clocked (call O)) (v .0) (take-bits 4213 (drop 14 (bitsOf O)) (drop-bits 14 (bitsOf O) (bits-bits O))) (v .1) in
+      ap (λ (m : Outcome None Line). y .frame descramble (call (m .memory .output))) (w .2)
+      ∙ ap (λ (m : List ℕ). y .frame descramble (call m)) out ∙ v .2
+      ∙ ap₂ (λ (a b : List ℕ). done none (record { state = newest (c .state) a; output = b }))
+      (received X (c .frame) lf o p ∙ sym is) (ap (around (call O)) f ∙ frame-back X (c .frame) lf o p)
+      ∙ ap (λ (m : Outcome None Line). done none (record { state = m .memory .state; output = c .frame })) (sym (w .2))
+
+-- ---- precoding
+
+-- the xs in range that go out as ys are those computed from them
+inputs-are : (coefficients past xs ys : List ℤ) → SendsAll coefficients past xs ys → every isSignal xs ≡ true → xs ≡ inputsOf coefficients past ys
+unfolding SendsAll inputsOf every
+inputs-are coefficients past [] [] s h = refl
+inputs-are coefficients past [] (y ∷ ys) s h = absurd s
+inputs-are coefficients past (x ∷ xs) [] s h = absurd s
+inputs-are coefficients past (x ∷ xs) (y ∷ ys) s h =
+    let p = and-true (isSignal x) (every isSignal xs) h in
+    ap₂ (λ (a : ℤ) (l : List ℤ). a ∷ l) (input-is coefficients past y x (record { signal = p .0; sends = s .0 })) (inputs-are coefficients (pastAfter past y) xs ys (s .1) (p .1))
+
+module _ (x y : Library) (ex : Precoding x) (ey : Precoding y) where
+  precoded-back : (c : PrecodeCall) (room : List ℕ) → Right (precodeChecks c) → Octets (c .symbols) → length room ≡ length (c .symbols)
+      → y .decode (record { coefficients = c .coefficients; history = c .history; symbols = x .precode c .memory .room; room = room })
+      ≡ done none (record { history = x .precode c .memory .history; room = c .symbols })
+  precoded-back c room h o l =
+      let cs = valuesOf (c .coefficients) in
+      let past = valuesOf (c .history) in
+      let xs = valuesOf (c .symbols) in
+      let ys = outputsOf cs past xs in
+      let w = ex .precoded c h in
+      let is : w .0 ≡ ys = sent-unique cs past xs (w .0) ys (w .1) (outputs-sent cs past xs) in
+      let call : List ℕ → PrecodeCall = λ s. record { coefficients = c .coefficients; history = c .history; symbols = s; room = room } in
+      let Y = wordsOf ys in
+      let n = answer (precodeChecks (call Y)) in
+      let p : PrecodesRun (c .coefficients) (c .history) (c .symbols) (c .room) 0 (wordsOf (pastAfterAll past ys)) Y = record { answered = sym h; written = refl; past = refl } in
+      let q : DecodesRun (c .coefficients) (c .history) Y room n (held n (c .history) (wordsOf (pastAfterAll past (valuesOf Y)))) (held n room (wordsOf (inputsOf cs past (valuesOf Y)))) =
+      record { answered = refl; written = refl; past = refl } in
+      let d = run-done (c .coefficients) (c .history) (c .symbols) (c .room) h in
+      let again : wordsOf xs ≡ c .symbols = octets-values (c .symbols) o (lengths-are (c .coefficients) (c .history) (c .symbols) (c .room) (d .0) .2) in
+      let m : length room ≡ length Y = omega (arith, l, ap length again, words-length xs, words-length ys, outputs-length cs past xs) in
+      let b = run-back-of (c .coefficients) (c .history) (c .symbols) (c .room) room 0 n _ Y _ _ o p refl q m in
+      let v = ey .decoded (call Y) (b .0) in
+      let f : v .0 ≡ inputsOf cs past (valuesOf Y) = inputs-are cs past (v .0) (valuesOf Y) (v .1) (v .2) in
+      let room-is : wordsOf (v .0) ≡ c .symbols = ap wordsOf f ∙ sym (held-given n room (wordsOf (inputsOf cs past (valuesOf Y))) (b .0)) ∙ b .1 in
+      let past-is : wordsOf (pastAfterAll past (valuesOf Y)) ≡ wordsOf (pastAfterAll past ys) = sym (held-given n (c .history) (wordsOf (pastAfterAll past (valuesOf Y))) (b .0)) ∙ b .2 in
+      ap (λ (m : Outcome None Signal). y .decode (call (m .memory .room))) (w .2) ∙ ap (λ (z : List ℤ). y .decode (call (wordsOf z))) is ∙ v .3
+      ∙ ap₂ (λ (a b : List ℕ). done none (record { history = a; room = b })) past-is room-is
+      ∙ ap (λ (z : List ℤ). done none (record { history = wordsOf (pastAfterAll past z); room = c .symbols })) (sym is)
+      ∙ ap (λ (m : Outcome None Signal). done none (record { history = m .memory .history; room = c .symbols })) (sym (w .2))
+
+-- ---- the two sentences
+
+pub interwork : (x y : Library) → Exact x → Exact y → Back x y
+interwork x y ex ey =
+    record {
+      training = λ c room v e h o l m. training-back x y (ex .frames) (ey .frames) c room v h o l m e;
+      final = λ c room v e h o l m. final-back x y (ex .frames) (ey .frames) c room v h o l m e;
+      run = run-back x y (ex .scrambling) (ey .scrambling);
+      frame = frame-comes-back x y (ex .scrambling) (ey .scrambling);
+      precoded = precoded-back x y (ex .precoding) (ey .precoding);
+    }
