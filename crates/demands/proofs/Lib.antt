@@ -3,3 +3,5 @@ pub mod One
 pub mod Fit
 pub mod Two
 pub mod Interwork
+pub mod Three
+pub mod Ours

@@ -2,4 +2,5 @@ pub mod Library
 pub mod Contracts
 pub mod One
 pub mod Two
+pub mod Three
 pub mod Frames

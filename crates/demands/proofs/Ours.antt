@@ -1,0 +1,165 @@
+-- The three demands together; and a library that keeps our contracts exists, so no theorem here is about nothing. Assumes nothing.
+use mathlib.Core.Path.{_≡_, refl, sym, ap, _∙_}
+use mathlib.Core.Bool.{Bool, true, false, not}
+use mathlib.Core.List.{List, [], _∷_}
+use Prim.Native.Nat.{ℕ, zero, suc}
+use borrow.Author.Tests.{not-false}
+use lib.Ieee.{Float, binary32, ofBits, ofInt, div}
+use lib.IntN.{ℤ, pos}
+use Rattle.answer.specs.Answer.{answer, held}
+use Rattle.answer.proofs.Laws.{none as none-applies}
+use Rattle.octets.specs.Bits.{bitsOf, laid}
+use Rattle.layout.specs.Refusals.{checkRefusals}
+use Rattle.numbers.specs.Promises.{numbersOf}
+use Rattle.writer.specs.Promises.{frameOctets}
+use Rattle.reader.specs.Promises.{foundOf, vendorOctets}
+use Rattle.scrambler.specs.Line.{tapOf}
+use Rattle.scrambler.specs.Run.{runOf, afterOf}
+use Rattle.symbol.specs.Levels.{activationLevels, dataLevels, levelAt, placeIn, activationTests, dataTests, backTests}
+use Rattle.symbol.specs.Encoder.{codeOf, codesOf, x1, sentAfter, heldIn, registerOf, withRegister}
+use Rattle.signal.specs.Signal.{isSignal}
+use Rattle.signal.specs.Shaper.{Exactly, shaperTests}
+use Rattle.signal.proofs.Exact.{signal-abs, exact, exact-zero}
+use Rattle.precoder.specs.Octets.{valuesOf, octetsOf as wordsOf}
+use Rattle.precoder.specs.Runs.{outputsOf, inputsOf, pastAfterAll}
+use Rattle.startup.specs.Step.{startOf, stepOf}
+use Rattle.startup.specs.Run.{runOf as codesRun}
+use Rattle.host.specs.Frames.{coefficientOctets}
+use Rattle.host.specs.Symbols.{encoder}
+use Rattle.host.specs.Supervisor.{stateIn, stateOf, runFieldsOf}
+use Rattle.demands.specs.Library.{none, Library}
+use Rattle.demands.specs.Contracts.{Keeps}
+use Rattle.demands.specs.One.{One, writeChecks, readChecks, runChecks, frameChecks, encodeChecks, encodeRunChecks, precodeChecks}
+use Rattle.demands.specs.Two.{Two, given, clocked, around}
+use Rattle.demands.specs.Three.{Three, supervisor}
+use Rattle.demands.proofs.One.{one}
+use Rattle.demands.proofs.Two.{exact as exact-of}
+use Rattle.demands.proofs.Interwork.{interwork}
+use Rattle.demands.proofs.Three.{three}
+
+-- ALL THREE, of every library that keeps our contracts
+pub demands : (x : Library) → Keeps x → One x × Two x × Three (supervisor x)
+demands x k = (one x k, record { exact = exact-of x k; back = interwork x x (exact-of x k) (exact-of x k) }, three x k)
+
+-- the float that is y/131,072, and 0 with a refusal
+sample : ℤ → Float
+sample y = held (answer (shaperTests y)) (ofBits binary32 0) (div binary32 (ofInt binary32 y) (ofBits binary32 1207959552))
+
+-- what our functions compute, by the definitions that their contracts cite
+pub ours : Library
+ours = record {
+  write = λ c. record { answer = answer (writeChecks c); numbers = none; memory = held (answer (writeChecks c)) (c .frame) (frameOctets (c .kind) (c .count) (numbersOf (c .coefficients)) (c .a) (c .b) (c .vendor)) };
+  check = λ f. record { answer = answer (checkRefusals f); numbers = none; memory = none };
+  read = λ c.
+      let n = answer (readChecks c) in
+      let f = foundOf n (bitsOf (c .frame)) in
+      record {
+        answer = f .answer;
+        numbers = record { kind = f .kind; a = f .a; b = f .b };
+        memory = record { coefficients = held n (c .coefficients) (coefficientOctets (bitsOf (c .frame)) (c .coefficients)); vendor = held n (c .vendor) (vendorOctets (bitsOf (c .frame))) };
+      };
+  run = λ way c.
+      let n = answer (runChecks c) in
+      record {
+        answer = n;
+        numbers = none;
+        memory = record {
+          state = held n (c .state) (afterOf way (tapOf (c .end)) (c .state) (given c));
+          output = held n (c .output) (laid (c .output) 0 (runOf way (tapOf (c .end)) (c .state) (given c)));
+        };
+      };
+  frame = λ way c.
+      let n = answer (frameChecks c) in
+      record {
+        answer = n;
+        numbers = none;
+        memory = record {
+          state = held n (c .state) (afterOf way (tapOf (c .end)) (c .state) (clocked c));
+          output = held n (c .output) (around c (runOf way (tapOf (c .end)) (c .state) (clocked c)));
+        };
+      };
+  activation = λ b. record { answer = answer (activationTests b); numbers = held (answer (activationTests b)) (pos 0) (levelAt activationLevels b); memory = none };
+  level = λ b. record { answer = answer (dataTests b); numbers = held (answer (dataTests b)) (pos 0) (levelAt dataLevels b); memory = none };
+  code = λ l. record { answer = answer (backTests l); numbers = held (answer (backTests l)) 0 (placeIn dataLevels l); memory = none };
+  encode = λ c.
+      let n = answer (encodeChecks c) in
+      let y = codeOf (c .a) (c .b) (heldIn (c .register)) (c .symbol) in
+      record {
+        answer = n;
+        numbers = record { code = held n 0 y; sixteenths = held n (pos 0) (levelAt dataLevels y) };
+        memory = held n (c .register) (registerOf (x1 (c .symbol) ∷ heldIn (c .register)));
+      };
+  encode-run = λ c.
+      let n = answer (encodeRunChecks c) in
+      record {
+        answer = n;
+        numbers = none;
+        memory = record {
+          register = held n (c .register) (registerOf (sentAfter (heldIn (c .register)) (c .symbols)));
+          codes = held n (c .codes) (codesOf (c .a) (c .b) (heldIn (c .register)) (c .symbols));
+        };
+      };
+  precode = λ c.
+      let n = answer (precodeChecks c) in
+      let ys = outputsOf (valuesOf (c .coefficients)) (valuesOf (c .history)) (valuesOf (c .symbols)) in
+      record { answer = n; numbers = none; memory = record { history = held n (c .history) (wordsOf (pastAfterAll (valuesOf (c .history)) ys)); room = held n (c .room) (wordsOf ys) } };
+  decode = λ c.
+      let n = answer (precodeChecks c) in
+      let ys = valuesOf (c .symbols) in
+      record {
+        answer = n;
+        numbers = none;
+        memory = record {
+          history = held n (c .history) (wordsOf (pastAfterAll (valuesOf (c .history)) ys));
+          room = held n (c .room) (wordsOf (inputsOf (valuesOf (c .coefficients)) (valuesOf (c .history)) ys));
+        };
+      };
+  shape = λ y. record { answer = answer (shaperTests y); numbers = sample y; memory = none };
+  start = λ c. let r = startOf (c .end) (c .silence) in record { answer = r .answer; numbers = record { phase = r .phase; attempt = r .attempt }; memory = stateOf (r .state) };
+  step = λ c. let r = stepOf (stateIn (c .state)) (c .code) in record { answer = r .answer; numbers = record { phase = r .phase; attempt = r .attempt }; memory = stateOf (r .state) };
+  run-codes = λ c.
+      let r = runFieldsOf (codesRun (stateIn (c .state)) (c .codes)) in
+      record { answer = r .answer; numbers = record { opened = r .opened; opened-at = r .«opened_at»; ended = r .ended; ended-at = r .«ended_at» }; memory = r .state };
+}
+
+-- a state or the next, by its number
+either-register : (n a b r s : ℕ) → encoder a b (held n r s) ≡ held n (encoder a b r) (withRegister (encoder a b r) s)
+either-register zero a b r s = refl
+either-register (suc n) a b r s = refl
+
+samples : (y : ℤ) → Exactly (sample y) (held (answer (shaperTests y)) (pos 0) y)
+unfolding sample
+samples y = pick (answer (shaperTests y)) refl
+  where
+    pick : (n : ℕ) → answer (shaperTests y) ≡ n → Exactly (held n (ofBits binary32 0) (div binary32 (ofInt binary32 y) (ofBits binary32 1207959552))) (held n (pos 0) y)
+    pick zero e = exact y (signal-abs y (not-false _ (none-applies 3 (not (isSignal y)) [] e .0)))
+    pick (suc n) e = exact-zero
+
+pub ours-keep : Keeps ours
+unfolding ours
+ours-keep = record {
+  write = λ c. record { answered = refl; left = refl };
+  check = λ f. refl;
+  read = λ c. record { found = refl; coefficients-left = refl; vendor-left = refl };
+  run = λ way c. record {
+    ran = record { answer = ours .run way c .answer; next = record { end = c .end; state = ours .run way c .memory .state } };
+    crossed = refl;
+    promise = record { answered = refl; next = refl; left = refl };
+  };
+  frame = λ way c. record {
+    ran = record { answer = ours .frame way c .answer; next = record { end = c .end; state = ours .frame way c .memory .state } };
+    crossed = refl;
+    promise = record { answered = refl; next = refl; left = refl };
+  };
+  activation = λ b. record { answered = refl; level = refl };
+  level = λ b. record { answered = refl; level = refl };
+  code = λ l. record { answered = refl; code = refl };
+  encode = λ c. record { answered = refl; code = refl; level = refl; next = either-register (answer (encodeChecks c)) _ _ _ _ };
+  encode-run = λ c. record { answered = refl; written = refl; next = either-register (answer (encodeRunChecks c)) _ _ _ _ };
+  precode = λ c. record { answered = refl; written = refl; past = refl };
+  decode = λ c. record { answered = refl; written = refl; past = refl };
+  shape = λ y. record { answered = refl; value = samples y };
+  start = λ c. refl;
+  step = λ c. refl;
+  run-codes = λ c. refl;
+}
