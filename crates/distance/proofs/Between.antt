@@ -58,7 +58,8 @@ between-ones (b ∷ bs) (c ∷ cs) h k = ap₂ (λ (x n : ℕ). x + n) (one b c 
     one (suc (suc b)) c h k = no-two b h
 
 -- its polynomial is the sum of theirs
-pub between-polynomial : (bs cs : List ℕ) → length bs ≡ length cs → Bits bs → Bits cs → polynomial (between bs cs) ≡ bitXor (polynomial bs) (polynomial cs)
+pub between-polynomial : (bs cs : List ℕ) → length bs ≡ length cs → Bits bs → Bits cs
+    → polynomial (between bs cs) ≡ bitXor (polynomial bs) (polynomial cs)
 unfolding between valueOf
 between-polynomial [] [] l h k = refl
 between-polynomial [] (c ∷ cs) l h k = absurd (omega arith)
@@ -86,17 +87,17 @@ module _ (at n : ℕ) (B C : List ℕ) (l : length B ≡ length C) (w : Within a
       ext-getD 0 (drop (at + n) B) (drop (at + n) C) (length-drop (at + n) B ∙ ap (λ (m : ℕ). m - (at + n)) l ∙ sym (length-drop (at + n) C))
       (λ i h. getD-drop (at + n) B i 0 ∙ w (at + n + i) (inr (omega arith)) ∙ sym (getD-drop (at + n) C i 0))
 
-  pub within-sum : Bits B → Bits C → bitXor (polynomial B) (polynomial C) ≡ bitXor (polynomial (part at n B)) (polynomial (part at n C)) * 2 ^ length (drop (at + n) B)
+  pub within-sum : Bits B → Bits C
+      → bitXor (polynomial B) (polynomial C) ≡ bitXor (polynomial (part at n B)) (polynomial (part at n C)) * 2 ^ length (drop (at + n) B)
   within-sum h k =
       let S = take at B in
       let D = drop (at + n) B in
       let Y = part at n B in
       let W = part at n C in
       let j = length D in
-      let s : length (W ++ D) ≡ length (Y ++ D) =
-      length-append W D
-      ∙ ap (λ (m : ℕ). m + j) (length-take n (drop at C) ∙ ap (min n) (length-drop at C ∙ ap (λ (m : ℕ). m - at) (sym l) ∙ sym (length-drop at B)) ∙ sym (length-take n (drop at B)))
-      ∙ sym (length-append Y D) in
+      let d : length (drop at C) ≡ length (drop at B) = length-drop at C ∙ ap (λ (m : ℕ). m - at) (sym l) ∙ sym (length-drop at B) in
+      let p : length W ≡ length Y = length-take n (drop at C) ∙ ap (min n) d ∙ sym (length-take n (drop at B)) in
+      let s : length (W ++ D) ≡ length (Y ++ D) = length-append W D ∙ ap (λ (m : ℕ). m + j) p ∙ sym (length-append Y D) in
       ap₂ bitXor
       (ap polynomial (parts B) ∙ laid-out S Y D (take-bits n (drop at B) (drop-bits at B h)) (drop-bits (at + n) B h))
       (ap polynomial (parts C ∙ ap₂ (λ (x y : List ℕ). x ++ (W ++ y)) (sym before) (sym behind))
@@ -110,7 +111,8 @@ module _ (at n : ℕ) (B C : List ℕ) (l : length B ≡ length C) (w : Within a
           sym (take-append-drop at X)
           ∙ ap (λ (x : List ℕ). take at X ++ x) (sym (take-append-drop n (drop at X)) ∙ ap (λ (x : List ℕ). part at n X ++ x) (drop-drop n at X))
 
-      laid-out : (S Y D : List ℕ) → Bits Y → Bits D → polynomial (S ++ (Y ++ D)) ≡ bitXor (polynomial S * 2 ^ length (Y ++ D)) (bitXor (polynomial Y * 2 ^ length D) (polynomial D))
+      laid-out : (S Y D : List ℕ) → Bits Y → Bits D
+          → polynomial (S ++ (Y ++ D)) ≡ bitXor (polynomial S * 2 ^ length (Y ++ D)) (bitXor (polynomial Y * 2 ^ length D) (polynomial D))
       laid-out S Y D v d =
           polynomial-append S (Y ++ D) (append-bits Y D v d) ∙ ap (bitXor (polynomial S * 2 ^ length (Y ++ D))) (polynomial-append Y D d)
 

@@ -25,12 +25,15 @@ use Rattle.reader.specs.Promises.{foundOf, Checked, Read}
 use Rattle.distance.specs.Errors.{distance, Few, Burst}
 use Rattle.distance.proofs.Detected.{detected}
 
-module _ (frame frame′ : List ℕ) (l : length frame′ ≡ 529) (f : Few (bitsOf frame) (bitsOf frame′) ⊎ Burst (bitsOf frame) (bitsOf frame′)) (c : Checked frame 0) where
+module _ (frame frame′ : List ℕ) (l : length frame′ ≡ 529)
+    (f : Few (bitsOf frame) (bitsOf frame′) ⊎ Burst (bitsOf frame) (bitsOf frame′)) (c : Checked frame 0) where
   bits-answer : answer (bitRefusals (bitsOf frame′)) ≡ 7
   bits-answer =
       let x = none 0 (not (eqb (length frame) 529)) (bitRefusals (bitsOf frame)) (sym c) in
+      let B = bitsOf frame in
+      let C = bitsOf frame′ in
       let long : (s : List ℕ) → length s ≡ 529 → length (bitsOf s) ≡ 4232 = λ s e. bits-length s ∙ ap (λ (n : ℕ). 8 * n) e in
-      detected (bitsOf frame) (bitsOf frame′) (long frame (eqb-true _ _ (not-false _ (x .0)))) (long frame′ l) (bits-bits frame) (bits-bits frame′) f (x .1)
+      detected B C (long frame (eqb-true _ _ (not-false _ (x .0)))) (long frame′ l) (bits-bits frame) (bits-bits frame′) f (x .1)
 
   pub changed-checked : (r : ℕ) → Checked frame′ r → r ≡ 7
   changed-checked r g = g ∙ passed 1 (bitRefusals (bitsOf frame′)) (ap not (eq-eqb _ _ l)) ∙ bits-answer
@@ -41,7 +44,8 @@ module _ (frame frame′ : List ℕ) (l : length frame′ ≡ 529) (f : Few (bit
       let R = readRefusals frame′ room octets in
       g .found
       ∙ ap (λ (n : ℕ). foundOf n (bitsOf frame′))
-      (passed 1 (drop 1 R) (ap not (eq-eqb _ _ l)) ∙ passed 1 (drop 2 R) (ap not (eq-eqb _ _ lr)) ∙ passed 1 (drop 3 R) (ap not (eq-eqb _ _ lo)) ∙ bits-answer)
+      (passed 1 (drop 1 R) (ap not (eq-eqb _ _ l)) ∙ passed 1 (drop 2 R) (ap not (eq-eqb _ _ lr))
+      ∙ passed 1 (drop 3 R) (ap not (eq-eqb _ _ lo)) ∙ bits-answer)
 
 -- ---- one bit turned over
 

@@ -1,6 +1,6 @@
--- D^n + 1 is no multiple of the generator, for n from 1 to 4,231. Assumes nothing.
+-- D^n + 1 is no multiple of the generator, for n from 1 to 4,231: the register is run so far. Assumes nothing.
 use mathlib.Core.Path.{_≡_, refl, sym, ap, ap₂, _∙_, subst}
-use mathlib.Core.Bool.{Bool, true, false, not, _&&_, false≢true}
+use mathlib.Core.Bool.{Bool, true, not, _&&_}
 use mathlib.Core.List.{List, _∷_}
 use Prim.Native.Nat.{ℕ, zero, suc, _+_, _-_, _*_, _^_, _≤_, _<_}
 use native.Mathlib.Decide.{decLt}
@@ -19,10 +19,7 @@ use Rattle.remainder.specs.Division.{polynomial, Remainder, Multiple, generator
 use Rattle.remainder.specs.Register.{stepOf, registerOf}
 use Rattle.remainder.proofs.Division.{small-multiple, computed}
 use Rattle.remainder.proofs.Errors.{polynomial-cons, twice-same, unshifted, generator-degree, generator-odd}
-
-both : (s t : Bool) → (s && t) ≡ true → (s ≡ true) × (t ≡ true)
-both true t e = (refl, e)
-both false t e = absurd (false≢true e)
+use Rattle.layout.proofs.RoundTrip.{both}
 
 -- the register, given zeros from r on, is 1 at none of n times
 never : ℕ → ℕ → ℕ → ℕ → Bool
@@ -51,6 +48,7 @@ power-bits j =
     zeros zero = refl
     zeros (suc j) = polynomial-cons 0 (replicate j 0) ∙ omega (arith, zeros j)
 
+-- below D^16 the sum is too short; from there on the register would have been 1
 no-pair : (n : ℕ) → 1 ≤ n → n < 4232 → Multiple generator (bitXor (2 ^ n) 1) → ⊥
 unfolding registerOf
 no-pair n h l m = pick (decLt n 16)
@@ -82,5 +80,6 @@ no-pair n h l m = pick (decLt n 16)
 pub pair : (n i : ℕ) → 1 ≤ n → n < 4232 → Multiple generator ((2 ^ n + 1) * 2 ^ i) → ⊥
 pair n i h l m =
     let t : 2 ^ n ≡ 2 ^ (n - 1) * 2 = twice n h in
-    let e : 2 ^ n + 1 ≡ bitXor (2 ^ n) 1 = ap (λ (x : ℕ). x + 1) t ∙ sym (xor-shifted (2 ^ (n - 1)) 1 1 (lit< tt)) ∙ ap (λ (x : ℕ). bitXor x 1) (sym t) in
+    let e : 2 ^ n + 1 ≡ bitXor (2 ^ n) 1 =
+    ap (λ (x : ℕ). x + 1) t ∙ sym (xor-shifted (2 ^ (n - 1)) 1 1 (lit< tt)) ∙ ap (λ (x : ℕ). bitXor x 1) (sym t) in
     no-pair n h l (subst (Multiple generator) e (unshifted generator generator-odd (2 ^ n + 1) i m))

@@ -27,12 +27,14 @@ one-first e = polynomial-cons 1 e ∙ omega arith
 
 -- ---- none, one, two
 
+-- where nothing adds up there is none
 pub no-ones : (e : List ℕ) → polynomial e ≡ 0 → ones e ≡ 0
 unfolding ones
 no-ones [] z = refl
 no-ones (zero ∷ e) z = omega (arith, no-ones e (sym (zero-first e) ∙ z))
 no-ones (suc x ∷ e) z = absurd (omega (arith, polynomial-cons (suc x) e, suc-mul x (2 ^ length e), pow-pos (length e)))
 
+-- and back
 zero-ones : (e : List ℕ) → Bits e → ones e ≡ 0 → polynomial e ≡ 0
 unfolding ones valueOf
 zero-ones [] h z = refl
@@ -86,7 +88,7 @@ two-ones (suc zero ∷ e) h o =
     factored a b = omega (arith, add-mul a 1 b)
 two-ones (suc (suc x) ∷ e) h o = no-two x (h 0)
 
--- ---- D + 1 divides a polynomial exactly where its ones are even
+-- ---- where D + 1 divides a polynomial, its ones are even
 
 -- D^n is 1, but for a multiple of D + 1
 power-one : (n : ℕ) → Multiple 3 (bitXor (2 ^ n) 1)
@@ -95,8 +97,10 @@ power-one zero = none 3
 power-one (suc n) =
     let e : bitXor (bitXor (2 ^ n) 1 * 2) 3 ≡ bitXor (2 ^ suc n) 1 =
     ap (λ (x : ℕ). bitXor x 3) (dbl (2 ^ n) 1) ∙ xor-assoc (2 ^ n * 2) 2 3 ∙ ap (λ (x : ℕ). bitXor x 1) (sym (pow-suc 2 n)) in
-    subst (Multiple 3) e (sum-multiple 3 (bitXor (2 ^ n) 1 * 2) 3 (twice 3 (bitXor (2 ^ n) 1) (power-one n)) (record { quotient = true ∷ []; product = refl }))
+    let itself : Multiple 3 3 = record { quotient = true ∷ []; product = refl } in
+    subst (Multiple 3) e (sum-multiple 3 (bitXor (2 ^ n) 1 * 2) 3 (twice 3 (bitXor (2 ^ n) 1) (power-one n)) itself)
 
+-- so a polynomial is 0 or 1 as its ones are even or odd, but for such a multiple
 weighed : (e : List ℕ) → Bits e → Multiple 3 (bitXor (polynomial e) (ones e % 2))
 unfolding ones valueOf
 weighed [] h = none 3

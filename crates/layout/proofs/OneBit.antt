@@ -1,6 +1,6 @@
 -- A frame with any one of its bits 1 to 4,232 changed no longer answers 0. Assumes nothing.
 use mathlib.Core.Path.{_≡_, refl, sym, ap, _∙_, subst}
-use mathlib.Core.Bool.{Bool, true, false, not, _&&_, _||_, false≢true}
+use mathlib.Core.Bool.{Bool, true, false, not, _&&_, _||_}
 use mathlib.Core.Logic.{_⊎_, inl, inr}
 use mathlib.Core.List.{List, [], _∷_, _++_}
 use Prim.Native.Nat.{ℕ, zero, suc, _+_, _-_, _≤_, _<_}
@@ -21,7 +21,7 @@ use Rattle.remainder.proofs.Errors.{divisible, one-flip, generator-degree, gene
 use Rattle.layout.specs.Places.{sync, check, pad}
 use Rattle.layout.specs.Frame.{trainingSync, finalSync, fieldOf, messageOf, checkOf}
 use Rattle.layout.specs.Refusals.{bitRefusals, hasSync}
-use Rattle.layout.proofs.RoundTrip.{Sound, sound, field-length, field-bits, training-sync, final-sync, zeros-are}
+use Rattle.layout.proofs.RoundTrip.{both, Sound, sound, field-length, field-bits, training-sync, final-sync, zeros-are}
 
 -- ---- a part of a list in which one bit is turned over
 
@@ -56,10 +56,6 @@ apart-is w x (suc n) i e h f =
     let b = both (not (eqb (valueOf (flipped w n)) (valueOf x))) (apart-at w x n) e in
     pick (eq-or-lt-of-le (le-of-suc-le-suc h)) (b .0) (λ l. apart-is w x n i (b .1) l f)
   where
-    both : (s t : Bool) → (s && t) ≡ true → (s ≡ true) × (t ≡ true)
-    both true t e = (refl, e)
-    both false t e = absurd (false≢true e)
-
     pick : (i ≡ n) ⊎ (i < n) → not (eqb (valueOf (flipped w n)) (valueOf x)) ≡ true → (i < n → ⊥) → ⊥
     pick (inl g) d k = eqb-false _ _ (not-true _ d) (ap (λ (j : ℕ). valueOf (flipped w j)) (sym g) ∙ f)
     pick (inr l) d k = k l
