@@ -1,9 +1,9 @@
 -- A frame with any one of its bits 1 to 4,232 changed no longer answers 0. Assumes nothing.
-use mathlib.Core.Path.{_≡_, refl, sym, ap, ap₂, _∙_, subst}
-use mathlib.Core.Bool.{Bool, true, false, not, _&&_, _||_, false≢true}
+use mathlib.Core.Path.{_≡_, refl, sym, ap, _∙_, subst}
+use mathlib.Core.Bool.{Bool, true, false, not, _&&_, _||_}
 use mathlib.Core.Logic.{_⊎_, inl, inr}
 use mathlib.Core.List.{List, [], _∷_, _++_}
-use Prim.Native.Nat.{ℕ, zero, suc, _+_, _-_, _*_, _≤_, _<_}
+use Prim.Native.Nat.{ℕ, zero, suc, _+_, _-_, _≤_, _<_}
 use native.Mathlib.Decide.{decLt}
 use native.Mathlib.Nat.{not-suc-le-zero, le-of-suc-le-suc, eq-or-lt-of-le, zero-add}
 use native.Mathlib.Omega.{arith}
@@ -13,15 +13,15 @@ use lib.ListN.{length, getD, take, drop, set, replicate, length-set, getD-replic
 use lib.Seq.{getD-take, getD-drop, getD-set-same, take-set-le, take-set-lt, drop-set-lt, drop-set-add, take-add, drop-drop}
 use Rattle.answer.specs.Answer.{answer}
 use Rattle.octets.specs.Bits.{valueOf, part}
-use Rattle.octets.proofs.Digits.{Bits, take-bits, drop-bits}
+use Rattle.octets.proofs.Digits.{Bits}
 use Rattle.remainder.specs.Division.{polynomial, generator, Multiple, Remainder}
 use Rattle.remainder.specs.Errors.{flipped}
 use Rattle.remainder.proofs.Division.{exists}
 use Rattle.remainder.proofs.Errors.{divisible, one-flip, generator-degree, generator-odd}
 use Rattle.layout.specs.Places.{sync, check, pad}
-use Rattle.layout.specs.Frame.{trainingSync, finalSync, fieldOf, messageOf}
+use Rattle.layout.specs.Frame.{trainingSync, finalSync, fieldOf, messageOf, checkOf}
 use Rattle.layout.specs.Refusals.{bitRefusals, hasSync}
-use Rattle.layout.proofs.RoundTrip.{Sound, sound, field-length, field-bits, training-sync, final-sync, zeros-are}
+use Rattle.layout.proofs.RoundTrip.{both, Sound, sound, field-length, field-bits, training-sync, final-sync, zeros-are}
 
 -- ---- a part of a list in which one bit is turned over
 
@@ -56,10 +56,6 @@ apart-is w x (suc n) i e h f =
     let b = both (not (eqb (valueOf (flipped w n)) (valueOf x))) (apart-at w x n) e in
     pick (eq-or-lt-of-le (le-of-suc-le-suc h)) (b .0) (λ l. apart-is w x n i (b .1) l f)
   where
-    both : (s t : Bool) → (s && t) ≡ true → (s ≡ true) × (t ≡ true)
-    both true t e = (refl, e)
-    both false t e = absurd (false≢true e)
-
     pick : (i ≡ n) ⊎ (i < n) → not (eqb (valueOf (flipped w n)) (valueOf x)) ≡ true → (i < n → ⊥) → ⊥
     pick (inl g) d k = eqb-false _ _ (not-true _ d) (ap (λ (j : ℕ). valueOf (flipped w j)) (sym g) ∙ f)
     pick (inr l) d k = k l
@@ -76,17 +72,17 @@ either false t e = inr e
 
 -- ---- the bit that was turned over
 
-module _ (B : List ℕ) (l : length B ≡ 4232) (h : Bits B) (s : Sound B) where
-  -- message and check bits are a multiple of the generator
-  pub whole : Multiple generator (polynomial (part 14 4213 B))
-  whole =
+module _ (B : List ℕ) (l : length B ≡ 4232) (h : Bits B) where
+  -- where the check bits are right, message and check bits are a multiple of the generator
+  pub whole : polynomial (fieldOf check B) ≡ checkOf (messageOf B) → Multiple generator (polynomial (part 14 4213 B))
+  whole k =
       let m = messageOf B in
       let c = fieldOf check B in
       let e : part 14 4213 B ≡ m ++ c = take-add 4197 16 (drop 14 B) ∙ ap (λ (x : List ℕ). m ++ take 16 x) (drop-drop 4197 14 B) in
       let d = exists 16 generator (lit≤ tt) generator-degree m (field-bits B l h 14 4197) in
       subst (λ (x : List ℕ). Multiple generator (polynomial x)) (sym e)
       (divisible 16 generator m c (field-bits B l h 4211 16) (field-length B l h 4211 16 (lit≤ tt)) .0
-      (subst (Remainder 16 generator m) (sym (s .checked)) d))
+      (subst (Remainder 16 generator m) (sym k) d))
 
 flipped-bits : (B : List ℕ) (i : ℕ) → Bits B → Bits (flipped B i)
 flipped-bits [] i h j = h j
@@ -125,7 +121,7 @@ module _ (B : List ℕ) (i : ℕ) (l : length B ≡ 4232) (h : Bits B) (s : Soun
       let e : i ≡ 14 + (i - 14) = omega arith in
       let f : part 14 4213 (flipped B i) ≡ flipped W (i - 14) = ap (λ (j : ℕ). part 14 4213 (flipped B j)) e ∙ part-flipped B 14 4213 (i - 14) (omega arith) in
       one-flip 16 generator (lit≤ tt) generator-degree generator-odd W (i - 14) (field-bits B l h 14 4213) (omega (arith, field-length B l h 14 4213 (lit≤ tt)))
-      (whole B l h s) (subst (λ (x : List ℕ). Multiple generator (polynomial x)) f (whole (flipped B i) l′ h′ s′))
+      (whole B l h (s .checked)) (subst (λ (x : List ℕ). Multiple generator (polynomial x)) f (whole (flipped B i) l′ h′ (s′ .checked)))
 
   in-pad : 4227 ≤ i → i < 4232 → ⊥
   in-pad k m =

@@ -29,7 +29,7 @@ use Rattle.layout.specs.Refusals.{inRange, allInRange, hasSync, bitRefus
 use Rattle.layout.proofs.Laws.{used-length, used-range, message-length, message-bits, check-length, check-bits, frame-length, frame-bits, training-length, final-length, training-bits, final-bits}
 use Rattle.layout.proofs.Fields.{sync-field, message-field, check-field, pad-field, coefficients-field, a-field, b-field, vendor-field, reserved-field}
 
-both : (s t : Bool) → (s && t) ≡ true → (s ≡ true) × (t ≡ true)
+pub both : (s t : Bool) → (s && t) ≡ true → (s ≡ true) × (t ≡ true)
 both true t e = (refl, e)
 both false t e = absurd (false≢true e)
 

@@ -2,20 +2,20 @@
 -- message's remainder, and any one changed bit is seen, for every message length. Assumes nothing.
 use mathlib.Core.Path.{_≡_, refl, sym, ap, ap₂, _∙_, subst}
 use mathlib.Core.Bool.{Bool, true, false}
-use mathlib.Core.Logic.{_⊎_, inl, inr, _↔_}
+use mathlib.Core.Logic.{_↔_}
 use mathlib.Core.List.{List, [], _∷_, _++_, reverse, reverse-append, reverse-cons, reverse-reverse}
-use Prim.Native.Nat.{ℕ, zero, suc, _+_, _-_, _*_, _/_, _%_, _^_, _≤_, _<_, zero-le, suc-le-suc}
-use native.Mathlib.Nat.{le-of-suc-le-suc, not-suc-le-zero, mod-eq-of-lt, pow-suc, mul-mod-left}
+use Prim.Native.Nat.{ℕ, zero, suc, _+_, _-_, _*_, _%_, _^_, _≤_, _<_}
+use native.Mathlib.Nat.{le-of-suc-le-suc, not-suc-le-zero, mod-eq-of-lt, pow-suc, mul-assoc}
 use native.Mathlib.Omega.{arith}
 use lib.Bits.{bitXor, differ, xor-self, xor-zero-r, xor-zero-l, xor-block, xor-shifted}
 use lib.Pow.{pow-pos, pow-lt, pow-mono}
-use lib.ListN.{length, getD, set, length-append, length-set, length-reverse}
+use lib.ListN.{length, getD, length-set, length-reverse}
 use Rattle.octets.specs.Bits.{digitsOf, valueOf}
-use Rattle.octets.proofs.Digits.{Bits, value-append, value-lt, value-digits, reverse-bits, digits-length, append-bits}
+use Rattle.octets.proofs.Digits.{Bits, value-append, value-lt, value-digits, reverse-bits, append-bits}
 use Rattle.octets.proofs.Xor.{xor-assoc, odd, no-two}
-use Rattle.remainder.specs.Division.{scale, times, polynomial, checkBits, Degree, Remainder, Multiple, generator}
+use Rattle.remainder.specs.Division.{times, polynomial, checkBits, Degree, Remainder, Multiple, generator}
 use Rattle.remainder.specs.Errors.{flipped}
-use Rattle.remainder.proofs.Division.{add, distrib, multiple}
+use Rattle.remainder.proofs.Division.{add, distrib, small-multiple}
 
 -- ---- a message and what follows it
 
@@ -33,7 +33,7 @@ pub check-value : (k r : ℕ) → r < 2 ^ k → polynomial (checkBits k r) ≡ r
 check-value k r h = ap valueOf (reverse-reverse (digitsOf k r)) ∙ value-digits k r ∙ mod-eq-of-lt h
 
 -- twice the same adds nothing
-twice-same : (a b : ℕ) → bitXor (bitXor a b) b ≡ a
+pub twice-same : (a b : ℕ) → bitXor (bitXor a b) b ≡ a
 twice-same a b = xor-assoc a b b ∙ ap (bitXor a) (xor-self b) ∙ xor-zero-r a
 
 -- message and check bits are a multiple of the generator exactly where the check bits are the remainder
@@ -99,28 +99,33 @@ pub sum-multiple : (g a b : ℕ) → Multiple g a → Multiple g b → Multiple 
 sum-multiple g a b p q =
     record { quotient = add (p .quotient) (q .quotient); product = ap₂ bitXor (p .product) (q .product) ∙ distrib (p .quotient) (q .quotient) g }
 
--- no power of D is a multiple of a generator with a constant term
-pub no-power : (k g : ℕ) → 1 ≤ k → Degree g k → g % 2 ≡ 1 → (e : ℕ) → Multiple g (2 ^ e) → ⊥
+-- of a generator with a constant term: where a polynomial times a power of D is a multiple, it is one itself
+pub unshifted : (g : ℕ) → g % 2 ≡ 1 → (n i : ℕ) → Multiple g (n * 2 ^ i) → Multiple g n
 unfolding times
-no-power k g hk d o e m = go (m .quotient) e (sym (m .product))
+unshifted g o n zero m = subst (Multiple g) (omega arith) m
+unshifted g o n (suc i) m =
+    let e : n * 2 ^ suc i ≡ n * 2 ^ i * 2 = ap (λ (p : ℕ). n * p) (pow-suc 2 i) ∙ sym (mul-assoc n (2 ^ i) 2) in
+    unshifted g o n i (halved (n * 2 ^ i) (m .quotient) (sym e ∙ m .product))
   where
     even : (n : ℕ) → n * 2 % 2 ≡ 0
     even n = omega arith
 
-    go : (q : List Bool) (e : ℕ) → times q g ≡ 2 ^ e → ⊥
-    go [] e f = omega (arith, pow-pos e)
-    go (c ∷ q) zero f = pick (multiple k g d (c ∷ q))
-      where
-        pick : (times (c ∷ q) g ≡ 0) ⊎ (2 ^ k ≤ times (c ∷ q) g) → ⊥
-        pick (inl z) = omega arith
-        pick (inr l) = omega (arith, pow-mono hk)
-    go (true ∷ q) (suc e) f =
-        let x : bitXor (times q g * 2) g % 2 ≡ 1 = odd (times q g * 2) g ∙ ap₂ differ (even (times q g)) o in
-        let y : bitXor (times q g * 2) g % 2 ≡ 0 = ap (λ (n : ℕ). n % 2) (f ∙ pow-suc 2 e) ∙ even (2 ^ e) in
-        omega arith
-    go (false ∷ q) (suc e) f =
-        let x : times q g * 2 ≡ 2 ^ e * 2 = sym (xor-zero-r (times q g * 2)) ∙ f ∙ pow-suc 2 e in
-        go q e (omega arith)
+    halved : (n : ℕ) (q : List Bool) → n * 2 ≡ times q g → Multiple g n
+    halved n [] e = record { quotient = []; product = omega arith }
+    halved n (true ∷ q) e =
+        let x : n * 2 % 2 ≡ 1 = ap (λ (t : ℕ). t % 2) e ∙ odd (times q g * 2) g ∙ ap₂ differ (even (times q g)) o in
+        absurd (omega arith)
+    halved n (false ∷ q) e = record { quotient = q; product = omega (arith, e ∙ xor-zero-r (times q g * 2)) }
+
+-- and no polynomial of a degree below its own, but 0, is one, times any power of D
+pub short : (k g : ℕ) → Degree g k → g % 2 ≡ 1 → (b i : ℕ) → b < 2 ^ k → Multiple g (b * 2 ^ i) → b ≡ 0
+short k g d o b i h m =
+    let q = unshifted g o b i m in
+    q .product ∙ small-multiple k g d (q .quotient) (subst (λ (n : ℕ). n < 2 ^ k) (q .product) h)
+
+-- so no power of D is
+pub no-power : (k g : ℕ) → 1 ≤ k → Degree g k → g % 2 ≡ 1 → (e : ℕ) → Multiple g (2 ^ e) → ⊥
+no-power k g hk d o e m = let one : 2 ^ e ≡ 1 * 2 ^ e = omega arith in omega (arith, short k g d o 1 e (pow-mono hk) (subst (Multiple g) one m))
 
 -- any one changed bit of message or check bits is seen
 pub one-flip : (k g : ℕ) → 1 ≤ k → Degree g k → g % 2 ≡ 1 → (w : List ℕ) (i : ℕ) → Bits w → i < length w

@@ -1,0 +1,6 @@
+pub mod Multiples
+pub mod Between
+pub mod Weight
+pub mod Order
+pub mod Detected
+pub mod Frames

@@ -1,0 +1,44 @@
+-- Changed bits of an activation frame: how many they are, and how near to each other.
+use mathlib.Core.Path.{_≡_}
+use mathlib.Core.Bool.{cond}
+use mathlib.Core.Logic.{_⊎_}
+use mathlib.Core.List.{List, [], _∷_}
+use Prim.Native.Nat.{ℕ, _+_, _-_, _≤_, _<_}
+use lib.Dec.{eqb}
+use lib.ListN.{getD}
+use Rattle.layout.specs.Places.{placeOf, coefficients, pad}
+
+-- the number of places at which two lists of one length differ
+unfoldable pub distance : List ℕ → List ℕ → ℕ
+distance [] cs = 0
+distance (b ∷ bs) [] = 0
+distance (b ∷ bs) (c ∷ cs) = cond (eqb b c) 0 1 + distance bs cs
+
+-- two lists differ nowhere but at the n places from `at` on
+abbrev pub Within : ℕ → ℕ → List ℕ → List ℕ → Type 0
+Within at n bs cs = (i : ℕ) → (i < at) ⊎ (at + n ≤ i) → getD bs i 0 ≡ getD cs i 0
+
+-- the bits of two frames differ nowhere but in bits 15 to 4,227: message and check bits
+abbrev pub Covered : List ℕ → List ℕ → Type 0
+Covered bs cs = Within (placeOf coefficients) (placeOf pad - placeOf coefficients) bs cs
+
+-- up to so many wrong bits are seen
+abbrev pub most : ℕ
+most = 3
+
+-- and any number of them within so many in a row
+abbrev pub longest : ℕ
+longest = 16
+
+-- one, two or three of those bits differ
+pub record Few (bs cs : List ℕ) : Type 0 where
+  pub some : 1 ≤ distance bs cs
+  pub few : distance bs cs ≤ most
+  pub covered : Covered bs cs
+
+-- a burst of up to 16: some of those bits differ, and all that do stand within 16 in a row
+pub record Burst (bs cs : List ℕ) : Type 0 where
+  pub some : 1 ≤ distance bs cs
+  pub start : ℕ
+  pub near : Within start longest bs cs
+  pub covered : Covered bs cs

@@ -1,0 +1,1 @@
+// What changed bits of a frame make it answer. No code: specs/ says it, proofs/ proves it.
