@@ -5,3 +5,4 @@ pub mod Two
 pub mod Interwork
 pub mod Three
 pub mod Ours
+pub mod Refuted
