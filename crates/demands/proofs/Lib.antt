@@ -6,3 +6,4 @@ pub mod Interwork
 pub mod Three
 pub mod Ours
 pub mod Refuted
+pub mod Rejected

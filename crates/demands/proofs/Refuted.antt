@@ -32,8 +32,8 @@ still-open c f u =
       since = lit≤ tt;
       uncut = u;
       unshown = λ q h i.
-        let e : i .0 ≡ 2 = omega (arith, i .1 .since, in-order-le (ltu 2000 .others) l (suc (i .0)) q (i .2), h) in
-        true≢false (sym (subst (λ (p : ℕ). shown (need 0 (3 ∷ [])) l 2 (suc p) ≡ true) e (i .1 .shows)) ∙ f);
+          let e : i .0 ≡ 2 = omega (arith, i .1 .since, in-order-le (ltu 2000 .others) l (suc (i .0)) q (i .2), h) in
+          true≢false (sym (subst (λ (p : ℕ). shown (need 0 (3 ∷ [])) l 2 (suc p) ≡ true) e (i .1 .shows)) ∙ f);
     }
 
 module _ {S : Type 0} (make : Make S) (demand : Three make) where

@@ -6,26 +6,48 @@ use lib.ListN.{getD}
 use Rattle.octets.specs.Bits.{bitsOf}
 use Rattle.scrambler.specs.Run.{Way, scramble}
 use Rattle.startup.specs.Three.{Make}
-use Rattle.demands.specs.Library.{Outcome, WriteCall, ReadCall, RunCall, FrameCall, PrecodeCall, Library}
+use Rattle.demands.specs.Library.{Outcome, WriteCall, ReadCall, RunCall, PrecodeCall, Library}
 
 -- a function that refuses everything
 abbrev pub Refuses : {C N M : Type 0} → (C → Outcome N M) → Type 0
 Refuses {C} f = (c : C) → f c .answer ≡ 0 → ⊥
 
+-- no function of a library does that
+pub record NoneRefuses (x : Library) : Type 0 where
+  pub write : Refuses (x .write) → ⊥
+  pub check : Refuses (x .check) → ⊥
+  pub read : Refuses (x .read) → ⊥
+  pub run : (way : Way) → Refuses (x .run way) → ⊥
+  pub frame : (way : Way) → Refuses (x .frame way) → ⊥
+  pub activation : Refuses (x .activation) → ⊥
+  pub level : Refuses (x .level) → ⊥
+  pub code : Refuses (x .code) → ⊥
+  pub encode : Refuses (x .encode) → ⊥
+  pub encode-run : Refuses (x .encode-run) → ⊥
+  pub precode : Refuses (x .precode) → ⊥
+  pub decode : Refuses (x .decode) → ⊥
+  pub shape : Refuses (x .shape) → ⊥
+  pub start : Refuses (x .start) → ⊥
+  pub step : Refuses (x .step) → ⊥
+  pub run-codes : Refuses (x .run-codes) → ⊥
+
 -- a writer that returns one frame always
 abbrev pub OneFrame : Library → Type 0
 OneFrame x = (frame : List ℕ) × ((c : WriteCall) → x .write c .answer ≡ 0 → x .write c .memory ≡ frame)
 
--- a writer, a reader, a scrambler, a precoder that leaves its output unwritten
+-- a writer that leaves its output unwritten
 abbrev pub WriterIdle : Library → Type 0
 WriterIdle x = (c : WriteCall) → x .write c .memory ≡ c .frame
 
+-- a reader
 abbrev pub ReaderIdle : Library → Type 0
 ReaderIdle x = (c : ReadCall) → x .read c .memory .vendor ≡ c .vendor
 
+-- a scrambler or a descrambler
 abbrev pub ScramblerIdle : Library → Way → Type 0
 ScramblerIdle x way = (c : RunCall) → x .run way c .memory .output ≡ c .output
 
+-- a precoder
 abbrev pub PrecoderIdle : Library → Type 0
 PrecoderIdle x = (c : PrecodeCall) → x .precode c .memory .room ≡ c .room
 

@@ -1,0 +1,188 @@
+-- No library that document 01 rejects meets demands 1 and 2. Assumes nothing.
+use mathlib.Core.Path.{_≡_, refl, sym, ap, _∙_}
+use mathlib.Core.Bool.{Bool, true, false, not}
+use mathlib.Core.List.{List, [], _∷_}
+use Prim.Native.Nat.{ℕ, zero, suc, _<_}
+use native.Mathlib.Omega.{arith}
+use borrow.Author.Tests.{eq-eqb}
+use lib.Dec.{lit≤, eqb}
+use lib.IntN.{ℤ, pos}
+use lib.ListN.{length, drop, getD, replicate}
+use Rattle.answer.specs.Answer.{answer}
+use Rattle.answer.proofs.Laws.{passed}
+use Rattle.octets.specs.Bits.{digitsOf, valueOf, bitsOf, octetsOf, part, laid}
+use Rattle.octets.proofs.Numbers.{numbers-length}
+use Rattle.octets.proofs.Digits.{take-bits}
+use Rattle.octets.proofs.Laws.{bits-bits, octets-length}
+use Rattle.layout.specs.Frame.{finalBits}
+use Rattle.layout.specs.Refusals.{writeRefusals, bitRefusals, checkRefusals}
+use Rattle.layout.proofs.RoundTrip.{final-laid, final-answers}
+use Rattle.numbers.specs.Promises.{numbersOf}
+use Rattle.scrambler.specs.Run.{Way, scramble, descramble, runOf}
+use Rattle.scrambler.proofs.Exactly.{scrambles-run, descrambles-run}
+use Rattle.signal.specs.Signal.{every}
+use Rattle.symbol.specs.Levels.{placeIn}
+use Rattle.symbol.specs.Encoder.{symbolsIn}
+use Rattle.host.specs.declared.supervisor.Supervisor.{Supervisor}
+use Rattle.precoder.specs.Octets.{valuesOf, octetsOf as wordsOf}
+use Rattle.precoder.specs.Precoder.{exactSum}
+use Rattle.precoder.specs.Runs.{outputsOf}
+use Rattle.precoder.proofs.Back.{sent-unique, outputs-sent}
+use Rattle.demands.specs.Library.{Outcome, None, none, WriteCall, ReadCall, Fields, Rooms, RunCall, FrameCall, Line, EncodeCall, EncodeRunCall, PrecodeCall, StartCall, StepCall, CodesCall, Signal, Library}
+use Rattle.demands.specs.One.{One, writeChecks, runChecks, frameChecks, precodeChecks}
+use Rattle.demands.specs.Two.{Right, Octets, Two}
+use Rattle.demands.specs.Wrong.{Refuses, NoneRefuses, OneFrame, WriterIdle, ReaderIdle, ScramblerIdle, PrecoderIdle, CopiesTheRest}
+
+-- ---- calls to which no check applies
+
+abbrev zeros : ℕ → List ℕ
+zeros n = replicate n 0
+
+-- a final frame with vendor data v, written over f
+abbrev final : List ℕ → List ℕ → WriteCall
+final v f = record { kind = 1; count = 0; coefficients = zeros 720; a = 0; b = 0; vendor = v; frame = f }
+
+final-right : (v f : List ℕ) → length v ≡ 16 → length f ≡ 529 → Right (writeChecks (final v f))
+final-right v f l m =
+    let L = writeRefusals 1 0 (numbersOf (zeros 720)) 0 0 v f in
+    passed 1 (drop 1 L) (ap not (eq-eqb _ _ (numbers-length 32 180 (bitsOf (zeros 720)))))
+    ∙ passed 1 (drop 2 L) (ap not (eq-eqb _ _ l)) ∙ passed 1 (drop 3 L) (ap not (eq-eqb _ _ m))
+
+-- two vendor data that differ
+abbrev one-first : List ℕ
+one-first = 1 ∷ zeros 15
+
+differ : (n : ℕ) → zeros (suc n) ≡ 1 ∷ zeros n → ⊥
+differ n e = omega (arith, ap (λ (l : List ℕ). getD l 0 0) e)
+
+zeros-small : (n : ℕ) → Octets (zeros n)
+zeros-small zero i = lit≤ tt
+zeros-small (suc n) zero = lit≤ tt
+zeros-small (suc n) (suc i) = zeros-small n i
+
+one-small : Octets one-first
+one-small zero = lit≤ tt
+one-small (suc i) = zeros-small 15 i
+
+-- six ones from the LTU's starting state
+abbrev six-ones : RunCall
+six-ones = record { end = 0; state = 0; input = 255 ∷ []; bits = 6; output = 0 ∷ [] }
+
+abbrev ones : List ℕ
+ones = 1 ∷ 1 ∷ 1 ∷ 1 ∷ 1 ∷ 1 ∷ []
+
+given-is : part 0 6 (bitsOf (255 ∷ [])) ≡ ones
+unfolding bitsOf digitsOf
+given-is = refl
+
+abbrev empty-frame : FrameCall
+empty-frame = record { end = 0; state = 0; frame = zeros 529; output = zeros 529 }
+
+frame-right : Right (frameChecks empty-frame)
+unfolding bitsOf digitsOf valueOf
+frame-right = refl
+
+-- a final frame, and a card that is ready
+abbrev frame-written : List ℕ
+frame-written = octetsOf 529 (finalBits (zeros 16))
+
+check-right : Right (checkRefusals frame-written)
+check-right =
+    passed 1 (bitRefusals (bitsOf frame-written)) (ap not (eq-eqb _ _ (octets-length 529 (finalBits (zeros 16)))))
+    ∙ ap (λ (b : List ℕ). answer (bitRefusals b)) (final-laid (zeros 16) refl) ∙ final-answers (zeros 16) refl .0
+
+abbrev ready : Supervisor
+ready = record { end = 0; phase = 0; ticks = 0; attempt = 0; silence = 2000; converged = 0; seen = 0 }
+
+-- one symbol, x = 1, with no coefficient and no past
+abbrev one-symbol : PrecodeCall
+one-symbol = record { coefficients = zeros 720; history = zeros 720; symbols = 1 ∷ 0 ∷ 0 ∷ 0 ∷ []; room = 0 ∷ 0 ∷ 0 ∷ 0 ∷ [] }
+
+symbol-right : Right (precodeChecks one-symbol)
+unfolding valuesOf every
+symbol-right = refl
+
+module _ (x : Library) (two : Two x) where
+  -- what a final frame gives when it is read
+  final-read : (v f room u : List ℕ) → length v ≡ 16 → length f ≡ 529 → Octets v → length room ≡ 720 → length u ≡ 16
+      → (x .read (record { frame = x .write (final v f) .memory; coefficients = room; vendor = u }) .answer ≡ 0)
+      × (x .read (record { frame = x .write (final v f) .memory; coefficients = room; vendor = u }) .memory .vendor ≡ v)
+  final-read v f room u l m o n k =
+      let e = two .back .final (final v f) room u refl (final-right v f l m) o n k in
+      (ap (λ (r : Outcome Fields Rooms). r .answer) e, ap (λ (r : Outcome Fields Rooms). r .memory .vendor) e)
+
+  written : (v f : List ℕ) → length v ≡ 16 → length f ≡ 529 → (x .write (final v f) .answer ≡ 0) × (x .write (final v f) .memory ≡ octetsOf 529 (finalBits v))
+  written v f l m =
+      let e = two .exact .frames .final (final v f) refl (final-right v f l m) in
+      (ap (λ (r : Outcome None (List ℕ)). r .answer) e, ap (λ (r : Outcome None (List ℕ)). r .memory) e)
+
+  pub one-frame-refuted : OneFrame x → ⊥
+  one-frame-refuted w =
+      let z = written (zeros 16) (zeros 529) refl refl in
+      let u = written one-first (zeros 529) refl refl in
+      let same = w .1 (final (zeros 16) (zeros 529)) (z .0) ∙ sym (w .1 (final one-first (zeros 529)) (u .0)) in
+      differ 15
+      (sym (final-read (zeros 16) (zeros 529) (zeros 720) (zeros 16) refl refl (zeros-small 16) refl refl .1)
+      ∙ ap (λ (f : List ℕ). x .read (record { frame = f; coefficients = zeros 720; vendor = zeros 16 }) .memory .vendor) same
+      ∙ final-read one-first (zeros 529) (zeros 720) (zeros 16) refl refl one-small refl refl .1)
+
+  pub writer-idle-refuted : WriterIdle x → ⊥
+  writer-idle-refuted w =
+      differ 528
+      (sym (w (final (zeros 16) (zeros 529))) ∙ written (zeros 16) (zeros 529) refl refl .1
+      ∙ sym (written (zeros 16) (1 ∷ zeros 528) refl refl .1) ∙ w (final (zeros 16) (1 ∷ zeros 528)))
+
+  pub reader-idle-refuted : ReaderIdle x → ⊥
+  reader-idle-refuted w =
+      differ 15 (sym (final-read (zeros 16) (zeros 529) (zeros 720) one-first refl refl (zeros-small 16) refl refl .1) ∙ w _)
+
+  -- five ones and a zero come out, scrambled and descrambled
+  scrambled : (way : Way) → (x .run way six-ones .answer ≡ 0) × (x .run way six-ones .memory .output ≡ 31 ∷ [])
+  unfolding laid octetsOf bitsOf digitsOf valueOf runOf
+  scrambled scramble =
+      let w = two .exact .scrambling .scrambled six-ones refl in
+      let s = scrambles-run 5 (lit≤ tt) (lit≤ tt) 0 ones (w .0) (w .1) in
+      (ap (λ (r : Outcome None Line). r .answer) (w .2), ap (λ (r : Outcome None Line). r .memory .output) (w .2) ∙ ap (laid (0 ∷ []) 0) s)
+  scrambled descramble =
+      let w = two .exact .scrambling .descrambled six-ones refl in
+      let s = descrambles-run 5 (lit≤ tt) (lit≤ tt) 0 ones (w .0) (take-bits 6 (bitsOf (255 ∷ [])) (bits-bits (255 ∷ []))) (w .1) in
+      (ap (λ (r : Outcome None Line). r .answer) (w .2), ap (λ (r : Outcome None Line). r .memory .output) (w .2) ∙ ap (laid (0 ∷ []) 0) s)
+
+  pub scrambler-idle-refuted : (way : Way) → ScramblerIdle x way → ⊥
+  scrambler-idle-refuted way w = omega (arith, ap (λ (l : List ℕ). getD l 0 0) (sym (w six-ones) ∙ scrambled way .1))
+
+  pub copies-refuted : CopiesTheRest x → ⊥
+  unfolding bitsOf digitsOf
+  copies-refuted w = omega (arith, sym (ap (λ (l : List ℕ). getD (bitsOf l) 5 0) (scrambled scramble .1)) ∙ w six-ones 5 (lit≤ tt) (lit≤ tt))
+
+  precoded : (x .precode one-symbol .answer ≡ 0) × (x .precode one-symbol .memory .room ≡ 1 ∷ 0 ∷ 0 ∷ 0 ∷ [])
+  unfolding valuesOf wordsOf outputsOf exactSum
+  precoded =
+      let w = two .exact .precoding .precoded one-symbol symbol-right in
+      let cs = valuesOf (zeros 720) in
+      let s = sent-unique cs cs (pos 1 ∷ []) (w .0) (outputsOf cs cs (pos 1 ∷ [])) (w .1) (outputs-sent cs cs (pos 1 ∷ [])) in
+      (ap (λ (r : Outcome None Signal). r .answer) (w .2), ap (λ (r : Outcome None Signal). r .memory .room) (w .2) ∙ ap wordsOf s)
+
+  pub precoder-idle-refuted : PrecoderIdle x → ⊥
+  precoder-idle-refuted w = omega (arith, ap (λ (l : List ℕ). getD l 0 0) (sym (w one-symbol) ∙ precoded .1))
+
+  pub none-refuses : One x → NoneRefuses x
+  unfolding placeIn symbolsIn
+  none-refuses one = record {
+    write = λ w. w (final (zeros 16) (zeros 529)) (written (zeros 16) (zeros 529) refl refl .0);
+    check = λ w. w frame-written (one .check .first frame-written ∙ check-right);
+    read = λ w. w _ (final-read (zeros 16) (zeros 529) (zeros 720) (zeros 16) refl refl (zeros-small 16) refl refl .0);
+    run = λ way w. w six-ones (scrambled way .0);
+    frame = λ way w. w empty-frame (one .frame way .first empty-frame ∙ frame-right);
+    activation = λ w. w 0 (one .activation .first 0);
+    level = λ w. w 0 (one .level .first 0);
+    code = λ w. w (pos 1) (one .code .first (pos 1));
+    encode = λ w. let c : EncodeCall = record { a = 0; b = 0; register = 0; symbol = 0 } in w c (one .encode .first c);
+    encode-run = λ w. let c : EncodeRunCall = record { a = 0; b = 0; register = 0; symbols = []; codes = [] } in w c (one .encode-run .first c);
+    precode = λ w. w one-symbol (precoded .0);
+    decode = λ w. w one-symbol (one .decode .first one-symbol ∙ symbol-right);
+    shape = λ w. w (pos 0) (one .shape .first (pos 0));
+    start = λ w. let c : StartCall = record { end = 0; silence = 0 } in w c (one .start .first c);
+    step = λ w. let c : StepCall = record { state = ready; code = 0 } in w c (one .step .first c);
+    run-codes = λ w. let c : CodesCall = record { state = ready; codes = [] } in w c (one .run-codes .first c);
+  }
