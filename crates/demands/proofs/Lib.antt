@@ -1,4 +1,3 @@
-pub mod Frames
 pub mod One
 pub mod Fit
 pub mod Two
@@ -7,3 +6,4 @@ pub mod Three
 pub mod Ours
 pub mod Refuted
 pub mod Rejected
+pub mod Follow

@@ -9,7 +9,10 @@ use lib.Ieee.{Float, binary32, ofBits}
 use lib.IntN.{ℤ, pos}
 use Rattle.answer.specs.Answer.{Refusal, answer, held, inOrder}
 use Rattle.answer.proofs.Laws.{kept}
-use Rattle.layout.specs.Refusals.{checkRefusals}
+use Rattle.octets.specs.Bits.{valueOf}
+use Rattle.layout.specs.Places.{wordA, wordB}
+use Rattle.layout.specs.Frame.{trainingSync, fieldOf}
+use Rattle.layout.specs.Refusals.{checkRefusals, hasSync}
 use Rattle.layout.proofs.Order.{check-order}
 use Rattle.scrambler.specs.declared.Ran.{Ran}
 use Rattle.scrambler.specs.Run.{Way}
@@ -39,7 +42,6 @@ use Rattle.host.proofs.One.{frame-write-order, frame-read-order}
 use Rattle.demands.specs.Library.{Outcome, None, none, Library, Line, RunCall, FrameCall}
 use Rattle.demands.specs.Contracts.{Keeps}
 use Rattle.demands.specs.One.{Answers, One, noState, readChecks, runChecks, frameChecks}
-use Rattle.demands.proofs.Frames.{found-answer}
 
 -- checks in the order of the table answer with a number of the table
 ordered : (low n : ℕ) (t : Bool) (ts : List Refusal) → inOrder low (record { number = n; applies = t } ∷ ts) ≡ true → (leb n 8 ≡ true) × (inOrder n ts ≡ true)
@@ -80,6 +82,15 @@ other e h z = h (e ∙ z)
 
 pub only : (x : None) → x ≡ none
 only none = refl
+
+-- what is found tells the answer
+pub found-answer : (n : ℕ) (bits : List ℕ) → foundOf n bits .answer ≡ n
+found-answer zero bits = pick (hasSync trainingSync bits)
+  where
+    pick : (s : Bool) → cond {A = Found} s (record { answer = 0; kind = 0; a = valueOf (fieldOf wordA bits); b = valueOf (fieldOf wordB bits) }) (record { answer = 0; kind = 1; a = 0; b = 0 }) .answer ≡ 0
+    pick true = refl
+    pick false = refl
+found-answer (suc n) bits = refl
 
 found-none : (n : ℕ) (bits : List ℕ) → (n ≡ 0 → ⊥) → foundOf n bits ≡ record { answer = n; kind = 0; a = 0; b = 0 }
 found-none zero bits h = absurd (h refl)

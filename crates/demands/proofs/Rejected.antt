@@ -1,7 +1,7 @@
 -- No library that document 01 rejects meets demands 1 and 2. Assumes nothing.
 use mathlib.Core.Path.{_≡_, refl, sym, ap, _∙_}
 use mathlib.Core.Bool.{Bool, true, false, not}
-use mathlib.Core.List.{List, [], _∷_}
+use mathlib.Core.List.{List, [], _∷_, reverse}
 use Prim.Native.Nat.{ℕ, zero, suc, _<_}
 use native.Mathlib.Omega.{arith}
 use borrow.Author.Tests.{eq-eqb}
@@ -11,12 +11,16 @@ use lib.ListN.{length, drop, getD, replicate}
 use Rattle.answer.specs.Answer.{answer}
 use Rattle.answer.proofs.Laws.{passed}
 use Rattle.octets.specs.Bits.{digitsOf, valueOf, bitsOf, octetsOf, part, laid}
+use Rattle.octets.specs.Signed.{signedOf, numbersIn}
 use Rattle.octets.proofs.Numbers.{numbers-length}
 use Rattle.octets.proofs.Digits.{take-bits}
 use Rattle.octets.proofs.Laws.{bits-bits, octets-length}
-use Rattle.layout.specs.Frame.{finalBits}
-use Rattle.layout.specs.Refusals.{writeRefusals, bitRefusals, checkRefusals}
-use Rattle.layout.proofs.RoundTrip.{final-laid, final-answers}
+use Rattle.layout.specs.Places.{wordA, wordB}
+use Rattle.layout.specs.Frame.{trainingSync, used, trainingBits, finalBits, fieldOf}
+use Rattle.layout.specs.Refusals.{inRange, allInRange, writeRefusals, bitRefusals, checkRefusals}
+use Rattle.layout.proofs.Laws.{used-length, training-length}
+use Rattle.layout.proofs.Fields.{a-field, b-field}
+use Rattle.layout.proofs.RoundTrip.{training-laid, final-laid, final-answers}
 use Rattle.numbers.specs.Promises.{numbersOf}
 use Rattle.scrambler.specs.Run.{Way, scramble, descramble, runOf}
 use Rattle.scrambler.proofs.Exactly.{scrambles-run, descrambles-run}
@@ -30,8 +34,8 @@ use Rattle.precoder.specs.Runs.{outputsOf}
 use Rattle.precoder.proofs.Back.{sent-unique, outputs-sent}
 use Rattle.demands.specs.Library.{Outcome, None, none, WriteCall, ReadCall, Fields, Rooms, RunCall, FrameCall, Line, EncodeCall, EncodeRunCall, PrecodeCall, StartCall, StepCall, CodesCall, Signal, Library}
 use Rattle.demands.specs.One.{One, writeChecks, runChecks, frameChecks, precodeChecks}
-use Rattle.demands.specs.Two.{Right, Octets, Two}
-use Rattle.demands.specs.Wrong.{Refuses, NoneRefuses, OneFrame, WriterIdle, ReaderIdle, ScramblerIdle, PrecoderIdle, CopiesTheRest}
+use Rattle.demands.specs.Two.{Right, Octets, inOctets, done, Two}
+use Rattle.demands.specs.Wrong.{Refuses, NoneRefuses, OneFrame, WriterIdle, ReaderIdle, ScramblerIdle, PrecoderIdle, CopiesTheRest, TurnsA, TurnsB}
 
 -- ---- calls to which no check applies
 
@@ -63,6 +67,14 @@ zeros-small (suc n) (suc i) = zeros-small n i
 one-small : Octets one-first
 one-small zero = lit≤ tt
 one-small (suc i) = zeros-small 15 i
+
+-- a training frame with A = 1 and B = 1
+abbrev training : WriteCall
+training = record { kind = 0; count = 128; coefficients = zeros 720; a = 1; b = 1; vendor = zeros 16; frame = zeros 529 }
+
+training-right : Right (writeChecks training)
+unfolding numbersIn signedOf bitsOf digitsOf valueOf allInRange inRange
+training-right = refl
 
 -- six ones from the LTU's starting state
 abbrev six-ones : RunCall
@@ -135,6 +147,35 @@ module _ (x : Library) (two : Two x) where
   pub reader-idle-refuted : ReaderIdle x → ⊥
   reader-idle-refuted w =
       differ 15 (sym (final-read (zeros 16) (zeros 529) (zeros 720) one-first refl refl (zeros-small 16) refl refl .1) ∙ w _)
+
+  -- a training frame with A = 1 and B = 1 is read so, and its words' bits are 1 and twenty zeros
+  trained : ReadCall
+  trained = record { frame = x .write training .memory; coefficients = zeros 720; vendor = zeros 16 }
+
+  read-trained : x .read trained ≡ done (record { kind = 0; a = 1; b = 1 }) (record { coefficients = inOctets (used 128 (numbersOf (zeros 720))); vendor = zeros 16 })
+  unfolding trained
+  read-trained = two .back .training training (zeros 720) (zeros 16) refl training-right (zeros-small 16) refl refl
+
+  words-are : (fieldOf wordA (bitsOf (trained .frame)) ≡ 1 ∷ zeros 20) × (fieldOf wordB (bitsOf (trained .frame)) ≡ 1 ∷ zeros 20)
+  unfolding trained trainingBits digitsOf
+  words-are =
+      let cs = numbersOf (zeros 720) in
+      let U = used-length 128 cs (lit≤ tt) (numbers-length 32 180 (bitsOf (zeros 720))) in
+      let e = ap (λ (o : Outcome None (List ℕ)). bitsOf (o .memory)) (two .exact .frames .training training refl training-right)
+      ∙ training-laid 128 cs 1 1 (zeros 16) (lit≤ tt) (numbers-length 32 180 (bitsOf (zeros 720))) refl in (
+        ap (fieldOf wordA) e ∙ a-field (used 128 cs) 1 1 (zeros 16) (zeros 67) U refl refl trainingSync training-length,
+        ap (fieldOf wordB) e ∙ b-field (used 128 cs) 1 1 (zeros 16) (zeros 67) U refl refl trainingSync training-length,
+      )
+
+  -- last bit first they would be 1,048,576
+  pub turned-refuted : (TurnsA x → ⊥) × (TurnsB x → ⊥)
+  unfolding valueOf
+  turned-refuted =
+      let r = ap (λ (o : Outcome Fields Rooms). o .answer) read-trained in
+      let k = ap (λ (o : Outcome Fields Rooms). o .numbers .kind) read-trained in (
+        λ w. omega (arith, sym (ap (λ (o : Outcome Fields Rooms). o .numbers .a) read-trained) ∙ w trained r k ∙ ap (λ (l : List ℕ). valueOf (reverse l)) (words-are .0)),
+        λ w. omega (arith, sym (ap (λ (o : Outcome Fields Rooms). o .numbers .b) read-trained) ∙ w trained r k ∙ ap (λ (l : List ℕ). valueOf (reverse l)) (words-are .1)),
+      )
 
   -- five ones and a zero come out, scrambled and descrambled
   scrambled : (way : Way) → (x .run way six-ones .answer ≡ 0) × (x .run way six-ones .memory .output ≡ 31 ∷ [])

@@ -49,8 +49,7 @@ use Rattle.demands.specs.Library.{Outcome, None, none, WriteCall, ReadCa
 use Rattle.demands.specs.Contracts.{Keeps}
 use Rattle.demands.specs.One.{writeChecks, readChecks, runChecks, frameChecks}
 use Rattle.demands.specs.Two.{Right, done, given, clocked, around, Frames, Scrambling, Symbols, Precoding, Exact}
-use Rattle.demands.proofs.Frames.{found-answer}
-use Rattle.demands.proofs.One.{only}
+use Rattle.demands.proofs.One.{only, found-answer}
 use Rattle.demands.proofs.Fit.{lengths-fit, training-fit, kind-fit, Fit}
 
 -- an outcome that is done

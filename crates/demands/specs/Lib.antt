@@ -4,4 +4,4 @@ pub mod One
 pub mod Two
 pub mod Three
 pub mod Wrong
-pub mod Frames
+pub mod Follow

@@ -1,9 +1,11 @@
 -- VERSIONS THAT HAVE TO BE REJECTED (document 01, "What the contracts owe"): what such a library or supervisor does. proofs/Refuted.antt shows that none meets its demand.
 use mathlib.Core.Path.{_≡_}
-use mathlib.Core.List.{List}
+use mathlib.Core.List.{List, reverse}
 use Prim.Native.Nat.{ℕ, suc, _≤_, _<_}
 use lib.ListN.{getD}
-use Rattle.octets.specs.Bits.{bitsOf}
+use Rattle.octets.specs.Bits.{valueOf, bitsOf}
+use Rattle.layout.specs.Places.{wordA, wordB}
+use Rattle.layout.specs.Frame.{fieldOf}
 use Rattle.scrambler.specs.Run.{Way, scramble}
 use Rattle.startup.specs.Three.{Make}
 use Rattle.demands.specs.Library.{Outcome, WriteCall, ReadCall, RunCall, PrecodeCall, Library}
@@ -54,6 +56,14 @@ PrecoderIdle x = (c : PrecodeCall) → x .precode c .memory .room ≡ c .room
 -- a scrambler right for its first bit and copying the rest
 abbrev pub CopiesTheRest : Library → Type 0
 CopiesTheRest x = (c : RunCall) (n : ℕ) → 1 ≤ n → n < c .bits → getD (bitsOf (x .run scramble c .memory .output)) n 0 ≡ getD (bitsOf (c .input)) n 0
+
+-- a reader that takes A "with the first bit as the highest", as the old bench program did
+abbrev pub TurnsA : Library → Type 0
+TurnsA x = (c : ReadCall) → x .read c .answer ≡ 0 → x .read c .numbers .kind ≡ 0 → x .read c .numbers .a ≡ valueOf (reverse (fieldOf wordA (bitsOf (c .frame))))
+
+-- or B
+abbrev pub TurnsB : Library → Type 0
+TurnsB x = (c : ReadCall) → x .read c .answer ≡ 0 → x .read c .numbers .kind ≡ 0 → x .read c .numbers .b ≡ valueOf (reverse (fieldOf wordB (bitsOf (c .frame))))
 
 -- a supervisor that moves once and then stays: every later answer shows the phase that the first showed
 abbrev pub MovesOnce : {S : Type 0} → Make S → Type 0
