@@ -38,6 +38,13 @@ $(PROGRAMS:%=build/%): build/%: $(SOURCES)
 	mkdir -p build
 	cp target/bin/$* $@
 
+PAIR = examples/pair
+
+pair: build/pair
+
+build/pair: $(wildcard $(PAIR)/*.c $(PAIR)/*.h) include/sdsl.h build/libsdsl.a
+	$(SDSL_CC) $(STRICT) $(CFLAGS) -I include -o $@ $(filter %.c,$^) build/libsdsl.a
+
 test:
 	bash tests/run
 
