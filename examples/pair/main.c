@@ -156,7 +156,7 @@ int main(int argc, char **argv)
     }
 
     if (o.flip) {
-        printf("on the line: %u bits flipped, in the LTU's frame 1\n", down.flipped);
+        printf("on the line: %s of the LTU's frame 1 flipped\n", down.flipped == 1 ? "one bit" : "no bit");
     }
     if (o.drop) {
         printf("on the line: %u symbols lost; the LTU sent %u frames, the last two F_c\n", down.dropped, ltu.send.frames);
