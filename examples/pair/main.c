@@ -105,18 +105,18 @@ static bool over(const struct card *ltu, const struct card *ntu)
 static size_t compare(const struct card *from, const struct card *to)
 {
     size_t wrong = 0, first = from->send.payload_from;
-    char shown[SHOWN + 1] = {0};
+    uint8_t shown[SHOWN] = {0};
     for (size_t i = 0; i < PAYLOAD_BITS; i++) {
         unsigned bit = bit_at(to->hear.data.octets, first + i);
         wrong += bit != bit_at(from->send.data.octets, first + i);
         if (i < 8 * SHOWN) {
-            shown[i / 8] = (char)(shown[i / 8] | bit << (i % 8));
+            shown[i / 8] |= (uint8_t)(bit << (i % 8));
         }
     }
     for (size_t i = 0; i < SHOWN; i++) {
         shown[i] = shown[i] >= ' ' && shown[i] <= '~' ? shown[i] : '.';
     }
-    printf("%s to %s: %d payload bits, %zu wrong; \"%s\"\n", from->name, to->name, PAYLOAD_BITS, wrong, shown);
+    printf("%s to %s: %d payload bits, %zu wrong; \"%.*s\"\n", from->name, to->name, PAYLOAD_BITS, wrong, SHOWN, (const char *)shown);
     if (to->hear.misfits > 0) {
         printf("            %u of %zu symbols fit no path: the %s asked for A %u, B %u, the %s sends with A %u, B %u\n", to->hear.misfits,
                to->hear.data.bits / 3, to->name, to->own.a, to->own.b, from->name, from->far.a, from->far.b);

@@ -78,18 +78,6 @@ static void want(bool good, const char *otherwise)
     }
 }
 
-static sigjmp_buf back;
-static volatile sig_atomic_t probing;
-
-static void on_fault(int signal_number)
-{
-    (void)signal_number;
-    if (probing) {
-        siglongjmp(back, 1);
-    }
-    failed("touches memory that it was not lent");
-}
-
 /* A number that is mostly from least to most, sometimes just beside, sometimes any. */
 static uint32_t number(int64_t least, int64_t most)
 {
@@ -584,6 +572,18 @@ int LLVMFuzzerTestOneInput(const uint8_t *data, size_t size)
 }
 
 #ifndef FUZZ_ENTRY_ONLY
+
+static sigjmp_buf back;
+static volatile sig_atomic_t probing;
+
+static void on_fault(int signal_number)
+{
+    (void)signal_number;
+    if (probing) {
+        siglongjmp(back, 1);
+    }
+    failed("touches memory that it was not lent");
+}
 
 /* Whether this machine, or its emulation, notices a touch at all. */
 static bool faults(volatile uint8_t *p)
