@@ -1,20 +1,27 @@
 /*
- * sdsl.h: SDSL activation (ETSI TS 101 524-2), proved, for a card's host software in C.
+ * sdsl.h: SDSL activation (ETSI TS 101 524-2), proved, for a card's host software in C11 or C++. Link with libsdsl.a.
  *
  * What every function keeps to
  * - Every call ends and answers with one of the numbers of enum sdsl_answer. No caller has to check anything first.
  * - A refused call (any answer but 0) leaves all lent memory as it was, hands a state back equal, and every other number
  *   that it returns is 0.
- * - Checks run in the order of the answers' numbers; the first that applies is answered.
- * - A buffer is lent for the time of the call: a pointer and its length in octets, and nothing is kept. A pointer may be NULL where
- *   its length is 0. Buffers lent to one call must not overlap where one of them is written (no `const`).
- * - The library has no state of its own, takes no lock and allocates nothing: any thread may call anything at any time.
+ * - Checks run in the order of the answers' numbers; the first that applies is answered. Each function's comment names the answers
+ *   that it can give, and it gives no other.
+ * - All memory is the caller's. A buffer is lent for the time of the call: a pointer and its length in octets, and nothing is kept.
+ *   A pointer may be NULL where its length is 0. Buffers lent to one call must not overlap where one of them is written (no `const`):
+ *   to work in place, lend a copy.
+ * - The library has no state of its own, takes no lock and allocates nothing: any thread may call anything at any time. States
+ *   (scrambler, register, history, supervisor) are the caller's: keep what comes back and lend it to the next call.
  *
  * Bits in octets. Bit n of the paper, n from 1, has weight 1 << ((n - 1) % 8) in octet (n - 1) / 8. The first bit on the line is
- * bit 1.
+ * bit 1. This holds for frames, for vendor data and for the scrambler's runs.
  *
  * Numbers in octets. Where a buffer holds coefficients, outputs or samples, each takes four octets, the low octet first, in two's
  * complement: coefficient 1 stands in octets 0 to 3. Values of the precoder are in steps of 1/131072.
+ *
+ * Times are in ticks of one millisecond.
+ *
+ * The examples below stand in a function, behind #include <assert.h> and <string.h>; the gate compiles and runs them.
  */
 #ifndef SDSL_H
 #define SDSL_H
@@ -39,18 +46,69 @@ enum sdsl_answer {
     SDSL_RESERVED = 8      /* a reserved bit is not zero (training frame) */
 };
 
+/*
+ * An answer in plain English, for a log or a screen; for a number that is no answer, words that say so. The text is a constant: do
+ * not free it. This one is not in the library, which hands back numbers only.
+ *
+ * Example:
+ *     assert(strcmp(sdsl_answer_text(SDSL_BAD_CHECK), "the check bits differ") == 0);
+ */
+static inline const char *sdsl_answer_text(uint32_t answer)
+{
+    switch (answer) {
+    case SDSL_DONE:
+        return "done";
+    case SDSL_BAD_LENGTH:
+        return "a lent buffer has the wrong length";
+    case SDSL_UNKNOWN:
+        return "unknown end, frame kind or report code";
+    case SDSL_BAD_COUNT:
+        return "coefficient count outside 128 to 180";
+    case SDSL_OUT_OF_RANGE:
+        return "a number outside its range";
+    case SDSL_NO_SYNC:
+        return "the sync word is neither of the two";
+    case SDSL_BAD_PAD:
+        return "a pad bit is not zero";
+    case SDSL_BAD_CHECK:
+        return "the check bits differ";
+    case SDSL_RESERVED:
+        return "a reserved bit is not zero (training frame)";
+    default:
+        return "not an answer of this library";
+    }
+}
+
 /* The two ends of the line. */
 enum sdsl_end { SDSL_LTU = 0, SDSL_NTU = 1 };
 
-/* The two kinds of activation frame. */
+/* ---- The activation frame (clause 4.1.3) ---- */
+
+/* The two kinds of activation frame: T_c and T_r are training frames, F_c is a final frame. */
 enum sdsl_kind { SDSL_TRAINING = 0, SDSL_FINAL = 1 };
 
-#define SDSL_FRAME_OCTETS 529       /* an activation frame */
-#define SDSL_COEFFICIENTS 180       /* precoder coefficients in a frame, and outputs that the precoder remembers */
-#define SDSL_COEFFICIENT_OCTETS 720 /* 180 numbers of four octets */
-#define SDSL_VENDOR_OCTETS 16       /* vendor data */
+#define SDSL_FRAME_OCTETS 529           /* an activation frame in memory */
+#define SDSL_COEFFICIENTS 180           /* precoder coefficients in a frame, and outputs that the precoder remembers */
+#define SDSL_COEFFICIENT_OCTETS 720     /* 180 numbers of four octets */
+#define SDSL_VENDOR_OCTETS 16           /* vendor data */
+#define SDSL_COUNT_MIN 128              /* coefficients in use: at least */
+#define SDSL_COUNT_MAX 180              /* and at most */
+#define SDSL_COEFFICIENT_MIN (-2097152) /* -16 in steps of 1/131072 */
+#define SDSL_COEFFICIENT_MAX 2097151
+#define SDSL_WORD_MAX 2097151u          /* A and B run from 0 to this; a0 and b0 weigh 1, a20 and b20 weigh 1048576 */
 
-/* ---- The activation frame (clause 4.1.3) ---- */
+/* Where the fields of a frame begin and how many bits they have; bits count from 1 (see "Bits in octets" above). */
+#define SDSL_FRAME_BITS 4227    /* bits on the line; five pad bits fill the last octet and are zero */
+#define SDSL_SYNC_BIT 1         /* 14 bits: 11111001101011 training, 11010110011111 final, left bit first */
+#define SDSL_SYNC_BITS 14
+#define SDSL_COEFFICIENT_BIT 15 /* coefficient k begins at SDSL_COEFFICIENT_BIT + (k - 1) * SDSL_COEFFICIENT_BITS, least bit first */
+#define SDSL_COEFFICIENT_BITS 22
+#define SDSL_A_BIT 3975         /* 21 bits, a0 first */
+#define SDSL_B_BIT 3996         /* 21 bits, b0 first */
+#define SDSL_WORD_BITS 21
+#define SDSL_VENDOR_BIT 4017    /* 128 bits */
+#define SDSL_RESERVED_BIT 4145  /* 67 bits, zero in a training frame */
+#define SDSL_CHECK_BIT 4212     /* c1 to c16 */
 
 /*
  * Writes a frame of 529 octets.
@@ -59,9 +117,18 @@ enum sdsl_kind { SDSL_TRAINING = 0, SDSL_FINAL = 1 };
  *   coefficients  720 octets; the first `count` are looked at, each from -2097152 to 2097151
  *   a, b          the encoder's words, 0 to 2097151; the lowest bit of a is a0, the first on the line
  *   vendor        16 octets
+ *   frame         529 octets, written
  * A final frame carries vendor data only: count, the coefficients' values, a and b are not looked at. The three buffers' lengths are,
  * for either kind.
- * Answers 0, 1, 2, 3, 4.
+ * What a card writes is what its own receiver asks of the far card's transmitter (clause 4.3.3.2).
+ * Answers 0, 1, 2 (kind), 3, 4.
+ *
+ * Example:
+ *     uint8_t coefficients[SDSL_COEFFICIENT_OCTETS] = {0}, vendor[SDSL_VENDOR_OCTETS] = "bench 7", frame[SDSL_FRAME_OCTETS];
+ *     coefficients[2] = 1; // coefficient 1 is 65536 steps, one half
+ *     uint32_t answer = sdsl_frame_write(SDSL_TRAINING, SDSL_COUNT_MIN, coefficients, sizeof coefficients, 1, 2,
+ *                                        vendor, sizeof vendor, frame, sizeof frame);
+ *     assert(answer == SDSL_DONE && frame[0] == 0x9F && frame[1] == 0x35); // training sync, and two bits of coefficient 1
  */
 uint32_t sdsl_frame_write(uint32_t kind, uint32_t count,
                           const uint8_t *coefficients, size_t coefficients_len,
@@ -71,151 +138,261 @@ uint32_t sdsl_frame_write(uint32_t kind, uint32_t count,
 
 /* What reading a frame gives. Of a final frame a and b are 0. */
 struct sdsl_frame_fields {
-    uint32_t answer;
-    uint32_t kind;
-    uint32_t a;
+    uint32_t answer; /* enum sdsl_answer */
+    uint32_t kind;   /* enum sdsl_kind */
+    uint32_t a;      /* 0 to SDSL_WORD_MAX */
     uint32_t b;
 };
 
 /*
  * Reads a frame of 529 octets: its kind, and into lent memory the 16 octets of vendor data and, of a training frame, all 180
  * coefficients (720 octets). A final frame leaves `coefficients` as it was; its length has to be right all the same.
+ * A frame does not carry the count of coefficients: unused ones are zero. Look at `answer` first: where it is not 0, kind is 0 too.
  * Answers 0, 1, 5, 6, 7, 8.
+ *
+ * Example:
+ *     uint8_t coefficients[SDSL_COEFFICIENT_OCTETS], vendor[SDSL_VENDOR_OCTETS], frame[SDSL_FRAME_OCTETS] = {0x9F, 0x35};
+ *     struct sdsl_frame_fields got = sdsl_frame_read(frame, sizeof frame, coefficients, sizeof coefficients, vendor, sizeof vendor);
+ *     assert(got.answer == SDSL_DONE && got.kind == SDSL_TRAINING && got.a == 0 && got.b == 0);
  */
 struct sdsl_frame_fields sdsl_frame_read(const uint8_t *frame, size_t frame_len,
                                          uint8_t *coefficients, size_t coefficients_len,
                                          uint8_t *vendor, size_t vendor_len);
 
-/* The same verdict on a frame, with nothing written. Answers 0, 1, 5, 6, 7, 8. */
+/*
+ * The same verdict on a frame of 529 octets, with nothing written.
+ * Answers 0, 1, 5, 6, 7, 8.
+ *
+ * Example:
+ *     uint8_t frame[SDSL_FRAME_OCTETS] = {0x9F, 0x35};
+ *     assert(sdsl_frame_check(frame, sizeof frame) == SDSL_DONE);
+ *     frame[(SDSL_A_BIT - 1) / 8] ^= 1 << ((SDSL_A_BIT - 1) % 8); // one bit wrong on the line
+ *     assert(sdsl_frame_check(frame, sizeof frame) == SDSL_BAD_CHECK);
+ */
 uint32_t sdsl_frame_check(const uint8_t *frame, size_t frame_len);
 
 /* ---- The scrambler (clause 4.1.5; part 1, clause 7.1.6) ---- */
 
-#define SDSL_SCRAMBLER_START 0u /* the state that both ends start with */
+#define SDSL_SCRAMBLER_START 0u     /* the state that both ends start with */
+#define SDSL_SCRAMBLER_MAX 8388607u /* the largest state, 2^23 - 1 */
 
 /* The answer, and the state after the last bit: the last 23 scrambled bits, the newest at weight 1. */
 struct sdsl_scrambled {
-    uint32_t answer;
-    uint32_t state;
+    uint32_t answer; /* enum sdsl_answer */
+    uint32_t state;  /* to go on with; after a refusal the one that was handed in */
 };
 
 /*
  * Scrambles the first `bits` bits of `in` into `out`, which has the same length; further bits of `out` stay as they were.
- * A count of 0 hands the state back. Answers 0, 1 (bits over eight times the length, or unequal lengths), 2 (end),
- * 4 (a state of 2^23 or more).
+ *   end    SDSL_LTU or SDSL_NTU: the end that sends
+ *   state  0 to SDSL_SCRAMBLER_MAX
+ *   bits   a count of bits; 0 hands the state back
+ * Answers 0, 1 (bits over eight times the length, or unequal lengths), 2 (end), 4 (state).
+ *
+ * Example:
+ *     const uint8_t ones[4] = {0xFF, 0xFF, 0xFF, 0x01};
+ *     uint8_t sent[4] = {0}, heard[4] = {0};
+ *     struct sdsl_scrambled there = sdsl_scramble(SDSL_LTU, SDSL_SCRAMBLER_START, ones, 4, 25, sent, 4);
+ *     assert(there.answer == SDSL_DONE && sent[0] == 0x1F); // 11111000.. on the line, first bit first
+ *     struct sdsl_scrambled back = sdsl_descramble(SDSL_LTU, SDSL_SCRAMBLER_START, sent, 4, 25, heard, 4);
+ *     assert(back.state == there.state && memcmp(heard, ones, 4) == 0);
  */
 struct sdsl_scrambled sdsl_scramble(uint32_t end, uint32_t state,
                                     const uint8_t *in, size_t in_len, size_t bits,
                                     uint8_t *out, size_t out_len);
 
-/* The other way: with the sender's end and its state before the run, the input comes back. */
+/*
+ * The other way: with the sender's end and the sender's state before the run, the input comes back, and the sender's next state.
+ * A receiver that does not know the sender's state is right after 23 bits.
+ * Answers 0, 1 (bits over eight times the length, or unequal lengths), 2 (end), 4 (state).
+ */
 struct sdsl_scrambled sdsl_descramble(uint32_t end, uint32_t state,
                                       const uint8_t *in, size_t in_len, size_t bits,
                                       uint8_t *out, size_t out_len);
 
 /*
  * Scrambles a whole frame, 529 octets in and out. The 14 sync bits pass straight through and do not clock the state. The five pad bits
- * have to be zero and are zero in the output; sync and check bits are not checked. Answers 0, 1, 2, 4, 6.
+ * have to be zero and are zero in the output; sync and check bits are not checked. The next frame goes on with the state that comes
+ * back.
+ * Answers 0, 1, 2 (end), 4 (state), 6.
+ *
+ * Example:
+ *     uint8_t frame[SDSL_FRAME_OCTETS] = {0x6B, 0x3E}, line[SDSL_FRAME_OCTETS], heard[SDSL_FRAME_OCTETS];
+ *     struct sdsl_scrambled sent = sdsl_scramble_frame(SDSL_LTU, 1, frame, sizeof frame, line, sizeof line);
+ *     struct sdsl_scrambled got = sdsl_descramble_frame(SDSL_LTU, 1, line, sizeof line, heard, sizeof heard);
+ *     assert(line[0] == 0x6B && memcmp(heard, frame, sizeof frame) == 0 && got.state == sent.state);
  */
 struct sdsl_scrambled sdsl_scramble_frame(uint32_t end, uint32_t state,
                                           const uint8_t *in, size_t in_len,
                                           uint8_t *out, size_t out_len);
 
-/* The other way. */
+/*
+ * The other way, with the sender's end and its state before the frame.
+ * Answers 0, 1, 2 (end), 4 (state), 6.
+ */
 struct sdsl_scrambled sdsl_descramble_frame(uint32_t end, uint32_t state,
                                             const uint8_t *in, size_t in_len,
                                             uint8_t *out, size_t out_len);
 
-/* ---- Symbols (clauses 4.1.6, 4.3.3, 4.3.4) ---- */
+/* ---- Symbols: levels and the encoder (clauses 4.1.6 and 4.3.3) ---- */
 
-/* A level in sixteenths, from -15 to 15. */
+#define SDSL_SYMBOL_MAX 7u         /* three bits X1 X2 X3, X1 at weight 4 */
+#define SDSL_CODE_MAX 15u          /* four bits Y3 Y2 Y1 Y0, Y3 at weight 8 */
+#define SDSL_REGISTER_START 0u     /* the encoder's register at the start */
+#define SDSL_REGISTER_MAX 1048575u /* the largest register, 2^20 - 1 */
+#define SDSL_SIXTEENTH 8192        /* steps of the precoder in a sixteenth: x = sixteenths * SDSL_SIXTEENTH */
+
+/* A level in sixteenths: an odd number from -15 to 15. */
 struct sdsl_level {
-    uint32_t answer;
+    uint32_t answer; /* enum sdsl_answer */
     int32_t sixteenths;
 };
 
 /* A code Y3 Y2 Y1 Y0, Y3 at weight 8. */
 struct sdsl_code {
-    uint32_t answer;
-    uint32_t code;
-};
-
-/* The level of a bit during activation: 0 gives -9, 1 gives 9. Answers 0, 4 (over 1). */
-struct sdsl_level sdsl_activation_level(uint32_t bit);
-
-/* The level of a code in data mode. Codes 12 to 15 are 1 3 5 7 and 8 to 11 are 9 11 13 15. Answers 0, 4 (over 15). */
-struct sdsl_level sdsl_data_level(uint32_t code);
-
-/* The code of a level. Answers 0, 4 (not one of the sixteen). */
-struct sdsl_code sdsl_level_code(int32_t sixteenths);
-
-/* What one symbol gives: its code and level, and the register to go on with (20 bits, the newest X1 at weight 1; 0 at the start). */
-struct sdsl_encoded {
-    uint32_t answer;
-    uint32_t code;
-    int32_t sixteenths;
-    uint32_t reg;
+    uint32_t answer; /* enum sdsl_answer */
+    uint32_t code;   /* 0 to SDSL_CODE_MAX */
 };
 
 /*
- * Encodes one symbol: three bits X1 X2 X3, first in time first, as a number in which X1 weighs 4.
- * Answers 0, 4 (symbol over 7, a or b over 2097151, a register of 2^20 or more; then the register comes back equal).
+ * The level of a bit during activation: 0 gives -9, 1 gives 9.
+ * Answers 0, 4 (over 1).
+ *
+ * Example:
+ *     assert(sdsl_activation_level(0).sixteenths == -9 && sdsl_activation_level(1).sixteenths == 9);
+ *     assert(sdsl_data_level(12).sixteenths == 1 && sdsl_level_code(1).code == 12);
+ *     assert(sdsl_level_code(2).answer == SDSL_OUT_OF_RANGE);
+ */
+struct sdsl_level sdsl_activation_level(uint32_t bit);
+
+/*
+ * The level of a code in data mode. Codes 0 to 7 rise from -15 to -1; 12 to 15 are 1 3 5 7 and 8 to 11 are 9 11 13 15.
+ * Answers 0, 4 (over 15).
+ */
+struct sdsl_level sdsl_data_level(uint32_t code);
+
+/*
+ * The code of a level.
+ * Answers 0, 4 (not one of the sixteen).
+ */
+struct sdsl_code sdsl_level_code(int32_t sixteenths);
+
+/* What one symbol gives: its code and level, and the register to go on with (20 bits, the newest X1 at weight 1). */
+struct sdsl_encoded {
+    uint32_t answer; /* enum sdsl_answer */
+    uint32_t code;   /* 0 to SDSL_CODE_MAX */
+    int32_t sixteenths;
+    uint32_t reg;    /* after a refusal the one that was handed in */
+};
+
+/*
+ * Encodes one symbol: three bits X1 X2 X3, first in time first, as a number in which X1 weighs 4. Y3 is X3 and Y2 is X2; a gives Y1
+ * and b gives Y0, with a0 and b0 on the current X1.
+ *   a, b    0 to SDSL_WORD_MAX, as the far card's frame gave them
+ *   reg     0 to SDSL_REGISTER_MAX
+ *   symbol  0 to SDSL_SYMBOL_MAX
+ * Answers 0, 4.
+ *
+ * Example:
+ *     struct sdsl_encoded first = sdsl_encode(1, 2, SDSL_REGISTER_START, 5); // bits 101
+ *     struct sdsl_encoded then = sdsl_encode(1, 2, first.reg, 3);            // bits 011
+ *     assert(first.sixteenths == 13 && then.sixteenths == 3 && then.reg == 2);
  */
 struct sdsl_encoded sdsl_encode(uint32_t a, uint32_t b, uint32_t reg, uint32_t symbol);
 
 /* The answer, and the register after the last symbol. */
 struct sdsl_encoded_run {
-    uint32_t answer;
-    uint32_t reg;
+    uint32_t answer; /* enum sdsl_answer */
+    uint32_t reg;    /* after a refusal the one that was handed in */
 };
 
 /*
- * Encodes many symbols: an octet each in `symbols` (0 to 7) and a code each in `codes` (0 to 15), the two of one length.
- * Everything is checked before anything is written. Answers 0, 1, 4.
+ * Encodes many symbols: an octet each in `symbols` (0 to 7) and a code each in `codes` (0 to 15), the two of one length, which may
+ * be 0. Everything is checked before anything is written.
+ * Answers 0, 1, 4 (a, b, reg or a symbol).
+ *
+ * Example:
+ *     const uint8_t symbols[2] = {5, 3};
+ *     uint8_t codes[2];
+ *     struct sdsl_encoded_run run = sdsl_encode_run(1, 2, SDSL_REGISTER_START, symbols, 2, codes, 2);
+ *     assert(run.answer == SDSL_DONE && codes[0] == 10 && codes[1] == 13 && run.reg == 2);
  */
 struct sdsl_encoded_run sdsl_encode_run(uint32_t a, uint32_t b, uint32_t reg,
                                         const uint8_t *symbols, size_t symbols_len,
                                         uint8_t *codes, size_t codes_len);
 
+/* ---- The precoder (clause 4.3.4) ---- */
+
+#define SDSL_STEPS 131072         /* steps in 1: a step is 1/131072 */
+#define SDSL_SAMPLE_MIN (-131072) /* x, y and the past outputs: from -1 .. */
+#define SDSL_SAMPLE_MAX 131071    /* .. to a step below 1 */
+#define SDSL_HISTORY_OCTETS 720   /* the last 180 outputs, four octets each */
+#define SDSL_SAMPLE_OCTETS 4      /* a sample in a run */
+
 /*
- * Precodes samples. `coefficients` and `history` are 720 octets each; history holds the last 180 outputs, the newest first, all zero
- * at the start, and is moved on. `xs` and `ys` have one length, a multiple of 4. x, y and the history's values run from -131072 to
- * 131071, coefficients from -2097152 to 2097151. Everything is checked before anything is written. Answers 0, 1, 4.
+ * Precodes a run of samples: xs in, ys out. One symbol is a run of four octets.
+ *   coefficients  720 octets: the 180 of the far card's frame, unused ones zero, each from -2097152 to 2097151
+ *   history       720 octets: the last 180 outputs, the newest first, all zero at the start; it is moved on by the run
+ *   xs, ys        one length, a multiple of 4, which may be 0
+ * x, y and the history's values run from -131072 to 131071. Everything is checked before anything is written.
+ * Answers 0, 1, 4.
+ *
+ * Example:
+ *     uint8_t coefficients[SDSL_COEFFICIENT_OCTETS] = {0, 0, 1, 0}; // C(1) = 65536, one half
+ *     uint8_t history[SDSL_HISTORY_OCTETS] = {0, 0x20, 1, 0};       // y(m-1) = 73728
+ *     uint8_t past[SDSL_HISTORY_OCTETS] = {0, 0x20, 1, 0};
+ *     const uint8_t x[SDSL_SAMPLE_OCTETS] = {0, 0x20, 1, 0};        // x = 73728, that is 9/16
+ *     uint8_t y[SDSL_SAMPLE_OCTETS], heard[SDSL_SAMPLE_OCTETS];
+ *     assert(sdsl_precode(coefficients, sizeof coefficients, history, sizeof history, x, 4, y, 4) == SDSL_DONE);
+ *     assert(y[0] == 0x00 && y[1] == 0x90 && y[2] == 0 && y[3] == 0); // 36864
+ *     assert(sdsl_decode(coefficients, sizeof coefficients, past, sizeof past, y, 4, heard, 4) == SDSL_DONE);
+ *     assert(memcmp(heard, x, 4) == 0 && memcmp(past, history, sizeof past) == 0);
  */
 uint32_t sdsl_precode(const uint8_t *coefficients, size_t coefficients_len,
                       uint8_t *history, size_t history_len,
                       const uint8_t *xs, size_t xs_len,
                       uint8_t *ys, size_t ys_len);
 
-/* The receiving end: given y, the same coefficients and the same past, x comes back. Answers 0, 1, 4. */
+/*
+ * The receiving end: given ys, the same coefficients and the same past, the xs come back, and the history is moved on by the ys.
+ * Lengths and ranges as for sdsl_precode.
+ * Answers 0, 1, 4.
+ */
 uint32_t sdsl_decode(const uint8_t *coefficients, size_t coefficients_len,
                      uint8_t *history, size_t history_len,
                      const uint8_t *ys, size_t ys_len,
                      uint8_t *xs, size_t xs_len);
 
-/* A sample for the shaper: exactly y / 131072. */
+/* A sample for the shaper: exactly y / 131072, from -1 to just below 1. */
 struct sdsl_shaped {
-    uint32_t answer;
+    uint32_t answer; /* enum sdsl_answer */
     float value;
 };
 
-/* Answers 0, 4 (y outside -131072 to 131071; then the value is 0). */
+/*
+ * The float that the spectral shaper is handed for y; nothing is lost.
+ * Answers 0, 4 (y outside -131072 to 131071; then the value is 0).
+ *
+ * Example:
+ *     assert(sdsl_shaper(-16384).value == -0.125f);
+ */
 struct sdsl_shaped sdsl_shaper(int32_t y);
 
 /* ---- The start-up supervisor (clauses 4.1.2 and 4.1.8) ---- */
 
-/* Report codes. A tick is one millisecond; the others take no time. */
+/* Report codes. A tick is one millisecond; the others take no time. A report that a phase does not await changes nothing. */
 enum sdsl_code_report {
     SDSL_TICK = 0,
     SDSL_PRE_ACTIVATION_ENDED = 1,
-    SDSL_CR_BEGINS = 2,
-    SDSL_CR_ENDED = 3,
-    SDSL_CONVERGED = 4,
-    SDSL_TC_SEEN = 5,
-    SDSL_TR_SEEN = 6,
-    SDSL_SECOND_FC_OVER = 7,
-    SDSL_ABNORMAL = 8
+    SDSL_CR_BEGINS = 2,      /* LTU: C_r is heard */
+    SDSL_CR_ENDED = 3,       /* LTU: C_r is over */
+    SDSL_CONVERGED = 4,      /* own receiver; counts only in S_c or S_r: give it again there */
+    SDSL_TC_SEEN = 5,        /* NTU */
+    SDSL_TR_SEEN = 6,        /* LTU */
+    SDSL_SECOND_FC_OVER = 7, /* the LTU has sent it, or the NTU heard it */
+    SDSL_ABNORMAL = 8        /* from every phase to Exception */
 };
+#define SDSL_REPORT_MAX 8u
 
 /* Phases, in the order of a start-up. In an attempt the phase is one of SDSL_CR to SDSL_FC. */
 enum sdsl_phase {
@@ -234,11 +411,26 @@ enum sdsl_phase {
     SDSL_VALID = 12,    /* payload is valid */
     SDSL_EXCEPTION = 13 /* silent; then Ready */
 };
+#define SDSL_PHASE_MAX 13u
+
+/* Times in ticks. */
+#define SDSL_GAP_TICKS 300
+#define SDSL_CR_TICKS 1000
+#define SDSL_NTU_QUIET_TICKS 1500
+#define SDSL_LTU_QUIET_TICKS 500
+#define SDSL_SC_TICKS 5000
+#define SDSL_SETTLING_TICKS 1000
+#define SDSL_ATTEMPT_TICKS 15000     /* an attempt still open at its 15,000th tick ends in Exception */
+#define SDSL_SILENCE_DEFAULT 0       /* for sdsl_start: stands for 2,000 ticks */
+#define SDSL_SILENCE_MIN 2000
+#define SDSL_SILENCE_MAX 60000
+#define SDSL_STATE_TICKS_MAX 59999   /* a state's `ticks`, at most */
+#define SDSL_STATE_ATTEMPT_MAX 14999 /* a state's `attempt`, at most */
 
 /* A supervisor's state: keep it, hand it back, change nothing in it. */
 struct sdsl_supervisor {
-    uint32_t end;
-    uint32_t phase;
+    uint32_t end;       /* enum sdsl_end */
+    uint32_t phase;     /* enum sdsl_phase, one of this end */
     uint32_t ticks;     /* in the phase, up to 59999 */
     uint32_t attempt;   /* ticks since the attempt opened, up to 14999 */
     uint32_t silence;   /* 2000 to 60000 */
@@ -248,19 +440,33 @@ struct sdsl_supervisor {
 
 /* What a step gives: the phase, in an attempt the ticks since its opening, else 0, and the state to go on with. */
 struct sdsl_stepped {
-    uint32_t answer;
-    uint32_t phase;
-    uint32_t attempt;
+    uint32_t answer;  /* enum sdsl_answer; look at it before the phase, which is 0 after a refusal */
+    uint32_t phase;   /* enum sdsl_phase, after the code */
+    uint32_t attempt; /* ticks */
     struct sdsl_supervisor state;
 };
 
 /*
- * Starts a supervisor. A silence of 0 stands for the default, 2000 ticks. Answers 0, 2 (end), 4 (another silence below 2000, or over
- * 60000). A refused start gives a state of zeros, which every step refuses.
+ * Starts a supervisor.
+ *   end      SDSL_LTU or SDSL_NTU
+ *   silence  ticks in Exception before Ready, 2000 to 60000; 0 stands for the default, 2000
+ * A refused start gives a state of zeros, which every step refuses.
+ * Answers 0, 2 (end), 4 (silence).
+ *
+ * Example:
+ *     struct sdsl_stepped card = sdsl_start(SDSL_NTU, SDSL_SILENCE_DEFAULT);
+ *     card = sdsl_step(card.state, SDSL_PRE_ACTIVATION_ENDED);
+ *     for (int i = 0; i < SDSL_GAP_TICKS; i++) {
+ *         card = sdsl_step(card.state, SDSL_TICK);
+ *     }
+ *     assert(card.answer == SDSL_DONE && card.phase == SDSL_CR && card.attempt == 0);
  */
 struct sdsl_stepped sdsl_start(uint32_t end, uint32_t silence);
 
-/* One code. Answers 0, 2 (a code over 8, or the state's end unknown), 4 (a state out of its ranges; it comes back equal). */
+/*
+ * One code: a tick or a report.
+ * Answers 0, 2 (a code over 8, or the state's end unknown), 4 (a state out of its ranges). A refused state comes back equal.
+ */
 struct sdsl_stepped sdsl_step(struct sdsl_supervisor state, uint32_t code);
 
 /* How the last attempt of a run stands. */
@@ -268,7 +474,7 @@ enum sdsl_ended { SDSL_NONE_OPENED = 0, SDSL_STILL_OPEN = 1, SDSL_IN_DATA_MODE =
 
 /* What a run over a list of codes gives. Places count from 0 in the list. */
 struct sdsl_run {
-    uint32_t answer;
+    uint32_t answer;    /* enum sdsl_answer */
     uint64_t opened;    /* how many attempts opened in it */
     uint64_t opened_at; /* the place of the code that opened the last one; 0 where none opened */
     uint32_t ended;     /* enum sdsl_ended, of the last one */
@@ -276,7 +482,15 @@ struct sdsl_run {
     struct sdsl_supervisor state;
 };
 
-/* Runs over codes, an octet each; codes over 8 are skipped. Answers 0, 2 (the state's end unknown), 4 (a state out of its ranges). */
+/*
+ * Runs over codes, an octet each; codes over 8 are skipped and keep their place. A list may be empty.
+ * Answers 0, 2 (the state's end unknown), 4 (a state out of its ranges). A refused state comes back equal.
+ *
+ * Example:
+ *     uint8_t codes[1 + SDSL_GAP_TICKS] = {SDSL_PRE_ACTIVATION_ENDED}; // then 300 ticks
+ *     struct sdsl_run run = sdsl_run_codes(sdsl_start(SDSL_NTU, SDSL_SILENCE_DEFAULT).state, codes, sizeof codes);
+ *     assert(run.answer == SDSL_DONE && run.opened == 1 && run.opened_at == 300 && run.ended == SDSL_STILL_OPEN);
+ */
 struct sdsl_run sdsl_run_codes(struct sdsl_supervisor state, const uint8_t *codes, size_t codes_len);
 
 #ifdef __cplusplus

@@ -1,0 +1,697 @@
+/*
+ * fuzz.c: feeds arbitrary octets to every function of sdsl.h.
+ *
+ *     fuzz [seed [inputs]]
+ *
+ * An input decides which function is called, with which numbers, lengths and contents. Every lent buffer lies against a page that may
+ * not be touched, at its front or at its end as the input says, and against a pattern on the other side; a buffer of length 0 may be
+ * NULL. After each call: the answer is one that the header lists for the function, nothing outside the lent memory has changed, const
+ * buffers hold what they held, and after a refusal so does everything, the state comes back equal and every other number is 0.
+ *
+ * Inputs come from the seed: new ones, and changed copies of those that were the first or latest to get an answer. At the end it prints
+ * how often each answer of each function was seen; one that the header lists and no input got is a failure too.
+ *
+ * LLVMFuzzerTestOneInput is the entry that clang's -fsanitize=fuzzer wants; -DFUZZ_ENTRY_ONLY leaves this file's main out.
+ */
+#define _DEFAULT_SOURCE
+#include "fuzz_answers.h" /* from the header: see test */
+#include "sdsl.h"
+
+#include <setjmp.h>
+#include <signal.h>
+#include <stdbool.h>
+#include <stdio.h>
+#include <stdlib.h>
+#include <string.h>
+#include <sys/mman.h>
+#include <unistd.h>
+
+int LLVMFuzzerTestOneInput(const uint8_t *data, size_t size);
+
+#define ANSWERS 9
+#define ITEMS(array) (sizeof(array) / sizeof((array)[0]))
+
+/* ---- The input ---- */
+
+static struct {
+    const uint8_t *data;
+    size_t size, at;
+    uint64_t number; /* which input of this seed */
+    uint64_t seed;
+    unsigned function;
+} input;
+
+static uint8_t take8(void)
+{
+    return input.at < input.size ? input.data[input.at++] : 0;
+}
+
+static uint64_t take(unsigned octets)
+{
+    uint64_t n = 0;
+    while (octets-- > 0) {
+        n = n << 8 | take8();
+    }
+    return n;
+}
+
+static void failed(const char *what)
+{
+    printf("FAIL: %s: %s (seed %llu, input %llu)\n  ", fuzz_functions[input.function].name, what, (unsigned long long)input.seed,
+           (unsigned long long)input.number);
+    for (size_t i = 0; i < input.size && i < 256; i++) {
+        printf("%02x", input.data[i]);
+    }
+    printf("\n");
+    fflush(stdout);
+#ifdef FUZZ_ENTRY_ONLY
+    abort();
+#else
+    _exit(1);
+#endif
+}
+
+static void want(bool good, const char *otherwise)
+{
+    if (!good) {
+        failed(otherwise);
+    }
+}
+
+/* A number that is mostly from least to most, sometimes just beside, sometimes any. */
+static uint32_t number(int64_t least, int64_t most)
+{
+    switch (take8() % 16) {
+    case 0:
+        return (uint32_t)take(4);
+    case 1: {
+        const int64_t edges[4] = {least - 1, least, most, most + 1};
+        return (uint32_t)edges[take8() % 4];
+    }
+    default:
+        return (uint32_t)(least + (int64_t)(take(4) % (uint64_t)(most - least + 1)));
+    }
+}
+
+/* A length that is mostly the right one. */
+static size_t length(size_t right)
+{
+    switch (take8() % 24) {
+    case 0:
+        return 0;
+    case 1:
+        return right > 0 ? right - 1 : 0;
+    case 2:
+        return right + 1;
+    case 3:
+        return take(2) % 2048;
+    default:
+        return right;
+    }
+}
+
+/* ---- Lent memory ---- */
+
+#define FENCE 65536 /* octets that may not be touched, on either side; a multiple of any page */
+#define ROOM 65536
+#define PATTERN 256 /* octets that are looked at on the side without a fence */
+
+struct lent {
+    uint8_t *room; /* ROOM octets between two fences */
+    uint8_t *p;
+    size_t len;
+    bool written; /* lent without const */
+    bool at_front;
+    uint8_t before[4096];
+};
+
+static struct lent lents[4];
+static unsigned lent_count;
+
+static void fence_in(void)
+{
+    for (unsigned i = 0; i < ITEMS(lents) && lents[i].room == NULL; i++) {
+        uint8_t *all = mmap(NULL, ROOM + 3 * FENCE, PROT_NONE, MAP_PRIVATE | MAP_ANONYMOUS, -1, 0);
+        if (all == MAP_FAILED) {
+            perror("fuzz: mmap");
+            exit(2);
+        }
+        lents[i].room = all + 2 * FENCE - (uintptr_t)all % FENCE;
+        if (mprotect(lents[i].room, ROOM, PROT_READ | PROT_WRITE) != 0) {
+            perror("fuzz: mprotect");
+            exit(2);
+        }
+    }
+}
+
+static uint8_t *pattern_of(const struct lent *l)
+{
+    return l->at_front ? l->room + l->len : l->room + ROOM - l->len - PATTERN;
+}
+
+static struct lent *lend(size_t len, bool written)
+{
+    struct lent *l = &lents[lent_count++];
+    uint8_t how = take8();
+    l->len = len;
+    l->written = written;
+    l->at_front = how & 1;
+    l->p = l->at_front ? l->room : l->room + ROOM - len;
+    memset(pattern_of(l), 0xA5 ^ (int)lent_count, PATTERN);
+    if (len == 0 && how & 2) {
+        l->p = NULL;
+    }
+    return l;
+}
+
+/* Any octets: zeros, those of the input, or many made of eight of them. */
+static void fill(struct lent *l)
+{
+    if (l->len == 0) {
+        return;
+    }
+    uint8_t how = take8() % 4;
+    uint64_t s = take(8) | 1;
+    for (size_t i = 0; i < l->len; i++) {
+        s ^= s << 13;
+        s ^= s >> 7;
+        s ^= s << 17;
+        l->p[i] = how == 0 ? 0 : how == 1 ? take8() : (uint8_t)(s >> 32);
+    }
+}
+
+static int32_t number_at(const uint8_t *octets)
+{
+    return (int32_t)((uint32_t)octets[0] | (uint32_t)octets[1] << 8 | (uint32_t)octets[2] << 16 | (uint32_t)octets[3] << 24);
+}
+
+/* Numbers of four octets from least to most, mostly: at their edges, or anywhere; sometimes one is outside. */
+static void fill_numbers(struct lent *l, int32_t least, int32_t most)
+{
+    fill(l);
+    uint8_t how = take8() % 8;
+    if (how == 0) {
+        return; /* any octets */
+    }
+    for (size_t i = 0; i + 4 <= l->len; i += 4) {
+        uint32_t any = (uint32_t)number_at(l->p + i);
+        int64_t n = how == 1 ? (any & 1 ? least : most) : least + (int64_t)(any % ((uint32_t)(most - least) + 1));
+        if (how == 2 && i == 4 * (l->len / 8)) {
+            n = any & 1 ? (int64_t)least - 1 : (int64_t)most + 1;
+        }
+        for (unsigned k = 0; k < 4; k++) {
+            l->p[i + k] = (uint8_t)((uint64_t)n >> (8 * k));
+        }
+    }
+}
+
+static void put_bit(uint8_t *octets, size_t n, unsigned value)
+{
+    uint8_t weight = (uint8_t)(1 << ((n - 1) % 8));
+    octets[(n - 1) / 8] = (uint8_t)((octets[(n - 1) / 8] & ~weight) | (value ? weight : 0));
+}
+
+static void put_check_bits(uint8_t *frame)
+{
+    uint32_t rest = 0;
+    for (size_t n = SDSL_COEFFICIENT_BIT; n < SDSL_CHECK_BIT; n++) {
+        uint32_t bit = frame[(n - 1) / 8] >> ((n - 1) % 8) & 1;
+        rest = rest << 1 ^ ((rest >> 15 ^ bit) & 1 ? 0x1021 : 0);
+        rest &= 0xFFFF;
+    }
+    for (unsigned i = 0; i < 16; i++) {
+        put_bit(frame, SDSL_CHECK_BIT + i, rest >> (15 - i) & 1);
+    }
+}
+
+/* A frame that is right as far as the input says: sync, pad, check bits, reserved bits; and then perhaps a bit that is not. */
+static void fill_frame(struct lent *l)
+{
+    fill(l);
+    if (l->len != SDSL_FRAME_OCTETS) {
+        return;
+    }
+    unsigned right = take8() % 8, final = take8() & 1, wrong = (unsigned)take(2);
+    if (right >= 1) {
+        for (unsigned i = 0; i < SDSL_SYNC_BITS; i++) {
+            put_bit(l->p, SDSL_SYNC_BIT + i, (final ? "11010110011111" : "11111001101011")[i] - '0');
+        }
+    }
+    for (unsigned n = SDSL_FRAME_BITS + 1; right >= 2 && n <= 8 * SDSL_FRAME_OCTETS; n++) {
+        put_bit(l->p, n, 0);
+    }
+    for (unsigned n = SDSL_RESERVED_BIT; right >= 4 && n < SDSL_CHECK_BIT; n++) {
+        put_bit(l->p, n, 0);
+    }
+    if (right >= 3) {
+        put_check_bits(l->p);
+    }
+    if (right >= 6 && wrong < 8 * SDSL_FRAME_OCTETS) {
+        put_bit(l->p, wrong + 1, take8() & 1);
+    }
+}
+
+static void keep(void)
+{
+    for (unsigned i = 0; i < lent_count; i++) {
+        if (lents[i].len > 0) {
+            memcpy(lents[i].before, lents[i].p, lents[i].len);
+        }
+    }
+}
+
+/* What has to hold of memory after a call. */
+static void look_after(uint32_t answer)
+{
+    for (unsigned i = 0; i < lent_count; i++) {
+        const struct lent *l = &lents[i];
+        const uint8_t *pattern = pattern_of(l);
+        for (size_t k = 0; k < PATTERN; k++) {
+            want(pattern[k] == (uint8_t)(0xA5 ^ (i + 1)), "writes outside a lent buffer");
+        }
+        bool same = l->len == 0 || memcmp(l->p, l->before, l->len) == 0;
+        want(same || l->written, "changes a const buffer");
+        want(same || answer == SDSL_DONE, "changes a buffer and refuses");
+    }
+}
+
+/* ---- The functions. Each makes one call, looks at the numbers that come back, and gives the answer. ---- */
+
+static uint32_t try_frame_write(void)
+{
+    uint32_t kind = number(SDSL_TRAINING, SDSL_FINAL), count = number(SDSL_COUNT_MIN, SDSL_COUNT_MAX);
+    uint32_t a = number(0, SDSL_WORD_MAX), b = number(0, SDSL_WORD_MAX);
+    struct lent *c = lend(length(SDSL_COEFFICIENT_OCTETS), false), *v = lend(length(SDSL_VENDOR_OCTETS), false);
+    struct lent *f = lend(length(SDSL_FRAME_OCTETS), true);
+    fill_numbers(c, SDSL_COEFFICIENT_MIN, SDSL_COEFFICIENT_MAX);
+    fill(v);
+    fill(f);
+    keep();
+    return sdsl_frame_write(kind, count, c->p, c->len, a, b, v->p, v->len, f->p, f->len);
+}
+
+static uint32_t try_frame_read(void)
+{
+    struct lent *f = lend(length(SDSL_FRAME_OCTETS), false), *c = lend(length(SDSL_COEFFICIENT_OCTETS), true);
+    struct lent *v = lend(length(SDSL_VENDOR_OCTETS), true);
+    fill_frame(f);
+    fill(c);
+    fill(v);
+    keep();
+    struct sdsl_frame_fields r = sdsl_frame_read(f->p, f->len, c->p, c->len, v->p, v->len);
+    want(r.answer == SDSL_DONE || (r.kind | r.a | r.b) == 0, "gives numbers and refuses");
+    want(r.kind <= SDSL_FINAL && r.a <= SDSL_WORD_MAX && r.b <= SDSL_WORD_MAX, "gives a number out of its range");
+    want(r.kind == SDSL_TRAINING || ((r.a | r.b) == 0 && (c->len == 0 || memcmp(c->p, c->before, c->len) == 0)),
+         "gives a final frame's coefficients");
+    return r.answer;
+}
+
+static uint32_t try_frame_check(void)
+{
+    struct lent *f = lend(length(SDSL_FRAME_OCTETS), false);
+    fill_frame(f);
+    keep();
+    return sdsl_frame_check(f->p, f->len);
+}
+
+typedef struct sdsl_scrambled run_function(uint32_t, uint32_t, const uint8_t *, size_t, size_t, uint8_t *, size_t);
+typedef struct sdsl_scrambled frame_function(uint32_t, uint32_t, const uint8_t *, size_t, uint8_t *, size_t);
+
+static uint32_t scrambled(struct sdsl_scrambled r, uint32_t state, bool moved)
+{
+    want(r.answer == SDSL_DONE ? r.state <= SDSL_SCRAMBLER_MAX : r.state == state, "gives a wrong state");
+    want(moved || r.state == state, "moves a state over no bits");
+    return r.answer;
+}
+
+static uint32_t try_run(run_function *f)
+{
+    uint32_t end = number(SDSL_LTU, SDSL_NTU), state = number(0, SDSL_SCRAMBLER_MAX);
+    size_t len = take(2) % 300;
+    struct lent *in = lend(len, false), *out = lend(length(len), true);
+    uint8_t how = take8() % 8;
+    size_t bits = how == 0 ? (size_t)take(8) : how == 1 ? 8 * len + take8() % 3 - 1 : (size_t)take(3) % (8 * len + 1);
+    fill(in);
+    fill(out);
+    keep();
+    return scrambled(f(end, state, in->p, in->len, bits, out->p, out->len), state, bits > 0);
+}
+
+static uint32_t try_frame(frame_function *f)
+{
+    uint32_t end = number(SDSL_LTU, SDSL_NTU), state = number(0, SDSL_SCRAMBLER_MAX);
+    struct lent *in = lend(length(SDSL_FRAME_OCTETS), false), *out = lend(length(SDSL_FRAME_OCTETS), true);
+    fill_frame(in);
+    fill(out);
+    keep();
+    return scrambled(f(end, state, in->p, in->len, out->p, out->len), state, true);
+}
+
+static uint32_t try_scramble(void)
+{
+    return try_run(sdsl_scramble);
+}
+
+static uint32_t try_descramble(void)
+{
+    return try_run(sdsl_descramble);
+}
+
+static uint32_t try_scramble_frame(void)
+{
+    return try_frame(sdsl_scramble_frame);
+}
+
+static uint32_t try_descramble_frame(void)
+{
+    return try_frame(sdsl_descramble_frame);
+}
+
+static bool is_level(int32_t sixteenths)
+{
+    return sixteenths >= -15 && sixteenths <= 15 && sixteenths % 2 != 0;
+}
+
+static uint32_t try_activation_level(void)
+{
+    struct sdsl_level r = sdsl_activation_level(number(0, 1));
+    want(r.answer == SDSL_DONE ? r.sixteenths == 9 || r.sixteenths == -9 : r.sixteenths == 0, "gives no level of activation");
+    return r.answer;
+}
+
+static uint32_t try_data_level(void)
+{
+    struct sdsl_level r = sdsl_data_level(number(0, SDSL_CODE_MAX));
+    want(r.answer == SDSL_DONE ? is_level(r.sixteenths) : r.sixteenths == 0, "gives no level");
+    return r.answer;
+}
+
+static uint32_t try_level_code(void)
+{
+    int32_t level = (int32_t)number(-15, 15);
+    struct sdsl_code r = sdsl_level_code(level);
+    want((r.answer == SDSL_DONE) == is_level(level), "takes what is no level, or refuses one");
+    want(r.answer == SDSL_DONE ? r.code <= SDSL_CODE_MAX : r.code == 0, "gives a wrong code");
+    return r.answer;
+}
+
+static uint32_t try_encode(void)
+{
+    uint32_t a = number(0, SDSL_WORD_MAX), b = number(0, SDSL_WORD_MAX), reg = number(0, SDSL_REGISTER_MAX);
+    struct sdsl_encoded r = sdsl_encode(a, b, reg, number(0, SDSL_SYMBOL_MAX));
+    if (r.answer == SDSL_DONE) {
+        want(r.code <= SDSL_CODE_MAX && is_level(r.sixteenths) && r.reg <= SDSL_REGISTER_MAX, "gives a number out of its range");
+    } else {
+        want(r.code == 0 && r.sixteenths == 0 && r.reg == reg, "gives numbers and refuses");
+    }
+    return r.answer;
+}
+
+static uint32_t try_encode_run(void)
+{
+    uint32_t a = number(0, SDSL_WORD_MAX), b = number(0, SDSL_WORD_MAX), reg = number(0, SDSL_REGISTER_MAX);
+    size_t len = take(2) % 200;
+    struct lent *symbols = lend(len, false), *codes = lend(length(len), true);
+    fill(symbols);
+    fill(codes);
+    bool right = take8() % 8 != 0;
+    for (size_t i = 0; right && i < len; i++) {
+        symbols->p[i] %= SDSL_SYMBOL_MAX + 1;
+    }
+    keep();
+    struct sdsl_encoded_run r = sdsl_encode_run(a, b, reg, symbols->p, symbols->len, codes->p, codes->len);
+    want(r.answer == SDSL_DONE ? r.reg <= SDSL_REGISTER_MAX : r.reg == reg, "gives a wrong register");
+    return r.answer;
+}
+
+static uint32_t try_samples(uint32_t (*f)(const uint8_t *, size_t, uint8_t *, size_t, const uint8_t *, size_t, uint8_t *, size_t))
+{
+    size_t len = 4 * (take8() % 12);
+    struct lent *c = lend(length(SDSL_COEFFICIENT_OCTETS), false), *h = lend(length(SDSL_HISTORY_OCTETS), true);
+    struct lent *from = lend(length(len), false), *to = lend(take8() % 16 == 0 ? length(len) : from->len, true);
+    fill_numbers(c, SDSL_COEFFICIENT_MIN, SDSL_COEFFICIENT_MAX);
+    fill_numbers(h, SDSL_SAMPLE_MIN, SDSL_SAMPLE_MAX);
+    fill_numbers(from, SDSL_SAMPLE_MIN, SDSL_SAMPLE_MAX);
+    fill(to);
+    keep();
+    uint32_t answer = f(c->p, c->len, h->p, h->len, from->p, from->len, to->p, to->len);
+    for (size_t i = 0; answer == SDSL_DONE && i + 4 <= to->len; i += 4) {
+        int32_t n = number_at(to->p + i);
+        want(n >= SDSL_SAMPLE_MIN && n <= SDSL_SAMPLE_MAX, "gives a sample out of its range");
+    }
+    return answer;
+}
+
+static uint32_t try_precode(void)
+{
+    return try_samples(sdsl_precode);
+}
+
+static uint32_t try_decode(void)
+{
+    return try_samples(sdsl_decode);
+}
+
+static uint32_t try_shaper(void)
+{
+    int32_t y = (int32_t)number(SDSL_SAMPLE_MIN, SDSL_SAMPLE_MAX);
+    struct sdsl_shaped r = sdsl_shaper(y);
+    want(r.answer == SDSL_DONE ? r.value == (float)y / (float)SDSL_STEPS : r.value == 0.0f, "gives another float");
+    return r.answer;
+}
+
+static bool same_state(struct sdsl_supervisor s, struct sdsl_supervisor t)
+{
+    return s.end == t.end && s.phase == t.phase && s.ticks == t.ticks && s.attempt == t.attempt && s.silence == t.silence &&
+           s.converged == t.converged && s.seen == t.seen;
+}
+
+static bool is_state(struct sdsl_supervisor s)
+{
+    return s.end <= SDSL_NTU && s.phase <= SDSL_PHASE_MAX && s.ticks <= SDSL_STATE_TICKS_MAX && s.attempt <= SDSL_STATE_ATTEMPT_MAX &&
+           s.silence >= SDSL_SILENCE_MIN && s.silence <= SDSL_SILENCE_MAX;
+}
+
+static struct sdsl_supervisor any_state(void)
+{
+    static const uint8_t phases[2][10] = {
+        {SDSL_READY, SDSL_AWAIT, SDSL_HEARING, SDSL_QUIET, SDSL_SC, SDSL_TC, SDSL_FC, SDSL_SETTLING, SDSL_VALID, SDSL_EXCEPTION},
+        {SDSL_READY, SDSL_GAP, SDSL_CR, SDSL_QUIET, SDSL_SR, SDSL_TR, SDSL_SETTLING, SDSL_VALID, SDSL_EXCEPTION, SDSL_EXCEPTION}};
+    struct sdsl_supervisor s;
+    s.end = number(SDSL_LTU, SDSL_NTU);
+    s.phase = s.end <= SDSL_NTU && take8() % 16 != 0 ? phases[s.end][take8() % 10] : number(0, SDSL_PHASE_MAX);
+    s.ticks = number(0, SDSL_STATE_TICKS_MAX);
+    s.attempt = number(0, SDSL_STATE_ATTEMPT_MAX);
+    s.silence = number(SDSL_SILENCE_MIN, SDSL_SILENCE_MAX);
+    s.converged = number(0, 1);
+    s.seen = number(0, 1);
+    return s;
+}
+
+static uint32_t try_start(void)
+{
+    uint32_t end = number(SDSL_LTU, SDSL_NTU);
+    uint32_t silence = take8() % 4 == 0 ? SDSL_SILENCE_DEFAULT : number(SDSL_SILENCE_MIN, SDSL_SILENCE_MAX);
+    struct sdsl_stepped r = sdsl_start(end, silence);
+    struct sdsl_supervisor zeros = {0, 0, 0, 0, 0, 0, 0};
+    want(r.phase == SDSL_READY && r.attempt == 0, "starts outside Ready");
+    want(r.answer == SDSL_DONE ? is_state(r.state) && r.state.end == end : same_state(r.state, zeros), "gives a wrong state");
+    return r.answer;
+}
+
+static uint32_t try_step(void)
+{
+    struct sdsl_supervisor s = any_state();
+    struct sdsl_stepped r = sdsl_step(s, number(0, SDSL_REPORT_MAX));
+    want(r.answer == SDSL_DONE ? is_state(r.state) && r.phase == r.state.phase && r.attempt <= SDSL_STATE_ATTEMPT_MAX
+                               : same_state(r.state, s) && (r.phase | r.attempt) == 0, "gives a wrong state");
+    return r.answer;
+}
+
+static uint32_t try_run_codes(void)
+{
+    struct sdsl_supervisor s = any_state();
+    struct lent *codes = lend(take(2) % 3000, false);
+    fill(codes);
+    if (take8() % 8 != 0) {
+        for (size_t i = 0; i < codes->len; i++) { /* mostly ticks, so that something happens */
+            codes->p[i] = codes->p[i] < 250 ? SDSL_TICK : codes->p[i] == 255 ? 9 : (uint8_t)(1 + (codes->p[i] + i) % 8);
+        }
+    }
+    keep();
+    struct sdsl_run r = sdsl_run_codes(s, codes->p, codes->len);
+    if (r.answer == SDSL_DONE) {
+        want(is_state(r.state) && r.opened <= codes->len && r.ended <= SDSL_IN_EXCEPTION, "gives a number out of its range");
+        want((r.opened == 0) == (r.ended == SDSL_NONE_OPENED) && (r.opened > 0 || (r.opened_at == 0 && r.ended_at == 0)),
+             "opens none and ends one");
+        want(r.opened == 0 || (r.opened_at < codes->len && r.ended_at < codes->len), "gives a place outside the list");
+    } else {
+        want(same_state(r.state, s) && (r.opened | r.opened_at | r.ended | r.ended_at) == 0, "gives numbers and refuses");
+    }
+    return r.answer;
+}
+
+/* One for each of fuzz_functions, by name. */
+static const struct {
+    const char *name;
+    uint32_t (*call)(void);
+} tries[] = {
+#define TRY(function) {"sdsl_" #function, try_##function}
+    TRY(frame_write), TRY(frame_read), TRY(frame_check), TRY(scramble), TRY(descramble), TRY(scramble_frame), TRY(descramble_frame),
+    TRY(activation_level), TRY(data_level), TRY(level_code), TRY(encode), TRY(encode_run), TRY(precode), TRY(decode), TRY(shaper),
+    TRY(start), TRY(step), TRY(run_codes),
+};
+
+static uint64_t seen[ITEMS(fuzz_functions)][ANSWERS];
+static uint32_t last_answer;
+
+int LLVMFuzzerTestOneInput(const uint8_t *data, size_t size)
+{
+    static uint32_t (*calls[ITEMS(fuzz_functions)])(void);
+    if (calls[0] == NULL) {
+        fence_in();
+        for (unsigned i = 0; i < ITEMS(fuzz_functions); i++) {
+            for (unsigned k = 0; k < ITEMS(tries); k++) {
+                calls[i] = strcmp(tries[k].name, fuzz_functions[i].name) == 0 ? tries[k].call : calls[i];
+            }
+            input.function = i;
+            want(calls[i] != NULL, "is in the header and not tried here");
+        }
+    }
+    input.data = data;
+    input.size = size;
+    input.at = 0;
+    input.function = take8() % ITEMS(fuzz_functions);
+    lent_count = 0;
+    last_answer = calls[input.function]();
+    want(last_answer < ANSWERS && fuzz_functions[input.function].answers >> last_answer & 1,
+         "gives an answer that the header does not list");
+    look_after(last_answer);
+    seen[input.function][last_answer]++;
+    return 0;
+}
+
+#ifndef FUZZ_ENTRY_ONLY
+
+static sigjmp_buf back;
+static volatile sig_atomic_t probing;
+
+static void on_fault(int signal_number)
+{
+    (void)signal_number;
+    if (probing) {
+        siglongjmp(back, 1);
+    }
+    failed("touches memory that it was not lent");
+}
+
+/* Whether this machine, or its emulation, notices a touch at all. */
+static bool faults(volatile uint8_t *p)
+{
+    probing = 1;
+    if (sigsetjmp(back, 1) == 0) {
+        *p = *p;
+        probing = 0;
+        return false;
+    }
+    probing = 0;
+    return true;
+}
+
+/* ---- Inputs from a seed ---- */
+
+#define LONGEST 2600
+struct kept {
+    size_t size;
+    uint8_t data[LONGEST];
+};
+static struct kept corpus[ITEMS(fuzz_functions)][ANSWERS]; /* the latest input that got this answer of this function */
+static uint64_t chance;
+
+static uint64_t any(uint64_t below)
+{
+    chance ^= chance << 13;
+    chance ^= chance >> 7;
+    chance ^= chance << 17;
+    return (chance >> 16) % below;
+}
+
+static void new_input(struct kept *k)
+{
+    k->size = any(16) == 0 ? any(LONGEST) : 64 + any(64);
+    for (size_t i = 0; i < k->size; i++) {
+        k->data[i] = (uint8_t)any(256);
+    }
+}
+
+/* A kept input with a few octets changed, or cut. */
+static void changed_input(struct kept *k)
+{
+    const struct kept *from = &corpus[any(ITEMS(fuzz_functions))][any(ANSWERS)];
+    if (from->size == 0) {
+        new_input(k);
+        return;
+    }
+    *k = *from;
+    for (uint64_t n = 1 + any(6); n > 0; n--) {
+        size_t place = any(k->size);
+        switch (any(4)) {
+        case 0:
+            k->data[place] ^= (uint8_t)(1 << any(8));
+            break;
+        case 1:
+            k->data[place] = (uint8_t)(k->data[place] + 1 - 2 * any(2));
+            break;
+        case 2:
+            k->data[place] = (uint8_t)any(256);
+            break;
+        default:
+            k->size = any(8) == 0 && place > 0 ? place : k->size;
+        }
+    }
+}
+
+int main(int argc, char **argv)
+{
+    input.seed = argc > 1 ? strtoull(argv[1], NULL, 10) : 1;
+    uint64_t inputs = argc > 2 ? strtoull(argv[2], NULL, 10) : 1000000;
+    static struct kept k;
+    chance = input.seed * 0x9e3779b97f4a7c15 + 1;
+    signal(SIGSEGV, on_fault);
+    signal(SIGBUS, on_fault);
+    fence_in();
+    for (unsigned i = 0; i < ITEMS(lents); i++) {
+        if (!faults(lents[i].room - 1) || !faults(lents[i].room + ROOM) || faults(lents[i].room) || faults(lents[i].room + ROOM - 1)) {
+            printf("FAIL: the fences do not hold here\n");
+            return 1;
+        }
+    }
+    for (input.number = 1; input.number <= inputs; input.number++) {
+        if (any(3) == 0) {
+            new_input(&k);
+        } else {
+            changed_input(&k);
+        }
+        LLVMFuzzerTestOneInput(k.data, k.size);
+        struct kept *place = &corpus[input.function][last_answer];
+        if (place->size == 0 || any(4) == 0) {
+            *place = k;
+        }
+    }
+
+    int missing = 0;
+    printf("%llu calls, seed %llu; how often each answer was seen:\n", (unsigned long long)inputs, (unsigned long long)input.seed);
+    for (unsigned i = 0; i < ITEMS(fuzz_functions); i++) {
+        printf("  %-22s", fuzz_functions[i].name);
+        for (unsigned a = 0; a < ANSWERS; a++) {
+            if (fuzz_functions[i].answers >> a & 1) {
+                printf(" %u: %llu%s", a, (unsigned long long)seen[i][a], seen[i][a] == 0 ? " NEVER" : "");
+                missing += seen[i][a] == 0;
+            }
+        }
+        printf("\n");
+    }
+    return missing != 0;
+}
+
+#endif

@@ -1,0 +1,171 @@
+/*
+ * every.c: calls every function of include/sdsl.h with something it takes, and tries its named limits. C11 and C++.
+ * tests/header/test compares the names called here with those that the header declares.
+ */
+#include "sdsl.h"
+
+#include <stdio.h>
+#include <string.h>
+
+static int failed;
+
+static void look(int good, const char *what)
+{
+    printf("%s: %s\n", good ? "pass" : "FAIL", what);
+    failed += !good;
+}
+
+static void frames(void)
+{
+    uint8_t coefficients[SDSL_COEFFICIENT_OCTETS] = {0};
+    uint8_t vendor[SDSL_VENDOR_OCTETS] = {0xF0, 0xF1};
+    uint8_t frame[SDSL_FRAME_OCTETS];
+    look(sdsl_frame_write(SDSL_TRAINING, SDSL_COUNT_MAX, coefficients, sizeof coefficients, 1, SDSL_WORD_MAX, vendor, sizeof vendor, frame,
+                          sizeof frame) == SDSL_DONE && frame[0] == 0x9F, "sdsl_frame_write");
+    look(sdsl_frame_check(frame, sizeof frame) == SDSL_DONE, "sdsl_frame_check");
+    struct sdsl_frame_fields got = sdsl_frame_read(frame, sizeof frame, coefficients, sizeof coefficients, vendor, sizeof vendor);
+    look(got.answer == SDSL_DONE && got.kind == SDSL_TRAINING && got.a == 1 && got.b == SDSL_WORD_MAX, "sdsl_frame_read");
+
+    uint8_t line[SDSL_FRAME_OCTETS], heard[SDSL_FRAME_OCTETS];
+    struct sdsl_scrambled sent = sdsl_scramble_frame(SDSL_NTU, SDSL_SCRAMBLER_MAX, frame, sizeof frame, line, sizeof line);
+    look(sent.answer == SDSL_DONE && memcmp(line, frame, sizeof frame) != 0, "sdsl_scramble_frame");
+    struct sdsl_scrambled back = sdsl_descramble_frame(SDSL_NTU, SDSL_SCRAMBLER_MAX, line, sizeof line, heard, sizeof heard);
+    look(back.state == sent.state && memcmp(heard, frame, sizeof frame) == 0, "sdsl_descramble_frame");
+}
+
+/* Example 7 of document 01: the NTU from state 0, 24 ones: eighteen 1, five 0, one 1. */
+static void runs(void)
+{
+    const uint8_t ones[3] = {0xFF, 0xFF, 0xFF}, line[3] = {0xFF, 0xFF, 0x83};
+    uint8_t out[3];
+    struct sdsl_scrambled sent = sdsl_scramble(SDSL_NTU, SDSL_SCRAMBLER_START, ones, 3, 24, out, 3);
+    look(sent.answer == SDSL_DONE && memcmp(out, line, 3) == 0, "sdsl_scramble");
+    look(sdsl_descramble(SDSL_NTU, SDSL_SCRAMBLER_START, line, 3, 24, out, 3).state == sent.state && memcmp(out, ones, 3) == 0,
+         "sdsl_descramble");
+}
+
+/* Examples 9, 10 and 11. */
+static void symbols(void)
+{
+    const uint8_t two[2] = {5, 3};
+    uint8_t codes[2];
+    look(sdsl_activation_level(1).sixteenths == 9, "sdsl_activation_level");
+    look(sdsl_data_level(SDSL_CODE_MAX).sixteenths == 7, "sdsl_data_level");
+    look(sdsl_level_code(7).code == SDSL_CODE_MAX, "sdsl_level_code");
+    look(sdsl_encode(1, 2, SDSL_REGISTER_START, 5).sixteenths == 13, "sdsl_encode");
+    look(sdsl_encode_run(1, 2, SDSL_REGISTER_START, two, 2, codes, 2).reg == 2 && codes[0] == 10 && codes[1] == 13, "sdsl_encode_run");
+
+    uint8_t coefficients[SDSL_COEFFICIENT_OCTETS] = {0, 0, 1, 0};
+    uint8_t history[SDSL_HISTORY_OCTETS] = {0, 0x20, 1, 0}, past[SDSL_HISTORY_OCTETS] = {0, 0x20, 1, 0};
+    const uint8_t x[SDSL_SAMPLE_OCTETS] = {0, 0x20, 1, 0}, y[SDSL_SAMPLE_OCTETS] = {0, 0x90, 0, 0};
+    uint8_t out[SDSL_SAMPLE_OCTETS];
+    look(sdsl_precode(coefficients, sizeof coefficients, history, sizeof history, x, sizeof x, out, sizeof out) == SDSL_DONE &&
+         memcmp(out, y, sizeof y) == 0, "sdsl_precode");
+    look(sdsl_decode(coefficients, sizeof coefficients, past, sizeof past, y, sizeof y, out, sizeof out) == SDSL_DONE &&
+         memcmp(out, x, sizeof x) == 0, "sdsl_decode");
+    look(sdsl_shaper(-16384).value == -0.125f, "sdsl_shaper");
+}
+
+static void supervisor(void)
+{
+    const uint8_t codes[2] = {SDSL_PRE_ACTIVATION_ENDED, SDSL_CR_BEGINS};
+    struct sdsl_stepped card = sdsl_start(SDSL_LTU, SDSL_SILENCE_MAX);
+    look(card.answer == SDSL_DONE && card.phase == SDSL_READY && card.state.silence == SDSL_SILENCE_MAX, "sdsl_start");
+    look(sdsl_step(card.state, SDSL_PRE_ACTIVATION_ENDED).phase == SDSL_AWAIT, "sdsl_step");
+    struct sdsl_run run = sdsl_run_codes(card.state, codes, sizeof codes);
+    look(run.opened == 1 && run.opened_at == 1 && run.state.phase == SDSL_HEARING, "sdsl_run_codes");
+}
+
+/* Nine texts, each its own, and something for every other number. */
+static void texts(void)
+{
+    int good = 1;
+    for (uint32_t i = 0; i <= SDSL_RESERVED; i++) {
+        for (uint32_t k = 0; k <= SDSL_RESERVED + 1; k++) {
+            good = good && (strcmp(sdsl_answer_text(i), sdsl_answer_text(k)) == 0) == (i == k);
+        }
+    }
+    look(good && strcmp(sdsl_answer_text(9), sdsl_answer_text(UINT32_MAX)) == 0, "sdsl_answer_text");
+}
+
+/* Whether a training frame is written with this count, first coefficient and A. */
+static uint32_t written(uint32_t count, int32_t coefficient, uint32_t a)
+{
+    uint8_t coefficients[SDSL_COEFFICIENT_OCTETS] = {0}, vendor[SDSL_VENDOR_OCTETS] = {0}, frame[SDSL_FRAME_OCTETS];
+    for (int i = 0; i < 4; i++) {
+        coefficients[i] = (uint8_t)((uint32_t)coefficient >> (8 * i));
+    }
+    return sdsl_frame_write(SDSL_TRAINING, count, coefficients, sizeof coefficients, a, a, vendor, sizeof vendor, frame, sizeof frame);
+}
+
+/* What a run of ticks makes of a state: the number of ticks until the phase is left. */
+static int lasts(struct sdsl_supervisor state)
+{
+    uint32_t phase = state.phase;
+    int ticks = 0;
+    while (state.phase == phase && ticks < 70000) {
+        state = sdsl_step(state, SDSL_TICK).state;
+        ticks++;
+    }
+    return ticks;
+}
+
+/* Each named limit is the library's: it is taken, and the next number is not. */
+static void limits(void)
+{
+    look(written(SDSL_COUNT_MIN, 0, 0) == SDSL_DONE && written(SDSL_COUNT_MIN - 1, 0, 0) == SDSL_BAD_COUNT &&
+         written(SDSL_COUNT_MAX, 0, 0) == SDSL_DONE && written(SDSL_COUNT_MAX + 1, 0, 0) == SDSL_BAD_COUNT, "the limits of a count");
+    look(written(SDSL_COUNT_MIN, SDSL_COEFFICIENT_MIN, SDSL_WORD_MAX) == SDSL_DONE &&
+         written(SDSL_COUNT_MIN, SDSL_COEFFICIENT_MAX, 0) == SDSL_DONE &&
+         written(SDSL_COUNT_MIN, SDSL_COEFFICIENT_MIN - 1, 0) == SDSL_OUT_OF_RANGE &&
+         written(SDSL_COUNT_MIN, SDSL_COEFFICIENT_MAX + 1, 0) == SDSL_OUT_OF_RANGE &&
+         written(SDSL_COUNT_MIN, 0, SDSL_WORD_MAX + 1) == SDSL_OUT_OF_RANGE, "the limits of a coefficient and of A and B");
+    look(sdsl_scramble(SDSL_LTU, SDSL_SCRAMBLER_MAX, NULL, 0, 0, NULL, 0).answer == SDSL_DONE &&
+         sdsl_scramble(SDSL_LTU, SDSL_SCRAMBLER_MAX + 1, NULL, 0, 0, NULL, 0).answer == SDSL_OUT_OF_RANGE, "the scrambler's largest state");
+    look(sdsl_encode(0, 0, SDSL_REGISTER_MAX, SDSL_SYMBOL_MAX).answer == SDSL_DONE &&
+         sdsl_encode(0, 0, SDSL_REGISTER_MAX + 1, 0).answer == SDSL_OUT_OF_RANGE &&
+         sdsl_encode(0, 0, 0, SDSL_SYMBOL_MAX + 1).answer == SDSL_OUT_OF_RANGE &&
+         sdsl_data_level(SDSL_CODE_MAX + 1).answer == SDSL_OUT_OF_RANGE, "the largest register, symbol and code");
+    look(sdsl_shaper(SDSL_SAMPLE_MIN).value == -1.0f && sdsl_shaper(SDSL_SAMPLE_MIN - 1).answer == SDSL_OUT_OF_RANGE &&
+         sdsl_shaper(SDSL_SAMPLE_MAX).answer == SDSL_DONE && sdsl_shaper(SDSL_SAMPLE_MAX + 1).answer == SDSL_OUT_OF_RANGE &&
+         sdsl_shaper(9 * SDSL_SIXTEENTH).value == 0.5625f && SDSL_STEPS == -SDSL_SAMPLE_MIN, "the limits of a sample");
+    look(sdsl_start(SDSL_LTU, SDSL_SILENCE_MIN - 1).answer == SDSL_OUT_OF_RANGE &&
+         sdsl_start(SDSL_LTU, SDSL_SILENCE_MAX + 1).answer == SDSL_OUT_OF_RANGE &&
+         sdsl_start(SDSL_LTU, SDSL_SILENCE_DEFAULT).state.silence == SDSL_SILENCE_MIN, "the limits of a silence");
+
+    struct sdsl_supervisor ltu = sdsl_start(SDSL_LTU, SDSL_SILENCE_DEFAULT).state, ntu = sdsl_start(SDSL_NTU, SDSL_SILENCE_DEFAULT).state;
+    look(sdsl_step(ltu, SDSL_REPORT_MAX).answer == SDSL_DONE && sdsl_step(ltu, SDSL_REPORT_MAX + 1).answer == SDSL_UNKNOWN &&
+         sdsl_step(ltu, SDSL_REPORT_MAX).phase == SDSL_PHASE_MAX, "the last report and the last phase");
+    ltu.phase = ntu.phase = SDSL_QUIET;
+    look(lasts(ltu) == SDSL_LTU_QUIET_TICKS && lasts(ntu) == SDSL_NTU_QUIET_TICKS, "the quiet times");
+    ltu.phase = SDSL_HEARING;
+    look(lasts(ltu) == SDSL_ATTEMPT_TICKS, "the longest attempt");
+    ltu.phase = SDSL_SC;
+    ltu.converged = 1;
+    look(lasts(ltu) == SDSL_SC_TICKS, "the least time of S_c");
+    ntu.phase = SDSL_GAP;
+    look(lasts(ntu) == SDSL_GAP_TICKS, "the gap before C_r");
+    ntu.phase = SDSL_CR;
+    look(lasts(ntu) == SDSL_CR_TICKS, "the time of C_r");
+    ntu.phase = SDSL_SETTLING;
+    look(lasts(ntu) == SDSL_SETTLING_TICKS, "the settling time");
+    ntu.ticks = SDSL_STATE_TICKS_MAX;
+    ntu.attempt = SDSL_STATE_ATTEMPT_MAX;
+    look(sdsl_step(ntu, SDSL_CONVERGED).answer == SDSL_DONE, "a state with its largest numbers");
+    ntu.ticks++;
+    look(sdsl_step(ntu, SDSL_CONVERGED).answer == SDSL_OUT_OF_RANGE, "a state with too many ticks");
+    ntu.ticks = 0;
+    ntu.attempt++;
+    look(sdsl_step(ntu, SDSL_CONVERGED).answer == SDSL_OUT_OF_RANGE, "a state with too long an attempt");
+}
+
+int main(void)
+{
+    frames();
+    runs();
+    symbols();
+    supervisor();
+    texts();
+    limits();
+    return failed != 0;
+}
