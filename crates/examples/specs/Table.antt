@@ -83,6 +83,7 @@ pub record Row : Type 0 where
   pub call : Call
   pub due : List ℤ
 
+-- a row of the table
 abbrev pub row : ℕ → Call → List ℤ → Row
 row n c d = record { number = n; call = c; due = d }
 
@@ -90,10 +91,11 @@ row n c d = record { number = n; call = c; due = d }
 abbrev pub first : ℤ → List ℤ
 first z = z ∷ replicate 179 (pos 0)
 
--- 180 coefficients of -2,097,152, and 180 past values of -131,072
+-- 180 coefficients of -2,097,152
 abbrev pub lowest : List ℤ
 lowest = replicate 180 (negℤ (pos 2097152))
 
+-- and 180 past values of -131,072
 abbrev pub furthest : List ℤ
 furthest = replicate 180 (negℤ (pos 131072))
 
