@@ -8,7 +8,7 @@ use Rattle.octets.specs.Signed.{twosOf, numberBits}
 use Rattle.remainder.specs.Register.{registerOf}
 use Rattle.layout.specs.Frame.{trainingSync, finalSync, message}
 use Rattle.scrambler.specs.Run.{runOf}
-use Rattle.symbol.specs.Encoder.{onesLeft, sentAfter, codesOf, lowBits, numberOf}
+use Rattle.symbol.specs.Encoder.{onesLeft, sentAfter, codesOf}
 use Rattle.signal.specs.Signal.{isSignal}
 use Rattle.signal.specs.Shaper.{Exactly}
 use Rattle.signal.proofs.Rounding.{rounds-nearest}
@@ -21,7 +21,7 @@ unfolding fits
 float = record { is-32-bit = tt; value = (refl, refl) }
 
 pub examples : Hold table
-unfolding table Claim Hold given whole levels places onesFrom exponents digitsOf valueOf bitsOf octetsOf twosOf numberBits registerOf trainingSync finalSync message runOf onesLeft sentAfter codesOf lowBits numberOf exactSum
+unfolding table Claim Hold given whole levels places onesFrom exponents digitsOf valueOf bitsOf octetsOf twosOf numberBits registerOf trainingSync finalSync message runOf onesLeft sentAfter codesOf exactSum
 examples =
     (refl, (refl, (refl, (refl, (refl, (refl, (refl, (refl, (refl, (refl, (refl, (refl, (refl, (refl, (refl, (float, (refl, (refl, (refl, (refl, (refl, (refl, (refl, tt)))))))))))))))))))))))
 
