@@ -1,10 +1,10 @@
 -- A frame that `write` wrote is read back by `read`: from the two functions' promises alone. Assumes nothing.
 use mathlib.Core.Path.{_≡_, refl, sym, ap, ap₂, _∙_}
-use mathlib.Core.Bool.{Bool, true, false, not, cond, _||_, true≢false}
+use mathlib.Core.Bool.{Bool, true, false, not, cond, _&&_, _||_, true≢false}
 use mathlib.Core.List.{List}
 use Prim.Native.Nat.{ℕ, zero, suc, _*_, _≤_, _<_}
 use native.Mathlib.Omega.{arith}
-use borrow.Author.Tests.{eq-eqb, eqb-true, ltb-false, not-false}
+use borrow.Author.Tests.{eq-eqb, eqb-true, ltb-false, leb-true, not-false}
 use lib.Dec.{eqb, ltb}
 use lib.IntN.{ℤ, pos}
 use lib.ListN.{length, drop, take, replicate}
@@ -13,9 +13,11 @@ use Rattle.answer.proofs.Laws.{none, passed}
 use Rattle.octets.specs.Bits.{valueOf, bitsOf, octetsOf}
 use Rattle.octets.proofs.Laws.{Octets, octets-length, bits-length, bits-bits, octets-bits}
 use Rattle.remainder.specs.Errors.{flipped}
+use Rattle.ranges.specs.Ranges.{isCoefficient, isWord, every}
+use Rattle.ranges.proofs.Laws.{both}
 use Rattle.layout.specs.Places.{wordA, wordB}
 use Rattle.layout.specs.Frame.{trainingSync, trainingBits, finalBits, fieldOf, coefficientsOf}
-use Rattle.layout.specs.Refusals.{allInRange, hasSync, bitRefusals, writeRefusals, readRefusals}
+use Rattle.layout.specs.Refusals.{hasSync, bitRefusals, writeRefusals, readRefusals}
 use Rattle.layout.proofs.RoundTrip.{training-laid, training-answers, a-back, b-back, used-back, vendor-back, final-laid, final-answers, final-vendor, sound, training-again}
 use Rattle.layout.proofs.OneBit.{one-bit}
 use Rattle.writer.specs.Promises.{Written}
@@ -53,13 +55,13 @@ module _ (count : ℕ) (cs : List ℤ) (a b : ℕ) (vendor frame exit : List ℕ
       let three = none 0 (not (eqb (length frame) 529)) (drop 3 L) (two .1) in
       let four = none 1 (ltb 1 0) (drop 4 L) (three .1) in
       let five = none 2 (ltb count 128 || ltb 180 count) (drop 5 L) (four .1) in
-      let six = none 3 (not (allInRange (take count cs))) (drop 6 L) (five .1) in
-      let seven = none 3 (ltb 2097151 a || ltb 2097151 b) (drop 7 L) (six .1) in
+      let six = none 3 (not (every isCoefficient (take count cs))) (drop 6 L) (five .1) in
+      let seven = none 3 (not (isWord a && isWord b)) (drop 7 L) (six .1) in
       let l : length cs ≡ 180 = eqb-true _ _ (not-false _ (one .0)) in
       let lv : length vendor ≡ 16 = eqb-true _ _ (not-false _ (two .0)) in
       let n : count ≤ 180 = ltb-false 180 count (neither (ltb count 128) (ltb 180 count) (five .0) .1) in
-      let c : allInRange (take count cs) ≡ true = not-false _ (six .0) in
-      let words = neither (ltb 2097151 a) (ltb 2097151 b) (seven .0) in
+      let c : every isCoefficient (take count cs) ≡ true = not-false _ (six .0) in
+      let words = both (isWord a) (isWord b) (not-false _ (seven .0)) in
       let T = trainingBits count cs a b vendor in
       let e : bitsOf exit ≡ T = ap bitsOf (w .left) ∙ training-laid count cs a b vendor n l lv in
       let t = training-answers count cs a b vendor n l lv in
@@ -69,7 +71,7 @@ module _ (count : ℕ) (cs : List ℤ) (a b : ℕ) (vendor frame exit : List ℕ
             g .found ∙ ap₂ foundOf z e
             ∙ ap (λ (s : Bool). cond s (foundIn (valueOf (fieldOf wordA T)) (valueOf (fieldOf wordB T))) foundFinal) (t .1)
             ∙ ap₂ (λ (x y : ℕ). foundIn x y)
-            (a-back count cs a b vendor n l lv (ltb-false 2097151 a (words .0))) (b-back count cs a b vendor n l lv (ltb-false 2097151 b (words .1)));
+            (a-back count cs a b vendor n l lv (leb-true a 2097151 (words .0))) (b-back count cs a b vendor n l lv (leb-true b 2097151 (words .1)));
         coefficients =
             g .coefficients-left ∙ ap₂ (λ (k : ℕ) (x : List ℕ). held k room (coefficientsLeft x room)) z e
             ∙ ap (λ (s : Bool). cond s (coefficientsOf T) room) (t .1) ∙ used-back count cs a b vendor n l lv c;

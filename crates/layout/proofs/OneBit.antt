@@ -1,9 +1,9 @@
 -- A frame with any one of its bits 1 to 4,232 changed no longer answers 0. Assumes nothing.
-use mathlib.Core.Path.{_≡_, refl, sym, ap, ap₂, _∙_, subst}
-use mathlib.Core.Bool.{Bool, true, false, not, _&&_, _||_, false≢true}
+use mathlib.Core.Path.{_≡_, refl, sym, ap, _∙_, subst}
+use mathlib.Core.Bool.{Bool, true, false, not, _&&_, _||_}
 use mathlib.Core.Logic.{_⊎_, inl, inr}
 use mathlib.Core.List.{List, [], _∷_, _++_}
-use Prim.Native.Nat.{ℕ, zero, suc, _+_, _-_, _*_, _≤_, _<_}
+use Prim.Native.Nat.{ℕ, zero, suc, _+_, _-_, _≤_, _<_}
 use native.Mathlib.Decide.{decLt}
 use native.Mathlib.Nat.{not-suc-le-zero, le-of-suc-le-suc, eq-or-lt-of-le, zero-add}
 use native.Mathlib.Omega.{arith}
@@ -13,11 +13,12 @@ use lib.ListN.{length, getD, take, drop, set, replicate, length-set, getD-replic
 use lib.Seq.{getD-take, getD-drop, getD-set-same, take-set-le, take-set-lt, drop-set-lt, drop-set-add, take-add, drop-drop}
 use Rattle.answer.specs.Answer.{answer}
 use Rattle.octets.specs.Bits.{valueOf, part}
-use Rattle.octets.proofs.Digits.{Bits, take-bits, drop-bits}
+use Rattle.octets.proofs.Digits.{Bits}
 use Rattle.remainder.specs.Division.{polynomial, generator, Multiple, Remainder}
 use Rattle.remainder.specs.Errors.{flipped}
 use Rattle.remainder.proofs.Division.{exists}
 use Rattle.remainder.proofs.Errors.{divisible, one-flip, generator-degree, generator-odd}
+use Rattle.ranges.proofs.Laws.{both}
 use Rattle.layout.specs.Places.{sync, check, pad}
 use Rattle.layout.specs.Frame.{trainingSync, finalSync, fieldOf, messageOf}
 use Rattle.layout.specs.Refusals.{bitRefusals, hasSync}
@@ -56,10 +57,6 @@ apart-is w x (suc n) i e h f =
     let b = both (not (eqb (valueOf (flipped w n)) (valueOf x))) (apart-at w x n) e in
     pick (eq-or-lt-of-le (le-of-suc-le-suc h)) (b .0) (λ l. apart-is w x n i (b .1) l f)
   where
-    both : (s t : Bool) → (s && t) ≡ true → (s ≡ true) × (t ≡ true)
-    both true t e = (refl, e)
-    both false t e = absurd (false≢true e)
-
     pick : (i ≡ n) ⊎ (i < n) → not (eqb (valueOf (flipped w n)) (valueOf x)) ≡ true → (i < n → ⊥) → ⊥
     pick (inl g) d k = eqb-false _ _ (not-true _ d) (ap (λ (j : ℕ). valueOf (flipped w j)) (sym g) ∙ f)
     pick (inr l) d k = k l

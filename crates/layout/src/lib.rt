@@ -61,11 +61,5 @@ pub const TRAINING: u32 = 0;
 
 pub const FINAL: u32 = 1;
 
-// The least and the largest coefficient, the largest A or B, the fewest coefficients in use.
-pub const LEAST_COEFFICIENT: i32 = -2097152;
-
-pub const LARGEST_COEFFICIENT: i32 = 2097151;
-
-pub const LARGEST_WORD: u32 = 2097151;
-
+// The fewest coefficients in use.
 pub const FEWEST: u32 = 128;

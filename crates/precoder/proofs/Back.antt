@@ -14,10 +14,11 @@ use Rattle.answer.proofs.Laws.{none, given}
 use Rattle.precoder.specs.declared.Precoded.{Precoded}
 use Rattle.precoder.specs.declared.Decoded.{Decoded}
 use Rattle.precoder.specs.Octets.{signed, unsigned, valuesOf, octetsOf}
-use Rattle.signal.specs.Signal.{isSignal, every, pastAfter}
+use Rattle.ranges.specs.Ranges.{every}
+use Rattle.signal.specs.Signal.{isSignal, pastAfter}
 use Rattle.precoder.specs.Precoder.{Sends, Receives, outputOf, either, Precodes, Decodes}
 use Rattle.precoder.specs.Runs.{pastAfterAll, SendsAll, outputsOf, inputsOf, lengthsRight, rangesRight, runTests, PrecodesRun, DecodesRun}
-use Rattle.signal.proofs.Range.{and-true, range-mag}
+use Rattle.ranges.proofs.Laws.{both, range-mag}
 use Rattle.precoder.proofs.Signals.{sends-unique, sends-output, receives-unique, comes-back, all-in}
 use Rattle.precoder.proofs.Quads.{signed-unsigned, unsigned-signed, octets-length}
 use Rattle.precoder.proofs.Turns.{lengths-are, ranges-are}
@@ -49,7 +50,7 @@ module _ (coefficients : List ℤ) where
   unfolding outputsOf inputsOf every
   all-back past [] h = refl
   all-back past (x ∷ xs) h =
-      let p = and-true (isSignal x) (every isSignal xs) h in
+      let p = both (isSignal x) (every isSignal xs) h in
       ap₂ (λ (a : ℤ) (l : List ℤ). a ∷ l) (comes-back coefficients past x (p .0)) (all-back (pastAfter past (outputOf coefficients past x)) xs (p .1))
 
   -- every output is in range
@@ -88,7 +89,7 @@ pub values-octets : (zs : List ℤ) → every isSignal zs ≡ true → valuesOf 
 unfolding valuesOf octetsOf every
 values-octets [] h = refl
 values-octets (z ∷ zs) h =
-    let p = and-true (isSignal z) (every isSignal zs) h in
+    let p = both (isSignal z) (every isSignal zs) h in
     let small : mag z < 2147483648 = omega (arith, range-mag 131071 z (p .0)) in
     ap₂ (λ (a : ℤ) (l : List ℤ). a ∷ l) (ap signed (four (unsigned z) (unsigned-small z small)) ∙ signed-unsigned z small) (values-octets zs (p .1))
 

@@ -10,10 +10,11 @@ use lib.IntN.{ℤ}
 use lib.ListN.{length, take, drop}
 use lib.Seq.{take-all, length-take-le}
 use Rattle.precoder.specs.Octets.{valueAt, valuesOf, octetsOf}
-use Rattle.signal.specs.Signal.{isSignal, isCoefficient, every, pastAfter}
+use Rattle.ranges.specs.Ranges.{isCoefficient, every}
+use Rattle.signal.specs.Signal.{isSignal, pastAfter}
 use Rattle.precoder.specs.Precoder.{outputOf, inputOf}
 use Rattle.precoder.specs.Runs.{pastAfterAll, outputsOf, inputsOf, lengthsRight, rangesRight}
-use Rattle.signal.proofs.Range.{and-true}
+use Rattle.ranges.proofs.Laws.{both}
 use Rattle.precoder.proofs.Quads.{quad-next, quad-end, written-next, octets-append}
 
 -- ---- the checks
@@ -21,16 +22,16 @@ use Rattle.precoder.proofs.Quads.{quad-next, quad-end, written-next, oc
 pub lengths-are : (coefficients history symbols room : List ℕ) → lengthsRight coefficients history symbols room ≡ true
     → (length coefficients ≡ 720) × (length history ≡ 720) × (length symbols % 4 ≡ 0) × (length room ≡ length symbols)
 lengths-are coefficients history symbols room e =
-    let p = and-true (eqb (length coefficients) 720) (eqb (length history) 720 && (eqb (length symbols % 4) 0 && eqb (length room) (length symbols))) e in
-    let q = and-true (eqb (length history) 720) (eqb (length symbols % 4) 0 && eqb (length room) (length symbols)) (p .1) in
-    let r = and-true (eqb (length symbols % 4) 0) (eqb (length room) (length symbols)) (q .1) in
+    let p = both (eqb (length coefficients) 720) (eqb (length history) 720 && (eqb (length symbols % 4) 0 && eqb (length room) (length symbols))) e in
+    let q = both (eqb (length history) 720) (eqb (length symbols % 4) 0 && eqb (length room) (length symbols)) (p .1) in
+    let r = both (eqb (length symbols % 4) 0) (eqb (length room) (length symbols)) (q .1) in
     (eqb-true _ _ (p .0), eqb-true _ _ (q .0), eqb-true _ _ (r .0), eqb-true _ _ (r .1))
 
 pub ranges-are : (coefficients past symbols : List ℤ) → rangesRight coefficients past symbols ≡ true
     → (every isCoefficient coefficients ≡ true) × (every isSignal past ≡ true) × (every isSignal symbols ≡ true)
 ranges-are coefficients past symbols e =
-    let p = and-true (every isCoefficient coefficients) (every isSignal past && every isSignal symbols) e in
-    let q = and-true (every isSignal past) (every isSignal symbols) (p .1) in
+    let p = both (every isCoefficient coefficients) (every isSignal past && every isSignal symbols) e in
+    let q = both (every isSignal past) (every isSignal symbols) (p .1) in
     (p .0, q .0, q .1)
 
 -- a past keeps its 180 outputs

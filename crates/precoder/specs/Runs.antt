@@ -8,7 +8,8 @@ use lib.IntN.{ℤ}
 use lib.ListN.{length}
 use Rattle.answer.specs.Answer.{Refusal, refuse, answer, held}
 use Rattle.precoder.specs.Octets.{valuesOf, octetsOf}
-use Rattle.signal.specs.Signal.{isSignal, isCoefficient, every, pastAfter}
+use Rattle.ranges.specs.Ranges.{isCoefficient, every}
+use Rattle.signal.specs.Signal.{isSignal, pastAfter}
 use Rattle.precoder.specs.Precoder.{Sends, outputOf, inputOf}
 
 -- the past after these outputs, first in time first

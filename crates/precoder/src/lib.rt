@@ -6,7 +6,8 @@ ghost use Prim.Native.Nat.{_+_, _*_, _%_, _<_, _≤_};
 ghost use lib.IntN.{_*ℤ_};
 ghost use lib.ListN.{length, take, drop};
 ghost use Rattle.answer.specs.Answer.{answer};
-ghost use Rattle.signal.specs.Signal.{isSignal, isCoefficient, every, pastAfter};
+ghost use Rattle.ranges.specs.Ranges.{isCoefficient, every};
+ghost use Rattle.signal.specs.Signal.{isSignal, pastAfter};
 ghost use Rattle.precoder.specs.Precoder.{exactSum, Sends, Receives, symbolTests, Precodes, Decodes};
 ghost use Rattle.precoder.specs.Octets.{signed, unsigned, valueAt, valuesOf, octetsOf};
 ghost use Rattle.precoder.specs.Runs.{pastAfterAll, outputsOf, inputsOf, lengthsRight, rangesRight, PrecodesRun, DecodesRun};
@@ -48,17 +49,17 @@ fn sum(coefficients: &[i32; 180], history: &[i32; 180]) -> i64
 fn checked(z: i32, coefficients: &[i32; 180], history: &[i32; 180]) -> u32
     ensures { λ r. ⌜ r ≡ answer (symbolTests (now (coefficients .entry)) (now (history .entry)) z) ⌝ }
 {
-    if !signal::in_range(z, signal::LOWEST, signal::HIGHEST) {
+    if !ranges::in_range(z, signal::LOWEST, signal::HIGHEST) {
         return answer::RANGE;
     }
-    if !signal::all_in_range(
+    if !ranges::all_in_range(
         coefficients,
-        signal::LOWEST_COEFFICIENT,
-        signal::HIGHEST_COEFFICIENT,
+        ranges::LOWEST_COEFFICIENT,
+        ranges::HIGHEST_COEFFICIENT,
     ) {
         return answer::RANGE;
     }
-    if !signal::all_in_range(history, signal::LOWEST, signal::HIGHEST) {
+    if !ranges::all_in_range(history, signal::LOWEST, signal::HIGHEST) {
         return answer::RANGE;
     }
     answer::DONE
@@ -205,7 +206,7 @@ fn words_in_range(octets: &[u8]) -> bool
     let count = octets.len() / 4;
     let mut i = 0;
     while i < count {
-        if !signal::in_range(word(octets, i), signal::LOWEST, signal::HIGHEST) {
+        if !ranges::in_range(word(octets, i), signal::LOWEST, signal::HIGHEST) {
             return false;
         }
         i += 1;
@@ -234,14 +235,14 @@ fn ranges_right(coefficients: &[i32; 180], history: &[i32; 180], symbols: &[u8])
     requires { ⌜ length (now symbols) % 4 ≡ 0 ⌝ }
     ensures { λ r. ⌜ r ≡ rangesRight (now (coefficients .entry)) (now (history .entry)) (valuesOf (now (symbols .entry))) ⌝ }
 {
-    if !signal::all_in_range(
+    if !ranges::all_in_range(
         coefficients,
-        signal::LOWEST_COEFFICIENT,
-        signal::HIGHEST_COEFFICIENT,
+        ranges::LOWEST_COEFFICIENT,
+        ranges::HIGHEST_COEFFICIENT,
     ) {
         return false;
     }
-    if !signal::all_in_range(history, signal::LOWEST, signal::HIGHEST) {
+    if !ranges::all_in_range(history, signal::LOWEST, signal::HIGHEST) {
         return false;
     }
     words_in_range(symbols)

@@ -9,11 +9,11 @@ use lib.ListN.{length, length-append}
 use Rattle.answer.specs.Answer.{refuse, answer}
 use Rattle.answer.proofs.Laws.{none, given}
 use Rattle.octets.proofs.Digits.{Bits, nil-bits, digits-bits}
+use Rattle.ranges.proofs.Laws.{both}
 use Rattle.symbol.specs.declared.Encoder.{Encoder}
 use Rattle.symbol.specs.declared.Step.{Step}
 use Rattle.symbol.specs.declared.Run.{Run}
 use Rattle.symbol.specs.Encoder.{x1, codeOf, codesOf, sentAfter, registerOf, heldIn, encoderIn, symbolsIn, withRegister, startOf, Stepped, Ran}
-use Rattle.symbol.proofs.Runs.{and-true}
 use Rattle.symbol.proofs.Sent.{Agree, agree-kept, held-sent, sent-bits, code-agree, register-agree, codes-joined, sent-joined, codes-from-register, register-from-register}
 
 -- what a run that answered 0 has shown and written
@@ -41,7 +41,7 @@ symbols-joined : (first second : List ℕ) → symbolsIn first ≡ true → symb
 unfolding symbolsIn
 symbols-joined [] second p q = q
 symbols-joined (s ∷ first) second p q =
-    let h = and-true (leb s 7) (symbolsIn first) p in
+    let h = both (leb s 7) (symbolsIn first) p in
     rw (h .0) (symbols-joined first second (h .1) q)
 
 -- two runs, the second from the state that the first handed back, are one run of the joined symbols

@@ -1,6 +1,6 @@
 -- Laws of steps and runs: what one turn adds to a run. Assumes nothing.
-use mathlib.Core.Path.{_≡_, refl, ap, _∙_}
-use mathlib.Core.Bool.{Bool, true, false, _&&_}
+use mathlib.Core.Path.{_≡_, ap, _∙_}
+use mathlib.Core.Bool.{true, false}
 use mathlib.Core.List.{List, [], _∷_, _++_, append-nil}
 use Prim.Native.Nat.{ℕ, zero, suc, _+_, _/_, _^_, _≤_, _<_}
 use native.Mathlib.Omega.{arith}
@@ -12,22 +12,18 @@ use lib.ListN.{length, getD, take, drop, set}
 use lib.Seq.{take-suc-set, drop-cons, drop-length, take-length, append-snoc}
 use Rattle.octets.specs.Bits.{valueOf}
 use Rattle.octets.proofs.Digits.{Bits, cons-bits, digits-bits, digits-take, value-digits, value-part}
+use Rattle.ranges.proofs.Laws.{both}
 use Rattle.symbol.specs.declared.Encoder.{Encoder}
 use Rattle.symbol.specs.Encoder.{x1, codeOf, sentAfter, codesOf, registerOf, heldIn, encoderIn, symbolsIn, withRegister}
 use Rattle.symbol.proofs.Sent.{bit-below, codes-from-register, register-from-register}
 
 -- ---- the tests
 
--- two tests that both hold
-pub and-true : (s t : Bool) → s && t ≡ true → (s ≡ true) × (t ≡ true)
-and-true true t e = (refl, e)
-and-true false t e = let z : _≡_ {A = Bool} false true = e in (cc, cc)
-
 -- an encoder in range has A, B and the register in theirs
 pub encoder-in : (e : Encoder) → encoderIn e ≡ true → (e .a ≤ 2097151) × (e .b ≤ 2097151) × (e .register < 2 ^ 20)
 encoder-in e h =
-    let p = and-true _ _ h in
-    let q = and-true _ _ (p .1) in
+    let p = both _ _ h in
+    let q = both _ _ (p .1) in
     (leb-true _ _ (p .0), leb-true _ _ (q .0), ltb-true _ _ (q .1))
 
 -- a code has four bits
@@ -54,8 +50,8 @@ symbols-end symbols i h k =
 pub symbol-in : (symbols : List ℕ) (i : ℕ) → i < length symbols → symbolsIn symbols ≡ true → getD symbols i 0 ≤ 7
 unfolding symbolsIn
 symbol-in [] i h e = omega arith
-symbol-in (s ∷ symbols) zero h e = leb-true s 7 (and-true (leb s 7) (symbolsIn symbols) e .0)
-symbol-in (s ∷ symbols) (suc i) h e = symbol-in symbols i (omega arith) (and-true (leb s 7) (symbolsIn symbols) e .1)
+symbol-in (s ∷ symbols) zero h e = leb-true s 7 (both (leb s 7) (symbolsIn symbols) e .0)
+symbol-in (s ∷ symbols) (suc i) h e = symbol-in symbols i (omega arith) (both (leb s 7) (symbolsIn symbols) e .1)
 
 -- ---- a turn of a run
 

@@ -8,6 +8,7 @@ use lib.IntN.{pos}
 use lib.ListN.{length, getD, take}
 use Rattle.answer.specs.Answer.{Refusal, refuse, wrongLength, answer, held}
 use Rattle.octets.specs.Bits.{digitsOf, valueOf}
+use Rattle.ranges.specs.Ranges.{isWord}
 use Rattle.symbol.specs.Levels.{dataLevels, levelAt}
 use Rattle.symbol.specs.declared.Encoder.{Encoder}
 use Rattle.symbol.specs.declared.Step.{Step}
@@ -63,7 +64,7 @@ heldIn register = digitsOf 20 register
 
 -- whether A and B run from 0 to 2,097,151 and the register is below 2^20
 abbrev pub encoderIn : Encoder → Bool
-encoderIn e = leb (e .a) 2097151 && (leb (e .b) 2097151 && ltb (e .register) (2 ^ 20))
+encoderIn e = isWord (e .a) && (isWord (e .b) && ltb (e .register) (2 ^ 20))
 
 -- of a step: A, B or the register out of range, or a symbol over 7, is 4
 abbrev pub stepTests : Encoder → ℕ → List Refusal

@@ -11,10 +11,11 @@ use mir.Syntax.{w32}
 use mir.Val.{SFits, toZ, ofZ}
 use mir.Facts.{toZ-ofZ}
 use Rattle.precoder.specs.Octets.{valueAt, valuesOf, octetsOf}
-use Rattle.signal.specs.Signal.{isSignal, isCoefficient, every, pastAfter}
+use Rattle.ranges.specs.Ranges.{isCoefficient, every}
+use Rattle.signal.specs.Signal.{isSignal, pastAfter}
 use Rattle.precoder.specs.Precoder.{inputOf}
 use Rattle.precoder.specs.Runs.{pastAfterAll, inputsOf}
-use Rattle.signal.proofs.Range.{and-true}
+use Rattle.ranges.proofs.Laws.{both}
 use Rattle.precoder.proofs.Quads.{written-length}
 use Rattle.precoder.proofs.Signals.{input-is, past-in}
 use Rattle.precoder.proofs.Turns.{ranges-are, remains, written-turn, written-end, inputs-turn, past-in-turn, inputs-end, past-in-end}
@@ -69,7 +70,7 @@ module _ (c : tie.After-word Inv-loop μ-loop) where
   -- it and those after it are in range
   symbols-in : (isSignal (valueAt ys (4 * at)) ≡ true) × (every isSignal (valuesOf (drop (4 * (at + 1)) ys)) ≡ true)
   symbols-in =
-      and-true (isSignal (valueAt ys (4 * at))) (every isSignal (valuesOf (drop (4 * (at + 1)) ys)))
+      both (isSignal (valueAt ys (4 * at))) (every isSignal (valuesOf (drop (4 * (at + 1)) ys)))
       (sym (remains isSignal ys at room) ∙ c .before .before .loop .inv .5)
 
 receive-requires : tie.Need-receive-requires Inv-loop μ-loop

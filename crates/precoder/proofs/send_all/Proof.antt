@@ -11,7 +11,8 @@ use mir.Syntax.{w32}
 use mir.Val.{SFits, toZ, ofZ}
 use mir.Facts.{toZ-ofZ}
 use Rattle.precoder.specs.Octets.{valueAt, valuesOf, octetsOf}
-use Rattle.signal.specs.Signal.{isSignal, isCoefficient, every, pastAfter}
+use Rattle.ranges.specs.Ranges.{isCoefficient, every}
+use Rattle.signal.specs.Signal.{isSignal, pastAfter}
 use Rattle.precoder.specs.Precoder.{outputOf}
 use Rattle.precoder.specs.Runs.{pastAfterAll, outputsOf}
 use Rattle.precoder.proofs.Quads.{written-length}

@@ -11,7 +11,8 @@ use mir.Syntax.{w32}
 use mir.Val.{SFits}
 use mir.Facts.{toZ-ofZ}
 use Rattle.precoder.specs.Octets.{valueAt, valuesOf}
-use Rattle.signal.specs.Signal.{isSignal, every}
+use Rattle.ranges.specs.Ranges.{every}
+use Rattle.signal.specs.Signal.{isSignal}
 use Rattle.precoder.proofs.Quads.{quad-end}
 use Rattle.precoder.proofs.Turns.{remains}
 use Rattle.precoder.proofs.words_in_range.Statement.{statement}
