@@ -14,7 +14,9 @@ returns-2 : tie.Need-returns-2
 returns-2 c = record { answered = simp (eq-eqb _ _ (c .before .before .before .before .pre .0), eq-eqb _ _ (c .before .before .before .before .pre .1), eq-eqb _ _ (c .before .before .before .before .pre .2), le-ltb _ _ (c .before .if1 .left), lt-ltb _ _ (c .if2 .taken)); left = refl }
 
 slice-aggregate-all-in-range : tie.Need-slice-aggregate-all-in-range
-slice-aggregate-all-in-range c = sym (length-take-le _ _ (omega (arith, c .before .if2 .left, c .before .before .before .before .before .pre .0)))
+slice-aggregate-all-in-range c =
+    let s = c .before .before .before .before .before in
+    sym (length-take-le (s .args .count) (s .args .coefficients .now) (omega (arith, c .before .if2 .left, s .pre .0)))
 
 all-in-range-requires : tie.Need-all-in-range-requires
 all-in-range-requires c κs = search needs
