@@ -121,7 +121,7 @@ pub fn decode(y: i32, coefficients: &[i32; 180], history: &mut [i32; 180]) -> De
 }
 
 // Whether every number of a run of octets is in the range of x and y.
-fn words_in_range(octets: &[u8]) -> bool
+fn numbers_in_range(octets: &[u8]) -> bool
     requires { ⌜ length (now octets) % 4 ≡ 0 ⌝ }
     ensures { λ r. ⌜ r ≡ every isSignal (numbersOf (now (octets .entry))) ⌝ }
 {
@@ -167,7 +167,7 @@ fn ranges_right(coefficients: &[i32; 180], history: &[i32; 180], symbols: &[u8])
     if !ranges::all_in_range(history, signal::LOWEST, signal::HIGHEST) {
         return false;
     }
-    words_in_range(symbols)
+    numbers_in_range(symbols)
 }
 
 // Symbols in range, one after the other.

@@ -1,5 +1,4 @@
--- Ranges that the frame and the symbols share (document 01): "A coefficient is a number from -2,097,152 to 2,097,151", "A and B run from 0 to
--- 2,097,151".
+-- Ranges that the frame and the symbols share (document 01, "The activation frame"): of a coefficient, and of A and B.
 use mathlib.Core.Bool.{Bool, true, _&&_}
 use mathlib.Core.List.{List, [], _∷_}
 use Prim.Native.Nat.{ℕ}

@@ -1,4 +1,4 @@
--- `precoder::words_in_range` meets its contract. The invariant: what remains decides. Assumes nothing.
+-- `precoder::numbers_in_range` meets its contract. The invariant: what remains decides. Assumes nothing.
 use mathlib.Core.Path.{_≡_, refl, sym, ap, _∙_}
 use mathlib.Core.Bool.{Bool, _&&_}
 use mathlib.Core.List.{List}
@@ -15,8 +15,8 @@ use Rattle.numbers.specs.Promises.{numbersOf}
 use Rattle.ranges.specs.Ranges.{every}
 use Rattle.signal.specs.Signal.{isSignal}
 use Rattle.precoder.proofs.Turns.{number-end, remains}
-use Rattle.precoder.proofs.words_in_range.Statement.{statement}
-use Rattle.precoder.proofs.words_in_range.Tie as tie
+use Rattle.precoder.proofs.numbers_in_range.Statement.{statement}
+use Rattle.precoder.proofs.numbers_in_range.Tie as tie
 
 abbrev Inv-loop : tie.InvT-loop
 Inv-loop octets count i₀ i = (4 * i ≤ length octets) × (every isSignal (numbersOf octets) ≡ every isSignal (drop i (numbersOf octets)))
@@ -74,8 +74,8 @@ returns-2 c =
     let os = c .before .before .before .args .octets .now in
     sym (l .inv .1 ∙ ap (every isSignal) (number-end os (l .i) (omega arith)))
 
-pub words-in-range-spec : {M : Type 1} → statement M
-words-in-range-spec =
+pub numbers-in-range-spec : {M : Type 1} → statement M
+numbers-in-range-spec =
     tie.close
     (tie.spec
     Inv-loop
