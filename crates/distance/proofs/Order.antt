@@ -19,7 +19,7 @@ use Rattle.remainder.specs.Division.{polynomial, Remainder, Multiple, generator
 use Rattle.remainder.specs.Register.{stepOf, registerOf}
 use Rattle.remainder.proofs.Division.{small-multiple, computed}
 use Rattle.remainder.proofs.Errors.{polynomial-cons, twice-same, unshifted, generator-degree, generator-odd}
-use Rattle.layout.proofs.RoundTrip.{both}
+use Rattle.ranges.proofs.Laws.{both}
 
 -- the register, given zeros from r on, is 1 at none of n times
 never : ℕ → ℕ → ℕ → ℕ → Bool

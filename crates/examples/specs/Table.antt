@@ -1,10 +1,11 @@
 -- The thirteen examples of document 01 ("Proved examples"): what is called, on what, and what is due. What is due is copied from document 01.
-use mathlib.Core.Bool.{cond}
+use mathlib.Core.Path.{_≡_}
+use mathlib.Core.Bool.{true}
 use mathlib.Core.List.{List, [], _∷_, _++_, map}
-use Prim.Native.Nat.{ℕ, zero, suc, _+_, _-_, _*_, _/_}
-use lib.IntN.{ℤ, pos, negℤ, natAbs}
+use Prim.Native.Nat.{ℕ, zero, suc, _+_, _-_}
+use lib.IntN.{ℤ, pos, negℤ}
 use lib.ListN.{replicate}
-use lib.Signed.{nonNeg}
+use lib.Ieee.{Float, fin}
 use Rattle.octets.specs.Bits.{octetsOf}
 use Rattle.remainder.specs.Division.{checkBits, generator}
 use Rattle.remainder.specs.Register.{registerOf}
@@ -15,6 +16,7 @@ use Rattle.symbol.specs.Levels.{levelAt, dataLevels}
 use Rattle.symbol.specs.Encoder.{codesOf, sentAfter, heldIn}
 use Rattle.symbol.specs.Encoder.{registerOf as encoderRegister}
 use Rattle.signal.specs.Signal.{nearest}
+use Rattle.signal.specs.Shaper.{Exactly}
 use Rattle.precoder.specs.Precoder.{exactSum, outputOf}
 
 -- what an example calls, and on what
@@ -35,8 +37,6 @@ pub data Call : Type 0 where
   rounded : List ℤ → List ℤ → Call
   -- y: coefficients, past outputs, x
   precoded : List ℤ → List ℤ → ℤ → Call
-  -- the value y/131,072 that the shaper's float has exactly, in thousandths
-  shaped : ℤ → Call
 
 -- the numbers of the bits that are not 0, the first having number n
 unfoldable pub onesFrom : ℕ → List ℕ → List ℕ
@@ -75,27 +75,27 @@ given (encoded a b register symbols) =
     levels (codesOf a b (heldIn register) symbols) ++ (pos (encoderRegister (sentAfter (heldIn register) symbols)) ∷ [])
 given (rounded cs past) = nearest (exactSum 180 cs past) ∷ []
 given (precoded cs past x) = outputOf cs past x ∷ []
-given (shaped y) = cond (nonNeg y) (pos (natAbs y * 1000 / 131072)) (negℤ (pos (natAbs y * 1000 / 131072))) ∷ []
 
--- an example's number in document 01, what it calls, and what is due
-pub record Row : Type 0 where
-  pub number : ℕ
-  pub call : Call
-  pub due : List ℤ
-
-abbrev pub row : ℕ → Call → List ℤ → Row
-row n c d = record { number = n; call = c; due = d }
+-- a row: an example's number in document 01, what it calls and the numbers due; or y and the shaper's float due
+pub data Row : Type 0 where
+  row : ℕ → Call → List ℤ → Row
+  shaped : ℕ → ℤ → Float → Row
 
 -- one value in front of 179 zeros
 abbrev pub first : ℤ → List ℤ
 first z = z ∷ replicate 179 (pos 0)
 
--- 180 coefficients of -2,097,152, and 180 past values of -131,072
+-- 180 coefficients of -2,097,152
 abbrev pub lowest : List ℤ
 lowest = replicate 180 (negℤ (pos 2097152))
 
+-- and 180 past values of -131,072
 abbrev pub furthest : List ℤ
 furthest = replicate 180 (negℤ (pos 131072))
+
+-- -0.125 as a float: below zero, 1 times 2 to the power -3
+abbrev pub minusEighth : Float
+minusEighth = fin true 1 (negℤ (pos 3))
 
 -- the thirteen examples, in their order; of an example with several parts a row each
 unfoldable pub table : List Row
@@ -116,7 +116,7 @@ table =
     ∷ row 9 (encoded 1 2 0 (5 ∷ 3 ∷ [])) (whole (13 ∷ 3 ∷ 2 ∷ []))
     ∷ row 10 (precoded (first (pos 65536)) (first (pos 73728)) (pos 73728)) (pos 36864 ∷ [])
     ∷ row 11 (precoded (first (negℤ (pos 131072))) (first (pos 122880)) (pos 122880)) (negℤ (pos 16384) ∷ [])
-    ∷ row 11 (shaped (negℤ (pos 16384))) (negℤ (pos 125) ∷ [])
+    ∷ shaped 11 (negℤ (pos 16384)) minusEighth
     ∷ row 12 (rounded (first (pos 1)) (first (pos 65536))) (pos 1 ∷ [])
     ∷ row 12 (rounded (first (pos 1)) (first (negℤ (pos 65536)))) (pos 0 ∷ [])
     ∷ row 12 (rounded (first (pos 1)) (first (negℤ (pos 65537)))) (negℤ (pos 1) ∷ [])
@@ -126,12 +126,12 @@ table =
     ∷ row 13 (precoded lowest furthest (negℤ (pos 131072))) (negℤ (pos 131072) ∷ [])
     ∷ []
 
--- what the definitions give for every row
-unfoldable pub allGiven : List Row → List (List ℤ)
-allGiven [] = []
-allGiven (r ∷ rs) = given (r .call) ∷ allGiven rs
+-- what a row claims: that the definitions give the numbers due, or that the float due is exactly y/131,072, as the shaper's contract says it
+unfoldable pub Claim : Row → Type 0
+Claim (row n call due) = given call ≡ due
+Claim (shaped n y due) = Exactly due y
 
--- what is due in every row
-unfoldable pub allDue : List Row → List (List ℤ)
-allDue [] = []
-allDue (r ∷ rs) = r .due ∷ allDue rs
+-- that every row's claim holds
+unfoldable pub Hold : List Row → Type 0
+Hold [] = Unit {0}
+Hold (r ∷ rs) = Claim r × Hold rs

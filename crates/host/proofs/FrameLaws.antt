@@ -1,5 +1,5 @@
 -- From reader's promise to the exported one. Assumes nothing.
-use mathlib.Core.Path.{_≡_, refl, sym, ap, ap₂, _∙_, subst}
+use mathlib.Core.Path.{_≡_, refl, sym, ap, _∙_, subst}
 use mathlib.Core.Bool.{Bool, true, false, cond}
 use mathlib.Core.List.{List}
 use Prim.Native.Nat.{ℕ, zero, suc}
@@ -9,14 +9,13 @@ use lib.IntN.{ℤ}
 use lib.ListN.{length}
 use Rattle.answer.specs.Answer.{answer, held}
 use Rattle.answer.proofs.Laws.{kept, given}
-use Rattle.octets.specs.Bits.{valueOf, bitsOf, octetsOf}
-use Rattle.octets.specs.Signed.{numberBits}
+use Rattle.octets.specs.Bits.{valueOf, bitsOf}
 use Rattle.octets.proofs.Numbers.{numbers-length}
 use Rattle.layout.specs.Places.{coefficients, wordA, wordB}
 use Rattle.layout.specs.Frame.{trainingSync, fieldOf, coefficientsOf}
 use Rattle.layout.specs.Refusals.{hasSync, readRefusals}
-use Rattle.numbers.specs.Promises.{numbersLaid}
-use Rattle.numbers.proofs.Laws.{laid-whole}
+use Rattle.numbers.specs.Promises.{numberOctets, NumbersPut}
+use Rattle.numbers.proofs.Laws.{put-whole}
 use Rattle.reader.specs.declared.Found.{Found}
 use Rattle.reader.specs.Promises.{foundOf, coefficientsLeft, vendorOctets, Read}
 use Rattle.host.specs.Frames.{frameReadRefusals, fieldsOf, coefficientOctets, FrameRead}
@@ -78,16 +77,16 @@ module _ (frame os vendor : List ℕ) (cs cs′ : List ℤ) (vendor′ : List �
     found-is : f ≡ by (hasSync trainingSync B) B
     found-is = p .found ∙ ap (λ (k : ℕ). foundOf k B) zero-answer
 
-    left-is : (t : Bool) → hasSync trainingSync B ≡ t → held H os (coefficientOctets B os) ≡ cond t (octetsOf 720 (numberBits 32 (coefficientsOf B))) os
+    left-is : (t : Bool) → hasSync trainingSync B ≡ t → held H os (coefficientOctets B os) ≡ cond t (numberOctets (coefficientsOf B)) os
     left-is t e =
-        given H os (coefficientOctets B os) (sym same ∙ zero-answer) ∙ ap (λ (k : Bool). cond k (octetsOf 720 (numberBits 32 (coefficientsOf B))) os) e
+        given H os (coefficientOctets B os) (sym same ∙ zero-answer) ∙ ap (λ (k : Bool). cond k (numberOctets (coefficientsOf B)) os) e
 
-    pub training-out : (os′ : List ℕ) → f .kind ≡ 0 → os′ ≡ numbersLaid os cs′ → FrameRead frame os vendor (fieldsOf f) os′ vendor′
+    pub training-out : (os′ : List ℕ) → f .kind ≡ 0 → NumbersPut os cs′ os′ → FrameRead frame os vendor (fieldsOf f) os′ vendor′
     training-out os′ k e =
         let t : hasSync trainingSync B ≡ true = by-training (hasSync trainingSync B) B (sym (ap (λ (x : Found). x .kind) found-is) ∙ k) in
         let c : cs′ ≡ coefficientsOf B =
         p .coefficients-left ∙ given A cs (coefficientsLeft B cs) zero-answer ∙ ap (λ (b : Bool). cond b (coefficientsOf B) cs) t in
-        out os′ (e ∙ ap (numbersLaid os) c ∙ laid-whole os (coefficientsOf B) l (numbers-length 22 180 (fieldOf coefficients B)) ∙ sym (left-is true t))
+        out os′ (subst (λ (zs : List ℤ). NumbersPut os zs os′) c e ∙ put-whole os l (coefficientsOf B) (numbers-length 22 180 (fieldOf coefficients B)) ∙ sym (left-is true t))
 
     pub final-out : (f .kind ≡ 0 → ⊥) → FrameRead frame os vendor (fieldsOf f) os vendor′
     final-out k =

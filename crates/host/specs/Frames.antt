@@ -1,14 +1,13 @@
 -- What the exported frame functions promise: those of writer and reader, with the coefficients as 720 octets.
 use mathlib.Core.Path.{_≡_}
 use mathlib.Core.Bool.{cond}
-use mathlib.Core.List.{List, [], _∷_}
+use mathlib.Core.List.{List, _∷_}
 use Prim.Native.Nat.{ℕ}
 use Rattle.answer.specs.Answer.{Refusal, wrongLength, answer, held}
-use Rattle.octets.specs.Bits.{bitsOf, octetsOf}
-use Rattle.octets.specs.Signed.{numberBits}
+use Rattle.octets.specs.Bits.{bitsOf}
 use Rattle.layout.specs.Frame.{trainingSync, coefficientsOf}
 use Rattle.layout.specs.Refusals.{hasSync, writeRefusals, bitRefusals}
-use Rattle.numbers.specs.Promises.{numbersOf}
+use Rattle.numbers.specs.Promises.{numbersOf, numberOctets}
 use Rattle.writer.specs.Promises.{frameOctets}
 use Rattle.reader.specs.declared.Found.{Found}
 use Rattle.reader.specs.Promises.{foundOf, vendorOctets}
@@ -29,7 +28,7 @@ fieldsOf f = record { answer = f .answer; kind = f .kind; a = f .a; b = f .b }
 
 -- the coefficients' octets after reading: written from a training frame, untouched by a final one
 abbrev pub coefficientOctets : List ℕ → List ℕ → List ℕ
-coefficientOctets bits old = cond (hasSync trainingSync bits) (octetsOf 720 (numberBits 32 (coefficientsOf bits))) old
+coefficientOctets bits old = cond (hasSync trainingSync bits) (numberOctets (coefficientsOf bits)) old
 
 -- sdsl_frame_read: what is returned, and what the two lent buffers hold
 pub record FrameRead (frame os vendor : List ℕ) (r : FrameFields) (os′ vendor′ : List ℕ) : Type 0 where

@@ -1,39 +1,27 @@
 -- Lengths of a frame's pieces, and that each is bits. Assumes nothing.
-use mathlib.Core.Path.{_≡_, refl, sym, ap, ap₂, _∙_, subst}
-use mathlib.Core.Bool.{Bool, true, false, _&&_}
-use mathlib.Core.List.{List, [], _∷_, _++_, append-assoc}
-use Prim.Native.Nat.{ℕ, zero, suc, _+_, _-_, _*_, _^_, _≤_, _<_}
+use mathlib.Core.Path.{_≡_, refl, sym, ap, _∙_, subst}
+use mathlib.Core.Bool.{true}
+use mathlib.Core.List.{List, _++_}
+use Prim.Native.Nat.{ℕ, _-_, _≤_}
 use native.Mathlib.Omega.{arith}
 use lib.IntN.{ℤ, pos}
 use lib.ListN.{length, take, replicate, length-append, length-replicate, length-reverse}
 use lib.Seq.{length-take-le}
 use Rattle.octets.specs.Bits.{digitsOf, valueOf, bitsOf}
-use Rattle.octets.proofs.Digits.{Bits, nil-bits, append-bits, digits-length, digits-bits, digits-value, reverse-bits, zeros-bits}
+use Rattle.octets.proofs.Digits.{Bits, append-bits, digits-length, digits-bits, digits-value, reverse-bits, zeros-bits}
 use Rattle.octets.proofs.Laws.{bits-length, bits-bits}
 use Rattle.octets.proofs.Numbers.{number-length, number-bits}
 use Rattle.remainder.specs.Division.{checkBits}
-use Rattle.layout.specs.Refusals.{inRange, allInRange}
+use Rattle.ranges.specs.Ranges.{isCoefficient, every}
+use Rattle.ranges.proofs.Laws.{every-append, every-same}
 use Rattle.layout.specs.Frame.{trainingSync, finalSync, coefficientBits, used, message, checkOf, frameBits}
 
 -- ---- coefficients in range
 
-pub all-append : (cs ds : List ℤ) → allInRange (cs ++ ds) ≡ (allInRange cs && allInRange ds)
-unfolding allInRange
-all-append [] ds = refl
-all-append (c ∷ cs) ds = pick (inRange c) (all-append cs ds)
-  where
-    pick : (t : Bool) → allInRange (cs ++ ds) ≡ (allInRange cs && allInRange ds) → (t && allInRange (cs ++ ds)) ≡ (t && allInRange cs && allInRange ds)
-    pick true e = e
-    pick false e = refl
-
-all-zero : (n : ℕ) → allInRange (replicate n (pos 0)) ≡ true
-unfolding allInRange inRange
-all-zero zero = refl
-all-zero (suc n) = all-zero n
-
 -- the coefficients in use and the zeros behind them
-pub used-range : (count : ℕ) (cs : List ℤ) → allInRange (take count cs) ≡ true → allInRange (used count cs) ≡ true
-used-range count cs e = all-append (take count cs) (replicate (180 - count) (pos 0)) ∙ ap₂ _&&_ e (all-zero (180 - count))
+pub used-range : (count : ℕ) (cs : List ℤ) → every isCoefficient (take count cs) ≡ true → every isCoefficient (used count cs) ≡ true
+used-range count cs e =
+    every-append isCoefficient (take count cs) (replicate (180 - count) (pos 0)) e (every-same isCoefficient (180 - count) (pos 0) refl)
 
 pub used-length : (count : ℕ) (cs : List ℤ) → count ≤ 180 → length cs ≡ 180 → length (used count cs) ≡ 180
 used-length count cs h l =

@@ -18,10 +18,11 @@ use Rattle.remainder.specs.Division.{polynomial, generator, Multiple, Remainder
 use Rattle.remainder.specs.Errors.{flipped}
 use Rattle.remainder.proofs.Division.{exists}
 use Rattle.remainder.proofs.Errors.{divisible, one-flip, generator-degree, generator-odd}
+use Rattle.ranges.proofs.Laws.{both}
 use Rattle.layout.specs.Places.{sync, check, pad}
 use Rattle.layout.specs.Frame.{trainingSync, finalSync, fieldOf, messageOf, checkOf}
 use Rattle.layout.specs.Refusals.{bitRefusals, hasSync}
-use Rattle.layout.proofs.RoundTrip.{both, Sound, sound, field-length, field-bits, training-sync, final-sync, zeros-are}
+use Rattle.layout.proofs.RoundTrip.{Sound, sound, field-length, field-bits, training-sync, final-sync, zeros-are}
 
 -- ---- a part of a list in which one bit is turned over
 

@@ -1,37 +1,34 @@
 -- What is written is read back; what is read with answer 0 is what writing its fields gives; a final frame's payload is free. All over
 -- the definitions. Assumes nothing.
-use mathlib.Core.Path.{_≡_, refl, sym, ap, ap₂, _∙_, subst}
-use mathlib.Core.Bool.{Bool, true, false, not, _&&_, _||_, false≢true, true≢false}
-use mathlib.Core.List.{List, [], _∷_, _++_, append-assoc, reverse, reverse-reverse}
-use Prim.Native.Nat.{ℕ, zero, suc, _+_, _-_, _*_, _%_, _^_, _≤_, _<_}
+use mathlib.Core.Path.{_≡_, refl, sym, ap, ap₂, _∙_}
+use mathlib.Core.Bool.{Bool, true, false, not, _&&_, _||_}
+use mathlib.Core.List.{List, [], _∷_, _++_, reverse, reverse-reverse}
+use Prim.Native.Nat.{ℕ, zero, _+_, _^_, _≤_, _<_}
 use native.Mathlib.Nat.{mod-eq-of-lt}
 use native.Mathlib.Omega.{arith}
-use borrow.Author.Tests.{eq-eqb, eqb-true, leb-true, not-true, not-false}
-use lib.Dec.{eqb, lit≤, lit<}
-use lib.IntN.{ℤ, pos, negsuc}
-use lib.ListN.{length, getD, take, drop, replicate, length-append, length-drop, length-replicate, length-reverse, take-append-drop}
-use lib.Seq.{take-all, take-at, drop-at, take-add, length-take-le}
+use borrow.Author.Tests.{eq-eqb, eqb-true, not-false}
+use lib.Dec.{eqb, lit≤}
+use lib.IntN.{ℤ, pos}
+use lib.ListN.{length, getD, take, drop, replicate, length-drop, length-replicate, length-reverse}
+use lib.Seq.{take-all, take-add, length-take-le}
 use lib.Signed.{mag}
 use Rattle.answer.specs.Answer.{answer, refuse}
 use Rattle.answer.proofs.Laws.{none}
 use Rattle.octets.specs.Bits.{digitsOf, valueOf, bitsOf, octetsOf, part}
 use Rattle.octets.specs.Signed.{numbersIn}
-use Rattle.octets.proofs.Digits.{Bits, digits-length, digits-bits, digits-value, value-digits, value-one, take-bits, drop-bits, zeros-bits, zeros-value, reverse-bits}
-use Rattle.octets.proofs.Laws.{Octets, bits-length, bits-bits, bits-octets, octets-bits, octets-length, octets-are}
+use Rattle.octets.proofs.Digits.{Bits, digits-value, value-digits, value-one, take-bits, drop-bits, zeros-bits, zeros-value, reverse-bits}
+use Rattle.octets.proofs.Laws.{Octets, bits-octets, octets-bits}
 use Rattle.octets.proofs.Numbers.{numbers-length, numbers-back, numbers-again}
-use Rattle.octets.proofs.Fields.{part-part}
 use Rattle.remainder.specs.Division.{polynomial, checkBits, generator}
 use Rattle.remainder.proofs.Division.{exists}
 use Rattle.remainder.proofs.Errors.{check-value, generator-degree}
 use Rattle.layout.specs.Places.{sync, coefficients, wordA, wordB, vendor, reserved, check, pad}
 use Rattle.layout.specs.Frame.{trainingSync, finalSync, coefficientBits, used, message, checkOf, frameBits, trainingBits, finalBits, fieldOf, messageOf, coefficientsOf}
-use Rattle.layout.specs.Refusals.{inRange, allInRange, hasSync, bitRefusals}
-use Rattle.layout.proofs.Laws.{used-length, used-range, message-length, message-bits, check-length, check-bits, frame-length, frame-bits, training-length, final-length, training-bits, final-bits}
+use Rattle.ranges.specs.Ranges.{isCoefficient, every}
+use Rattle.ranges.proofs.Laws.{mag-at}
+use Rattle.layout.specs.Refusals.{hasSync, bitRefusals}
+use Rattle.layout.proofs.Laws.{used-length, used-range, message-length, message-bits, frame-length, frame-bits, training-length, final-length, training-bits, final-bits}
 use Rattle.layout.proofs.Fields.{sync-field, message-field, check-field, pad-field, coefficients-field, a-field, b-field, vendor-field, reserved-field}
-
-pub both : (s t : Bool) → (s && t) ≡ true → (s ≡ true) × (t ≡ true)
-both true t e = (refl, e)
-both false t e = absurd (false≢true e)
 
 -- ---- a frame with any message has the right check bits and a clear pad
 
@@ -89,15 +86,8 @@ module _ (m : List ℕ) (l : length m ≡ 4197) (bm : Bits m) where
 
 -- ---- coefficients there and back
 
-pub range-mag : (cs : List ℤ) → allInRange cs ≡ true → (i : ℕ) → mag (getD cs i (pos 0)) < 2 ^ 21
-unfolding allInRange inRange
-range-mag [] e i = lit< tt
-range-mag (c ∷ cs) e zero = one c (both (inRange c) (allInRange cs) e .0)
-  where
-    one : (c : ℤ) → inRange c ≡ true → mag c < 2 ^ 21
-    one (pos n) e = omega (arith, leb-true n 2097151 e)
-    one (negsuc n) e = omega (arith, leb-true n 2097151 e)
-range-mag (c ∷ cs) e (suc i) = range-mag cs (both (inRange c) (allInRange cs) e .1) i
+range-mag : (cs : List ℤ) → every isCoefficient cs ≡ true → (i : ℕ) → mag (getD cs i (pos 0)) < 2 ^ 21
+range-mag cs e i = omega (arith, mag-at 2097151 cs i e)
 
 -- ---- a training frame that was written
 
@@ -144,7 +134,7 @@ module _ (count : ℕ) (cs : List ℤ) (a b : ℕ) (v : List ℕ) (n : count ≤
       ap (octetsOf 16) (vendor-field U a b v (replicate 67 0) U-length lv refl trainingSync training-length)
       ∙ ap (λ (k : ℕ). octetsOf k (bitsOf v)) (sym lv) ∙ octets-bits v h
 
-  pub used-back : allInRange (take count cs) ≡ true → coefficientsOf T ≡ U
+  pub used-back : every isCoefficient (take count cs) ≡ true → coefficientsOf T ≡ U
   unfolding trainingBits
   used-back h =
       ap (numbersIn 22 180) (coefficients-field U a b v (replicate 67 0) U-length lv refl trainingSync training-length)

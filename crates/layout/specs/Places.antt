@@ -16,27 +16,34 @@ total (w ∷ ws) = w + total ws
 abbrev pub placeOf : ℕ → ℕ
 placeOf k = total (take k widths)
 
--- the fields' numbers, in their order
+-- the fields' numbers, in their order. Bits 1 to 14: sync
 abbrev pub sync : ℕ
 sync = 0
 
+-- bits 15 to 3974: precoder coefficients 1 to 180, 22 bits each
 abbrev pub coefficients : ℕ
 coefficients = 1
 
+-- bits 3975 to 3995: A, a0 first
 abbrev pub wordA : ℕ
 wordA = 2
 
+-- bits 3996 to 4016: B, b0 first
 abbrev pub wordB : ℕ
 wordB = 3
 
+-- bits 4017 to 4144: vendor data
 abbrev pub vendor : ℕ
 vendor = 4
 
+-- bits 4145 to 4211: reserved
 abbrev pub reserved : ℕ
 reserved = 5
 
+-- bits 4212 to 4227: check bits c1 to c16
 abbrev pub check : ℕ
 check = 6
 
+-- the top five bits of the last octet, which no number names: pad
 abbrev pub pad : ℕ
 pad = 7

@@ -1,25 +1,16 @@
 -- What a writer and a reader of frames refuse, in the order of document 01's table.
-use mathlib.Core.Bool.{Bool, true, false, not, _&&_, _||_}
+use mathlib.Core.Bool.{Bool, not, _&&_, _||_}
 use mathlib.Core.List.{List, [], _∷_}
-use Prim.Native.Nat.{ℕ, zero, suc}
-use lib.Dec.{eqb, ltb, leb}
-use lib.IntN.{ℤ, pos, negsuc}
+use Prim.Native.Nat.{ℕ}
+use lib.Dec.{eqb, ltb}
+use lib.IntN.{ℤ}
 use lib.ListN.{take}
 use Rattle.answer.specs.Answer.{Refusal, refuse, wrongLength}
 use Rattle.octets.specs.Bits.{valueOf, bitsOf}
 use Rattle.remainder.specs.Division.{polynomial}
+use Rattle.ranges.specs.Ranges.{isCoefficient, isWord, every}
 use Rattle.layout.specs.Places.{sync, reserved, check, pad}
 use Rattle.layout.specs.Frame.{trainingSync, finalSync, fieldOf, messageOf, checkOf}
-
--- a coefficient runs from -2,097,152 to 2,097,151
-unfoldable pub inRange : ℤ → Bool
-inRange (pos n) = leb n 2097151
-inRange (negsuc n) = leb n 2097151
-
--- whether every coefficient of a list is in its range
-unfoldable pub allInRange : List ℤ → Bool
-allInRange [] = true
-allInRange (c ∷ cs) = inRange c && allInRange cs
 
 -- writing: lengths, the kind (training 0, final 1), and of a training frame the count, the coefficients in use, A and B
 abbrev pub writeRefusals : ℕ → ℕ → List ℤ → ℕ → ℕ → List ℕ → List ℕ → List Refusal
@@ -27,8 +18,8 @@ writeRefusals kind count cs a b vendor frame =
     wrongLength cs 180 ∷ wrongLength vendor 16 ∷ wrongLength frame 529
     ∷ refuse 2 (ltb 1 kind)
     ∷ refuse 3 (eqb kind 0 && (ltb count 128 || ltb 180 count))
-    ∷ refuse 4 (eqb kind 0 && not (allInRange (take count cs)))
-    ∷ refuse 4 (eqb kind 0 && (ltb 2097151 a || ltb 2097151 b)) ∷ []
+    ∷ refuse 4 (eqb kind 0 && not (every isCoefficient (take count cs)))
+    ∷ refuse 4 (eqb kind 0 && not (isWord a && isWord b)) ∷ []
 
 -- whether a frame's bits begin with a sync word
 abbrev pub hasSync : List ℕ → List ℕ → Bool

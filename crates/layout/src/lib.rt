@@ -9,6 +9,11 @@ pub const COEFFICIENTS: usize = 180;
 
 pub const COEFFICIENT_BITS: u32 = 22;
 
+// The places from one coefficient to the next, and the bits of all of them.
+pub const COEFFICIENT_STEP: usize = COEFFICIENT_BITS as usize;
+
+pub const ALL_COEFFICIENT_BITS: u32 = COEFFICIENTS as u32 * COEFFICIENT_BITS;
+
 // The bits of sync, of A or B, of vendor data, of the reserved field, of the check bits and of the pad.
 pub const SYNC_BITS: u32 = 14;
 
@@ -26,22 +31,25 @@ pub const PAD_BITS: u32 = 5;
 pub const VENDOR_OCTETS: usize = 16;
 
 // The fields' places, from 0.
-pub const COEFFICIENTS_AT: usize = 14;
+pub const COEFFICIENTS_AT: usize = SYNC_BITS as usize;
 
-pub const A_AT: usize = COEFFICIENTS_AT + 180 * 22;
+pub const A_AT: usize = COEFFICIENTS_AT + COEFFICIENTS * COEFFICIENT_STEP;
 
-pub const B_AT: usize = A_AT + 21;
+pub const B_AT: usize = A_AT + WORD_BITS as usize;
 
-pub const VENDOR_AT: usize = B_AT + 21;
+pub const VENDOR_AT: usize = B_AT + WORD_BITS as usize;
 
-pub const RESERVED_AT: usize = VENDOR_AT + 128;
+pub const RESERVED_AT: usize = VENDOR_AT + VENDOR_BITS as usize;
 
-pub const CHECK_AT: usize = RESERVED_AT + 67;
+pub const CHECK_AT: usize = RESERVED_AT + RESERVED_BITS as usize;
 
-pub const PAD_AT: usize = CHECK_AT + 16;
+pub const PAD_AT: usize = CHECK_AT + CHECK_BITS as usize;
 
 // The bits under the check bits: 15 to 4211 of the paper.
-pub const MESSAGE_BITS: u32 = 4197;
+pub const MESSAGE_BITS: u32 = ALL_COEFFICIENT_BITS + 2 * WORD_BITS + VENDOR_BITS + RESERVED_BITS;
+
+// The bits behind sync and before the pad: 15 to 4227 of the paper.
+pub const PAYLOAD_BITS: u32 = MESSAGE_BITS + CHECK_BITS;
 
 // The two sync words, the first bit lowest.
 pub const TRAINING_SYNC: u32 = 0x359f;
@@ -53,11 +61,5 @@ pub const TRAINING: u32 = 0;
 
 pub const FINAL: u32 = 1;
 
-// The least and the largest coefficient, the largest A or B, the fewest coefficients in use.
-pub const LEAST_COEFFICIENT: i32 = -2097152;
-
-pub const LARGEST_COEFFICIENT: i32 = 2097151;
-
-pub const LARGEST_WORD: u32 = 2097151;
-
+// The fewest coefficients in use.
 pub const FEWEST: u32 = 128;

@@ -28,7 +28,8 @@ use Rattle.ascii.specs.Text.{text, decimal, signed, hex}
 use Rattle.ascii.proofs.Numbers.{decimal-length, hexes-length}
 use Rattle.listing.specs.Listing.{highest, numberLine, coefficientLine, coefficientLines, vendorLine, checkLine, trainingText, finalText, listed, listing}
 use Rattle.listing.specs.Promises.{Listed}
-use Rattle.listing.proofs.Laws.{both, highest-within}
+use Rattle.ranges.proofs.Laws.{both}
+use Rattle.listing.proofs.Laws.{highest-within}
 
 -- every number of a list has 22 bits
 abbrev Small : List ℤ → Type 0

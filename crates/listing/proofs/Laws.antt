@@ -1,6 +1,6 @@
 -- Laws of the listing's lines. Assumes nothing.
 use mathlib.Core.Path.{_≡_, refl, sym, ap, ap₂, _∙_}
-use mathlib.Core.Bool.{Bool, true, false, cond, not, _&&_, true≢false}
+use mathlib.Core.Bool.{Bool, true, false, cond, not, _&&_}
 use mathlib.Core.List.{List, [], _∷_, _++_, append-nil, append-assoc, reverse}
 use Prim.Native.Nat.{ℕ, zero, suc, _+_, _-_, _≤_, _<_}
 use native.Mathlib.Nat.{add-zero}
@@ -29,10 +29,6 @@ use Rattle.ascii.specs.Promises.{Put}
 use Rattle.ascii.proofs.Room.{put-first}
 use Rattle.listing.specs.Promises.{Listed}
 use Rattle.listing.specs.Listing.{isZero, allZero, highest, numberLine, coefficientLine, coefficientLines, trainingText, finalText, listed, listing}
-
-pub both : (a b : Bool) → (a && b) ≡ true → (a ≡ true) × (b ≡ true)
-both true b e = (refl, e)
-both false b e = absurd (true≢false (sym e))
 
 -- ---- the highest non-zero coefficient
 

@@ -7,7 +7,7 @@ use native.Mathlib.Omega.{arith}
 use lib.IntN.{ℤ, pos, negsuc}
 use lib.ListN.{getD}
 use Rattle.listing.specs.Listing.{isZero, allZero, highest}
-use Rattle.listing.proofs.Laws.{both}
+use Rattle.ranges.proofs.Laws.{both}
 
 is-zero : (c : ℤ) → isZero c ≡ true → c ≡ pos 0
 unfolding isZero

@@ -1,38 +1,90 @@
 // Signed numbers as the card's host lends them: four octets each, low octet first, in two's complement (document 01, "The activation
 // frame").
 ghost use mathlib.Core.Path.{_≡_};
-ghost use Rattle.numbers.specs.Promises.{NumbersRead, NumbersPut};
+ghost use Prim.Native.Nat.{_<_};
+ghost use Rattle.octets.specs.Signed.{signedOf, twosOf};
+ghost use Rattle.numbers.specs.Promises.{NumberRead, NumberPut, NumbersRead, NumbersPut};
 
-// How many numbers there are, of coefficients and of remembered outputs alike.
-const MANY: usize = 180;
+// An octet as a wider number.
+fn wide(octet: u8) -> u32
+    ensures { λ r. ⌜ (r ≡ octet) × (r < 256) ⌝ }
+{
+    octet as u32
+}
 
-// The bits of one.
-const BITS: u32 = 32;
+// The number that 32 bits stand for in two's complement.
+fn to_signed(n: u32) -> i32
+    ensures { λ r. ⌜ r ≡ signedOf 32 n ⌝ }
+{
+    if n < 0x8000_0000 {
+        return n as i32;
+    }
+    -1 - (0xffff_ffff - n) as i32
+}
 
-// The 180 numbers of octets; past the end they are 0.
+// The 32 bits of a number in two's complement.
+fn to_unsigned(z: i32) -> u32
+    ensures { λ r. ⌜ r ≡ twosOf 32 z ⌝ }
+{
+    if z < 0 {
+        0xffff_ffff - ((-1 - z) as u32)
+    } else {
+        z as u32
+    }
+}
+
+// Number k of octets, the first being number 0; where there is none it is 0.
+pub fn number(octets: &[u8], k: usize) -> i32
+    ensures { λ r. ⌜ NumberRead (now (octets .entry)) k r ⌝ }
+{
+    if octets.len() / 4 <= k {
+        return 0;
+    }
+    let at = 4 * k;
+    let low = wide(octets[at]) + wide(octets[at + 1]) * 256;
+    let high = wide(octets[at + 2]) * 65_536 + wide(octets[at + 3]) * 16_777_216;
+    to_signed(low + high)
+}
+
+// Number k of octets becomes z; where there is none, nothing changes.
+pub fn put_number(octets: &mut [u8], k: usize, z: i32)
+    ensures { λ r. ⌜ NumberPut (now (octets .entry)) k z (now (octets .exit)) ⌝ }
+{
+    if octets.len() / 4 <= k {
+        return;
+    }
+    let at = 4 * k;
+    let n = to_unsigned(z);
+    octets[at] = (n % 256) as u8;
+    octets[at + 1] = (n / 256 % 256) as u8;
+    octets[at + 2] = (n / 65_536 % 256) as u8;
+    octets[at + 3] = (n / 16_777_216 % 256) as u8;
+}
+
+// The first 180 numbers of octets, as many as there are coefficients and remembered outputs; where there are fewer they are 0.
 pub fn numbers(octets: &[u8]) -> [i32; 180]
     ensures { λ r. ⌜ NumbersRead (now (octets .entry)) r ⌝ }
 {
     let mut into = [0i32; 180];
     let mut k = 0;
-    while k < MANY {
-        into[k] = octets::signed_field(octets, 32 * k, BITS);
+    while k < 180 {
+        into[k] = number(octets, k);
         k += 1;
     }
     into
 }
 
-// The first 180 of some numbers, into octets from the first on.
+// As many of some numbers as there is room for, into octets from the first on.
 pub fn put_numbers(octets: &mut [u8], numbers: &[i32])
     ensures { λ r. ⌜ NumbersPut (now (octets .entry)) (now (numbers .entry)) (now (octets .exit)) ⌝ }
 {
     let mut k = 0;
-    while k < MANY {
-        if numbers.len() <= k {
+    while k < numbers.len() {
+        if octets.len() / 4 <= k {
             return;
         }
         let z = numbers[k];
-        octets::put_signed_field(octets, 32 * k, BITS, z);
+        put_number(octets, k, z);
         k += 1;
     }
 }

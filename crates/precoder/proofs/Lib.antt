@@ -1,6 +1,5 @@
 pub mod Products
 pub mod Signals
-pub mod Quads
 pub mod Turns
 pub mod Back
 pub mod One

@@ -11,11 +11,12 @@ use lib.Signed.{mag}
 use mir.Syntax.{w32, w64}
 use mir.Val.{SFits}
 use mir.Facts.{sfits-widen}
-use Rattle.signal.specs.Signal.{isSignal, isCoefficient, every}
+use Rattle.ranges.specs.Ranges.{isCoefficient, every}
+use Rattle.signal.specs.Signal.{isSignal}
 use Rattle.precoder.specs.Precoder.{exactSum}
 use Rattle.signal.proofs.Linear.{abs-is, abs-of, add-bal}
 use Rattle.signal.proofs.Rounding.{abs-fits}
-use Rattle.signal.proofs.Range.{mag-at}
+use Rattle.ranges.proofs.Laws.{mag-at}
 
 neg-abs : (n : ℕ) → natAbs (negℤ (pos n)) ≡ n
 neg-abs zero = refl

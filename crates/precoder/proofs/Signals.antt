@@ -2,7 +2,7 @@
 use mathlib.Core.Path.{_≡_, refl, sym, subst}
 use mathlib.Core.Bool.{true, not}
 use mathlib.Core.List.{List, [], _∷_}
-use Prim.Native.Nat.{ℕ, zero, suc, _+_, _*_, _≤_}
+use Prim.Native.Nat.{ℕ, zero, suc, _≤_}
 use native.Mathlib.Omega.{arith}
 use borrow.Author.Tests.{not-false}
 use lib.IntN.{ℤ, pos, negℤ, natAbs, _+ℤ_, _-ℤ_, _*ℤ_}
@@ -10,10 +10,11 @@ use mir.Syntax.{w32, w64}
 use mir.Val.{SFits}
 use Rattle.answer.specs.Answer.{refuse, answer}
 use Rattle.answer.proofs.Laws.{none}
-use Rattle.signal.specs.Signal.{isSignal, isCoefficient, every, Rounds, Folds, nearest, pastAfter}
+use Rattle.ranges.specs.Ranges.{isCoefficient, every}
+use Rattle.signal.specs.Signal.{isSignal, Rounds, Folds, nearest, pastAfter}
 use Rattle.precoder.specs.Precoder.{exactSum, Sends, Receives, outputOf, inputOf, symbolTests, either}
 use Rattle.signal.proofs.Linear.{P-pos, N-pos, le-to, lt-to, eq-of, add-bal, sub-is, neg-P, neg-N, mul-P, mul-N, abs-is, abs-of, P-mag, N-mag, mag-of}
-use Rattle.signal.proofs.Range.{every-take}
+use Rattle.ranges.proofs.Laws.{every-take}
 use Rattle.signal.proofs.Rounding.{fold-bal, rounds-unique, folds-unique, rounds-nearest, folds-fold}
 
 -- ---- there and back

@@ -3,34 +3,36 @@ use mathlib.Core.Path.{_≡_, sym, ap, _∙_}
 use mathlib.Core.Bool.{Bool, true, _&&_}
 use mathlib.Core.List.{List, [], _∷_, _++_, append-assoc, append-nil}
 use Prim.Native.Nat.{ℕ, suc, _+_, _*_, _%_, _≤_}
+use native.Mathlib.Numerals.{add-one}
 use native.Mathlib.Omega.{arith}
 use borrow.Author.Tests.{eqb-true}
 use lib.Dec.{eqb}
-use lib.IntN.{ℤ}
-use lib.ListN.{length, take, drop}
-use lib.Seq.{take-all, length-take-le}
-use Rattle.precoder.specs.Octets.{valueAt, valuesOf, octetsOf}
-use Rattle.signal.specs.Signal.{isSignal, isCoefficient, every, pastAfter}
+use lib.IntN.{ℤ, pos}
+use lib.ListN.{length, getD, take, drop, drop-of-length-le}
+use lib.Seq.{take-all, length-take-le, drop-cons}
+use Rattle.numbers.specs.Promises.{numbersOf, numberOctets, withNumber}
+use Rattle.ranges.specs.Ranges.{isCoefficient, every}
+use Rattle.signal.specs.Signal.{isSignal, pastAfter}
 use Rattle.precoder.specs.Precoder.{outputOf, inputOf}
 use Rattle.precoder.specs.Runs.{pastAfterAll, outputsOf, inputsOf, lengthsRight, rangesRight}
-use Rattle.signal.proofs.Range.{and-true}
-use Rattle.precoder.proofs.Quads.{quad-next, quad-end, written-next, octets-append}
+use Rattle.ranges.proofs.Laws.{both}
+use Rattle.numbers.proofs.Laws.{numbers-many, octets-none, octets-append, with-next}
 
 -- ---- the checks
 
 pub lengths-are : (coefficients history symbols room : List ℕ) → lengthsRight coefficients history symbols room ≡ true
     → (length coefficients ≡ 720) × (length history ≡ 720) × (length symbols % 4 ≡ 0) × (length room ≡ length symbols)
 lengths-are coefficients history symbols room e =
-    let p = and-true (eqb (length coefficients) 720) (eqb (length history) 720 && (eqb (length symbols % 4) 0 && eqb (length room) (length symbols))) e in
-    let q = and-true (eqb (length history) 720) (eqb (length symbols % 4) 0 && eqb (length room) (length symbols)) (p .1) in
-    let r = and-true (eqb (length symbols % 4) 0) (eqb (length room) (length symbols)) (q .1) in
+    let p = both (eqb (length coefficients) 720) (eqb (length history) 720 && (eqb (length symbols % 4) 0 && eqb (length room) (length symbols))) e in
+    let q = both (eqb (length history) 720) (eqb (length symbols % 4) 0 && eqb (length room) (length symbols)) (p .1) in
+    let r = both (eqb (length symbols % 4) 0) (eqb (length room) (length symbols)) (q .1) in
     (eqb-true _ _ (p .0), eqb-true _ _ (q .0), eqb-true _ _ (r .0), eqb-true _ _ (r .1))
 
 pub ranges-are : (coefficients past symbols : List ℤ) → rangesRight coefficients past symbols ≡ true
     → (every isCoefficient coefficients ≡ true) × (every isSignal past ≡ true) × (every isSignal symbols ≡ true)
 ranges-are coefficients past symbols e =
-    let p = and-true (every isCoefficient coefficients) (every isSignal past && every isSignal symbols) e in
-    let q = and-true (every isSignal past) (every isSignal symbols) (p .1) in
+    let p = both (every isCoefficient coefficients) (every isSignal past && every isSignal symbols) e in
+    let q = both (every isSignal past) (every isSignal symbols) (p .1) in
     (p .0, q .0, q .1)
 
 -- a past keeps its 180 outputs
@@ -41,66 +43,74 @@ past-length past (y ∷ ys) h = past-length (pastAfter past y) ys (ap suc (lengt
 
 -- ---- a turn
 
+-- number i, and the rest
+number-next : (os : List ℕ) (i : ℕ) → 4 * i + 4 ≤ length os → drop i (numbersOf os) ≡ getD (numbersOf os) i (pos 0) ∷ drop (i + 1) (numbersOf os)
+number-next os i h =
+    drop-cons (numbersOf os) i (pos 0) (omega (arith, numbers-many os)) ∙ ap (λ (n : ℕ). getD (numbersOf os) i (pos 0) ∷ drop n (numbersOf os)) (sym (add-one i))
+
+-- nothing is left behind the last
+pub number-end : (os : List ℕ) (i : ℕ) → length os ≤ 4 * i → drop i (numbersOf os) ≡ []
+number-end os i h = drop-of-length-le (numbersOf os) {i = i} (omega (arith, numbers-many os))
+
 -- what remains begins with number i
 pub remains : (test : ℤ → Bool) (symbols : List ℕ) (i : ℕ) → 4 * i + 4 ≤ length symbols
-    → every test (valuesOf (drop (4 * i) symbols)) ≡ (test (valueAt symbols (4 * i)) && every test (valuesOf (drop (4 * (i + 1)) symbols)))
+    → every test (drop i (numbersOf symbols)) ≡ (test (getD (numbersOf symbols) i (pos 0)) && every test (drop (i + 1) (numbersOf symbols)))
 unfolding every
-remains test symbols i h = ap (every test) (quad-next symbols i h)
+remains test symbols i h = ap (every test) (number-next symbols i h)
 
 -- number i, written, is the first of what remained
 pub written-turn : (room : List ℕ) (i : ℕ) (z : ℤ) (rest : List ℤ) → 4 * i + 4 ≤ length room
-    → take (4 * (i + 1)) (take (4 * i) room ++ octetsOf (z ∷ []) ++ drop (4 * i + 4) room) ++ octetsOf rest ≡ take (4 * i) room ++ octetsOf (z ∷ rest)
+    → take (4 * (i + 1)) (withNumber room i z) ++ numberOctets rest ≡ take (4 * i) room ++ numberOctets (z ∷ rest)
 written-turn room i z rest h =
-    ap (λ (a : List ℕ). a ++ octetsOf rest) (written-next room i z h)
-    ∙ append-assoc (take (4 * i) room) (octetsOf (z ∷ [])) (octetsOf rest)
+    ap (λ (a : List ℕ). a ++ numberOctets rest) (with-next room i z h)
+    ∙ append-assoc (take (4 * i) room) (numberOctets (z ∷ [])) (numberOctets rest)
     ∙ ap (λ (a : List ℕ). take (4 * i) room ++ a) (sym (octets-append (z ∷ []) rest))
 
 -- with nothing left, all is written
-pub written-end : (room : List ℕ) (i : ℕ) (rest : List ℤ) → length room ≤ 4 * i → rest ≡ [] → take (4 * i) room ++ octetsOf rest ≡ room
-unfolding octetsOf
+pub written-end : (room : List ℕ) (i : ℕ) (rest : List ℤ) → length room ≤ 4 * i → rest ≡ [] → take (4 * i) room ++ numberOctets rest ≡ room
 written-end room i rest h e =
-    ap (λ (z : List ℤ). take (4 * i) room ++ octetsOf z) e ∙ append-nil (take (4 * i) room) ∙ take-all (4 * i) room h
+    ap (λ (z : List ℤ). take (4 * i) room ++ numberOctets z) e ∙ ap (λ (l : List ℕ). take (4 * i) room ++ l) octets-none ∙ append-nil (take (4 * i) room) ∙ take-all (4 * i) room h
 
 module _ (coefficients past : List ℤ) (symbols : List ℕ) (i : ℕ) (h : 4 * i + 4 ≤ length symbols) where
   abbrev symbol : ℤ
-  symbol = valueAt symbols (4 * i)
+  symbol = getD (numbersOf symbols) i (pos 0)
 
   abbrev others : List ℤ
-  others = valuesOf (drop (4 * (i + 1)) symbols)
+  others = drop (i + 1) (numbersOf symbols)
 
   abbrev y : ℤ
   y = outputOf coefficients past symbol
 
-  pub outputs-turn : outputsOf coefficients past (valuesOf (drop (4 * i) symbols)) ≡ y ∷ outputsOf coefficients (pastAfter past y) others
+  pub outputs-turn : outputsOf coefficients past (drop i (numbersOf symbols)) ≡ y ∷ outputsOf coefficients (pastAfter past y) others
   unfolding outputsOf
-  outputs-turn = ap (outputsOf coefficients past) (quad-next symbols i h)
+  outputs-turn = ap (outputsOf coefficients past) (number-next symbols i h)
 
-  pub inputs-turn : inputsOf coefficients past (valuesOf (drop (4 * i) symbols)) ≡ inputOf coefficients past symbol ∷ inputsOf coefficients (pastAfter past symbol) others
+  pub inputs-turn : inputsOf coefficients past (drop i (numbersOf symbols)) ≡ inputOf coefficients past symbol ∷ inputsOf coefficients (pastAfter past symbol) others
   unfolding inputsOf
-  inputs-turn = ap (inputsOf coefficients past) (quad-next symbols i h)
+  inputs-turn = ap (inputsOf coefficients past) (number-next symbols i h)
 
-  pub past-out-turn : pastAfterAll past (outputsOf coefficients past (valuesOf (drop (4 * i) symbols))) ≡ pastAfterAll (pastAfter past y) (outputsOf coefficients (pastAfter past y) others)
+  pub past-out-turn : pastAfterAll past (outputsOf coefficients past (drop i (numbersOf symbols))) ≡ pastAfterAll (pastAfter past y) (outputsOf coefficients (pastAfter past y) others)
   unfolding pastAfterAll
   past-out-turn = ap (pastAfterAll past) outputs-turn
 
-  pub past-in-turn : pastAfterAll past (valuesOf (drop (4 * i) symbols)) ≡ pastAfterAll (pastAfter past symbol) others
+  pub past-in-turn : pastAfterAll past (drop i (numbersOf symbols)) ≡ pastAfterAll (pastAfter past symbol) others
   unfolding pastAfterAll
-  past-in-turn = ap (pastAfterAll past) (quad-next symbols i h)
+  past-in-turn = ap (pastAfterAll past) (number-next symbols i h)
 
 -- with nothing left, nothing more happens
 module _ (coefficients past : List ℤ) (symbols : List ℕ) (i : ℕ) (h : length symbols ≤ 4 * i) where
-  pub outputs-end : outputsOf coefficients past (valuesOf (drop (4 * i) symbols)) ≡ []
+  pub outputs-end : outputsOf coefficients past (drop i (numbersOf symbols)) ≡ []
   unfolding outputsOf
-  outputs-end = ap (outputsOf coefficients past) (quad-end symbols i h)
+  outputs-end = ap (outputsOf coefficients past) (number-end symbols i h)
 
-  pub inputs-end : inputsOf coefficients past (valuesOf (drop (4 * i) symbols)) ≡ []
+  pub inputs-end : inputsOf coefficients past (drop i (numbersOf symbols)) ≡ []
   unfolding inputsOf
-  inputs-end = ap (inputsOf coefficients past) (quad-end symbols i h)
+  inputs-end = ap (inputsOf coefficients past) (number-end symbols i h)
 
-  pub past-out-end : pastAfterAll past (outputsOf coefficients past (valuesOf (drop (4 * i) symbols))) ≡ past
+  pub past-out-end : pastAfterAll past (outputsOf coefficients past (drop i (numbersOf symbols))) ≡ past
   unfolding pastAfterAll
   past-out-end = ap (pastAfterAll past) outputs-end
 
-  pub past-in-end : pastAfterAll past (valuesOf (drop (4 * i) symbols)) ≡ past
+  pub past-in-end : pastAfterAll past (drop i (numbersOf symbols)) ≡ past
   unfolding pastAfterAll
-  past-in-end = ap (pastAfterAll past) (quad-end symbols i h)
+  past-in-end = ap (pastAfterAll past) (number-end symbols i h)

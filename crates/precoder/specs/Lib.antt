@@ -1,3 +1,2 @@
 pub mod Precoder
-pub mod Octets
 pub mod Runs

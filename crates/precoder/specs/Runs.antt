@@ -7,8 +7,9 @@ use lib.Dec.{eqb}
 use lib.IntN.{ℤ}
 use lib.ListN.{length}
 use Rattle.answer.specs.Answer.{Refusal, refuse, answer, held}
-use Rattle.precoder.specs.Octets.{valuesOf, octetsOf}
-use Rattle.signal.specs.Signal.{isSignal, isCoefficient, every, pastAfter}
+use Rattle.numbers.specs.Promises.{numbersOf, numberOctets}
+use Rattle.ranges.specs.Ranges.{isCoefficient, every}
+use Rattle.signal.specs.Signal.{isSignal, pastAfter}
 use Rattle.precoder.specs.Precoder.{Sends, outputOf, inputOf}
 
 -- the past after these outputs, first in time first
@@ -46,16 +47,16 @@ rangesRight coefficients past symbols = every isCoefficient coefficients && (eve
 abbrev pub runTests : List ℕ → List ℕ → List ℕ → List ℕ → List Refusal
 runTests coefficients history symbols room =
     refuse 1 (not (lengthsRight coefficients history symbols room))
-    ∷ refuse 4 (not (rangesRight (valuesOf coefficients) (valuesOf history) (valuesOf symbols))) ∷ []
+    ∷ refuse 4 (not (rangesRight (numbersOf coefficients) (numbersOf history) (numbersOf symbols))) ∷ []
 
 -- what `precode_run` gives back, and what the history and the room for ys hold afterwards
 pub record PrecodesRun (coefficients history xs ys : List ℕ) (r : ℕ) (history′ ys′ : List ℕ) : Type 0 where
   pub answered : r ≡ answer (runTests coefficients history xs ys)
-  pub written : ys′ ≡ held r ys (octetsOf (outputsOf (valuesOf coefficients) (valuesOf history) (valuesOf xs)))
-  pub past : history′ ≡ held r history (octetsOf (pastAfterAll (valuesOf history) (outputsOf (valuesOf coefficients) (valuesOf history) (valuesOf xs))))
+  pub written : ys′ ≡ held r ys (numberOctets (outputsOf (numbersOf coefficients) (numbersOf history) (numbersOf xs)))
+  pub past : history′ ≡ held r history (numberOctets (pastAfterAll (numbersOf history) (outputsOf (numbersOf coefficients) (numbersOf history) (numbersOf xs))))
 
 -- what `decode_run` gives back, and what the history and the room for xs hold afterwards
 pub record DecodesRun (coefficients history ys xs : List ℕ) (r : ℕ) (history′ xs′ : List ℕ) : Type 0 where
   pub answered : r ≡ answer (runTests coefficients history ys xs)
-  pub written : xs′ ≡ held r xs (octetsOf (inputsOf (valuesOf coefficients) (valuesOf history) (valuesOf ys)))
-  pub past : history′ ≡ held r history (octetsOf (pastAfterAll (valuesOf history) (valuesOf ys)))
+  pub written : xs′ ≡ held r xs (numberOctets (inputsOf (numbersOf coefficients) (numbersOf history) (numbersOf ys)))
+  pub past : history′ ≡ held r history (numberOctets (pastAfterAll (numbersOf history) (numbersOf ys)))

@@ -1,14 +1,14 @@
 // The channel precoder and its inverse (000, clause 4.3.4), by the symbol and by the run. All values are in steps of 1/131,072.
 ghost use mathlib.Core.Path.{_≡_};
 ghost use mathlib.Core.Bool.{true};
-ghost use mathlib.Core.List.{[], _∷_, _++_};
-ghost use Prim.Native.Nat.{_+_, _*_, _%_, _<_, _≤_};
+ghost use Prim.Native.Nat.{_+_, _*_, _%_, _<_};
 ghost use lib.IntN.{_*ℤ_};
-ghost use lib.ListN.{length, take, drop};
+ghost use lib.ListN.{length};
 ghost use Rattle.answer.specs.Answer.{answer};
-ghost use Rattle.signal.specs.Signal.{isSignal, isCoefficient, every, pastAfter};
+ghost use Rattle.numbers.specs.Promises.{numbersOf, numberOctets};
+ghost use Rattle.ranges.specs.Ranges.{isCoefficient, every};
+ghost use Rattle.signal.specs.Signal.{isSignal, pastAfter};
 ghost use Rattle.precoder.specs.Precoder.{exactSum, Sends, Receives, symbolTests, Precodes, Decodes};
-ghost use Rattle.precoder.specs.Octets.{signed, unsigned, valueAt, valuesOf, octetsOf};
 ghost use Rattle.precoder.specs.Runs.{pastAfterAll, outputsOf, inputsOf, lengthsRight, rangesRight, PrecodesRun, DecodesRun};
 
 // An output y, with the answer first.
@@ -48,17 +48,17 @@ fn sum(coefficients: &[i32; 180], history: &[i32; 180]) -> i64
 fn checked(z: i32, coefficients: &[i32; 180], history: &[i32; 180]) -> u32
     ensures { λ r. ⌜ r ≡ answer (symbolTests (now (coefficients .entry)) (now (history .entry)) z) ⌝ }
 {
-    if !signal::in_range(z, signal::LOWEST, signal::HIGHEST) {
+    if !ranges::in_range(z, signal::LOWEST, signal::HIGHEST) {
         return answer::RANGE;
     }
-    if !signal::all_in_range(
+    if !ranges::all_in_range(
         coefficients,
-        signal::LOWEST_COEFFICIENT,
-        signal::HIGHEST_COEFFICIENT,
+        ranges::LOWEST_COEFFICIENT,
+        ranges::HIGHEST_COEFFICIENT,
     ) {
         return answer::RANGE;
     }
-    if !signal::all_in_range(history, signal::LOWEST, signal::HIGHEST) {
+    if !ranges::all_in_range(history, signal::LOWEST, signal::HIGHEST) {
         return answer::RANGE;
     }
     answer::DONE
@@ -120,92 +120,15 @@ pub fn decode(y: i32, coefficients: &[i32; 180], history: &mut [i32; 180]) -> De
     }
 }
 
-// An octet as a wider number.
-fn wide(octet: u8) -> u32
-    ensures { λ r. ⌜ (r ≡ octet) × (r < 256) ⌝ }
-{
-    octet as u32
-}
-
-// The number that 32 bits stand for in two's complement.
-fn to_signed(n: u32) -> i32
-    ensures { λ r. ⌜ r ≡ signed n ⌝ }
-{
-    if n < 0x8000_0000 {
-        return n as i32;
-    }
-    -1 - (0xffff_ffff - n) as i32
-}
-
-// The 32 bits of a number in two's complement.
-fn to_unsigned(z: i32) -> u32
-    ensures { λ r. ⌜ r ≡ unsigned z ⌝ }
-{
-    if 0 <= z {
-        return z as u32;
-    }
-    0xffff_ffff - (-1 - z) as u32
-}
-
-// Number i of a run of octets.
-fn word(octets: &[u8], i: usize) -> i32
-    requires { ⌜ 4 * i + 4 ≤ length (now octets) ⌝ }
-    ensures { λ r. ⌜ r ≡ valueAt (now (octets .entry)) (4 * i) ⌝ }
-{
-    let at = 4 * i;
-    let low = wide(octets[at]) + wide(octets[at + 1]) * 256;
-    let high = wide(octets[at + 2]) * 65_536 + wide(octets[at + 3]) * 16_777_216;
-    to_signed(low + high)
-}
-
-// Writes number i of a run of octets.
-fn put_word(octets: &mut [u8], i: usize, z: i32)
-    requires { ⌜ 4 * i + 4 ≤ length (now octets) ⌝ }
-    ensures { λ r. ⌜ now (octets .exit) ≡ take (4 * i) (now (octets .entry)) ++ octetsOf (z ∷ []) ++ drop (4 * i + 4) (now (octets .entry)) ⌝ }
-{
-    let at = 4 * i;
-    let n = to_unsigned(z);
-    octets[at] = (n % 256) as u8;
-    octets[at + 1] = (n / 256 % 256) as u8;
-    octets[at + 2] = (n / 65_536 % 256) as u8;
-    octets[at + 3] = (n / 16_777_216 % 256) as u8;
-}
-
-// The 180 numbers of 720 octets.
-fn words(octets: &[u8]) -> [i32; 180]
-    requires { ⌜ length (now octets) ≡ 720 ⌝ }
-    ensures { λ r. ⌜ r ≡ valuesOf (now (octets .entry)) ⌝ }
-{
-    let mut values = [0i32; 180];
-    let mut k = 0;
-    while k < 180 {
-        values[k] = word(octets, k);
-        k += 1;
-    }
-    values
-}
-
-// Writes 180 numbers as 720 octets.
-fn put_words(octets: &mut [u8], values: &[i32; 180])
-    requires { ⌜ (length (now octets) ≡ 720) × (length (now values) ≡ 180) ⌝ }
-    ensures { λ r. ⌜ now (octets .exit) ≡ octetsOf (now (values .entry)) ⌝ }
-{
-    let mut k = 0;
-    while k < 180 {
-        put_word(octets, k, values[k]);
-        k += 1;
-    }
-}
-
 // Whether every number of a run of octets is in the range of x and y.
-fn words_in_range(octets: &[u8]) -> bool
+fn numbers_in_range(octets: &[u8]) -> bool
     requires { ⌜ length (now octets) % 4 ≡ 0 ⌝ }
-    ensures { λ r. ⌜ r ≡ every isSignal (valuesOf (now (octets .entry))) ⌝ }
+    ensures { λ r. ⌜ r ≡ every isSignal (numbersOf (now (octets .entry))) ⌝ }
 {
     let count = octets.len() / 4;
     let mut i = 0;
     while i < count {
-        if !signal::in_range(word(octets, i), signal::LOWEST, signal::HIGHEST) {
+        if !ranges::in_range(numbers::number(octets, i), signal::LOWEST, signal::HIGHEST) {
             return false;
         }
         i += 1;
@@ -232,45 +155,45 @@ fn lengths_right(coefficients: &[u8], history: &[u8], symbols: &[u8], room: &[u8
 // Whether all numbers of a run lie in their ranges.
 fn ranges_right(coefficients: &[i32; 180], history: &[i32; 180], symbols: &[u8]) -> bool
     requires { ⌜ length (now symbols) % 4 ≡ 0 ⌝ }
-    ensures { λ r. ⌜ r ≡ rangesRight (now (coefficients .entry)) (now (history .entry)) (valuesOf (now (symbols .entry))) ⌝ }
+    ensures { λ r. ⌜ r ≡ rangesRight (now (coefficients .entry)) (now (history .entry)) (numbersOf (now (symbols .entry))) ⌝ }
 {
-    if !signal::all_in_range(
+    if !ranges::all_in_range(
         coefficients,
-        signal::LOWEST_COEFFICIENT,
-        signal::HIGHEST_COEFFICIENT,
+        ranges::LOWEST_COEFFICIENT,
+        ranges::HIGHEST_COEFFICIENT,
     ) {
         return false;
     }
-    if !signal::all_in_range(history, signal::LOWEST, signal::HIGHEST) {
+    if !ranges::all_in_range(history, signal::LOWEST, signal::HIGHEST) {
         return false;
     }
-    words_in_range(symbols)
+    numbers_in_range(symbols)
 }
 
 // Symbols in range, one after the other.
 fn send_all(coefficients: &[i32; 180], history: &mut [i32; 180], xs: &[u8], ys: &mut [u8])
-    requires { ⌜ (rangesRight (now coefficients) (now history) (valuesOf (now xs)) ≡ true) × (length (now xs) % 4 ≡ 0) × (length (now ys) ≡ length (now xs)) ⌝ }
-    ensures { λ r. ⌜ (now (ys .exit) ≡ octetsOf (outputsOf (now (coefficients .entry)) (now (history .entry)) (valuesOf (now (xs .entry))))) × (now (history .exit) ≡ pastAfterAll (now (history .entry)) (outputsOf (now (coefficients .entry)) (now (history .entry)) (valuesOf (now (xs .entry))))) ⌝ }
+    requires { ⌜ (rangesRight (now coefficients) (now history) (numbersOf (now xs)) ≡ true) × (length (now xs) % 4 ≡ 0) × (length (now ys) ≡ length (now xs)) ⌝ }
+    ensures { λ r. ⌜ (now (ys .exit) ≡ numberOctets (outputsOf (now (coefficients .entry)) (now (history .entry)) (numbersOf (now (xs .entry))))) × (now (history .exit) ≡ pastAfterAll (now (history .entry)) (outputsOf (now (coefficients .entry)) (now (history .entry)) (numbersOf (now (xs .entry))))) ⌝ }
 {
     let count = xs.len() / 4;
     let mut i = 0;
     while i < count {
-        let y = send(word(xs, i), coefficients, history);
-        put_word(ys, i, y);
+        let y = send(numbers::number(xs, i), coefficients, history);
+        numbers::put_number(ys, i, y);
         i += 1;
     }
 }
 
 // Symbols in range, one after the other, backward.
 fn receive_all(coefficients: &[i32; 180], history: &mut [i32; 180], ys: &[u8], xs: &mut [u8])
-    requires { ⌜ (rangesRight (now coefficients) (now history) (valuesOf (now ys)) ≡ true) × (length (now ys) % 4 ≡ 0) × (length (now xs) ≡ length (now ys)) ⌝ }
-    ensures { λ r. ⌜ (now (xs .exit) ≡ octetsOf (inputsOf (now (coefficients .entry)) (now (history .entry)) (valuesOf (now (ys .entry))))) × (now (history .exit) ≡ pastAfterAll (now (history .entry)) (valuesOf (now (ys .entry)))) ⌝ }
+    requires { ⌜ (rangesRight (now coefficients) (now history) (numbersOf (now ys)) ≡ true) × (length (now ys) % 4 ≡ 0) × (length (now xs) ≡ length (now ys)) ⌝ }
+    ensures { λ r. ⌜ (now (xs .exit) ≡ numberOctets (inputsOf (now (coefficients .entry)) (now (history .entry)) (numbersOf (now (ys .entry))))) × (now (history .exit) ≡ pastAfterAll (now (history .entry)) (numbersOf (now (ys .entry)))) ⌝ }
 {
     let count = ys.len() / 4;
     let mut i = 0;
     while i < count {
-        let x = receive(word(ys, i), coefficients, history);
-        put_word(xs, i, x);
+        let x = receive(numbers::number(ys, i), coefficients, history);
+        numbers::put_number(xs, i, x);
         i += 1;
     }
 }
@@ -282,13 +205,13 @@ pub fn precode_run(coefficients: &[u8], history: &mut [u8], xs: &[u8], ys: &mut 
     if !lengths_right(coefficients, history, xs, ys) {
         return answer::LENGTH;
     }
-    let taps = words(coefficients);
-    let mut past = words(history);
+    let taps = numbers::numbers(coefficients);
+    let mut past = numbers::numbers(history);
     if !ranges_right(&taps, &past, xs) {
         return answer::RANGE;
     }
     send_all(&taps, &mut past, xs, ys);
-    put_words(history, &past);
+    numbers::put_numbers(history, &past);
     answer::DONE
 }
 
@@ -299,12 +222,12 @@ pub fn decode_run(coefficients: &[u8], history: &mut [u8], ys: &[u8], xs: &mut [
     if !lengths_right(coefficients, history, ys, xs) {
         return answer::LENGTH;
     }
-    let taps = words(coefficients);
-    let mut past = words(history);
+    let taps = numbers::numbers(coefficients);
+    let mut past = numbers::numbers(history);
     if !ranges_right(&taps, &past, ys) {
         return answer::RANGE;
     }
     receive_all(&taps, &mut past, ys, xs);
-    put_words(history, &past);
+    numbers::put_numbers(history, &past);
     answer::DONE
 }

@@ -1,4 +1,4 @@
--- The same, computed bit by bit (theorem `exactly`: it is the recurrence of Line.antt, and nothing else is).
+-- The same, computed bit by bit (theorems `run-scrambles` and `scrambles-run`: it is the recurrence of Line.antt, and nothing else is).
 use mathlib.Core.Bool.{Bool, true, false}
 use mathlib.Core.List.{List, [], _∷_}
 use Prim.Native.Nat.{ℕ, _+_, _-_, _*_, _/_, _%_, _^_}

@@ -2,7 +2,6 @@
 ghost use mathlib.Core.Path.{_≡_};
 ghost use mathlib.Core.Bool.{true, false};
 ghost use Prim.Native.Nat.{_+_, _*_, _^_, _<_, _≤_};
-ghost use lib.Dec.{ltb};
 ghost use lib.ListN.{length};
 ghost use Rattle.answer.specs.Answer.{answer};
 ghost use Rattle.octets.specs.Bits.{bitsOf, part, laid};
@@ -11,7 +10,7 @@ ghost use Rattle.scrambler.specs.Run.{scramble, descramble, outOf, nextO
 ghost use Rattle.scrambler.specs.Promises.{StartPromise, stepRefusals, StepPromise, runRefusals, RunPromise, frameRefusals, FramePromise};
 
 // The bits of a frame that clock the state: all but sync and pad.
-const CLOCKED: usize = 4213;
+const CLOCKED: usize = layout::PAYLOAD_BITS as usize;
 
 // An end's scrambler: the end, and the last 23 scrambled bits, the newest at weight 1.
 pub struct Scrambler {

@@ -1,5 +1,5 @@
 -- y/131,072 as an f32: the cast and the division round nothing, one float has that value, and it tells y. Assumes nothing.
-use Prim.Native.Nat.{ℕ, zero, suc, _+_, _*_, _%_, _^_, _≤_, _<_}
+use Prim.Native.Nat.{ℕ, zero, suc, _+_, _*_, _%_, _^_, _≤_}
 use native.Mathlib.Omega.{arith}
 use native.Mathlib.Nat.{mul-assoc, mul-comm, mul-one, one-mul, zero-mul, suc-mul, mul-left-comm, mul-right-comm, mul-pos, mul-le-mul-right, pow-suc, pow-succ', lt-of-le-of-lt, eq-of-mul-eq-mul-right}
 use mathlib.Core.Path.{_≡_, refl, sym, ap, ap₂, _∙_, subst}
@@ -17,7 +17,7 @@ use lib.Ieee.Fits.{down-pos, div-fits, and-l}
 use Rattle.signal.specs.Signal.{isSignal}
 use Rattle.signal.specs.Shaper.{Exactly}
 use Rattle.signal.proofs.Linear.{P, N, eq-of}
-use Rattle.signal.proofs.Range.{range-mag}
+use Rattle.ranges.proofs.Laws.{range-mag}
 
 -- ---- nothing is rounded
 

@@ -1,5 +1,4 @@
 pub mod Linear
-pub mod Range
 pub mod Rounding
 pub mod Moved
 pub mod Exact

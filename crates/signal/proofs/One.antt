@@ -1,20 +1,13 @@
 -- One result per call: two results, and two states of lent memory, that a promise allows for the same call are equal. Assumes nothing.
 use mathlib.Core.Path.{_≡_, sym, _∙_}
-use mathlib.Core.Bool.{Bool}
 use mathlib.Core.List.{List}
 use lib.IntN.{ℤ, pos}
 use Rattle.answer.specs.Answer.{held}
 use Rattle.signal.specs.declared.Shaped.{Shaped}
-use Rattle.signal.specs.Signal.{between, every, atStart, Rounds, Folds, pastAfter}
+use Rattle.signal.specs.Signal.{atStart, Rounds, Folds, pastAfter}
 use Rattle.signal.specs.Shaper.{Shapes}
 use Rattle.signal.proofs.Rounding.{rounds-unique, folds-unique}
 use Rattle.signal.proofs.Exact.{exact-unique}
-
-pub in-range-one : (z low high : ℤ) (r s : Bool) → r ≡ between low high z → s ≡ between low high z → r ≡ s
-in-range-one z low high r s p q = p ∙ sym q
-
-pub all-in-range-one : (values : List ℤ) (low high : ℤ) (r s : Bool) → r ≡ every (between low high) values → s ≡ every (between low high) values → r ≡ s
-all-in-range-one values low high r s p q = p ∙ sym q
 
 pub rounded-one : (s v w : ℤ) → Rounds s v → Rounds s w → v ≡ w
 rounded-one = rounds-unique

@@ -11,7 +11,7 @@ use mir.Syntax.{w32, w64}
 use mir.Val.{SFits}
 use Rattle.signal.specs.Signal.{isSignal, Rounds, Folds, nearest, foldOf}
 use Rattle.signal.proofs.Linear.{P, N, P-pos, N-pos, P-negsuc, N-negsuc, le-to, lt-to, le-of, lt-of, eq-of, add-bal, sub-is, neg-P, neg-N, mul-P, mul-N, abs-is, abs-of, P-mag, N-mag, mag-of, division, floor, lt-true, lt-false, le-true, le-false}
-use Rattle.signal.proofs.Range.{range-mag, mag-range}
+use Rattle.ranges.proofs.Laws.{range-mag, mag-range}
 
 -- a signal's parts above and below zero
 pub signal-to : (z : ℤ) → isSignal z ≡ true → (P z ≤ 131071) × (N z ≤ 131072)

@@ -1,27 +1,15 @@
 -- Numbers of the channel precoder (000, clause 4.3.4), all in whole steps of 1/131,072: ranges, rounding, folding and the past.
 use mathlib.Core.Path.{_≡_}
-use mathlib.Core.Bool.{Bool, true, _&&_}
-use mathlib.Core.List.{List, [], _∷_}
+use mathlib.Core.Bool.{Bool, true}
+use mathlib.Core.List.{List, _∷_}
 use lib.IntN.{ℤ, pos, negℤ, _+ℤ_, _-ℤ_, _*ℤ_}
 use lib.ListN.{take, replicate}
-use lib.Signed.{leZ, shrZ, _≤ℤ_, _<ℤ_}
-
--- whether a number lies from low to high
-abbrev pub between : ℤ → ℤ → ℤ → Bool
-between low high z = leZ low z && leZ z high
+use lib.Signed.{shrZ, _≤ℤ_, _<ℤ_}
+use Rattle.ranges.specs.Ranges.{between}
 
 -- x, y and past outputs lie from -131,072 to 131,071
 abbrev pub isSignal : ℤ → Bool
 isSignal z = between (negℤ (pos 131072)) (pos 131071) z
-
--- a coefficient lies from -2,097,152 to 2,097,151
-abbrev pub isCoefficient : ℤ → Bool
-isCoefficient z = between (negℤ (pos 2097152)) (pos 2097151) z
-
--- whether a test holds of every number of a list
-unfoldable pub every : (ℤ → Bool) → List ℤ → Bool
-every test [] = true
-every test (z ∷ zs) = test z && every test zs
 
 -- the last 180 outputs, y(m-1) first, are all zero at first
 abbrev pub atStart : List ℤ

@@ -4,7 +4,7 @@ ghost use Prim.Native.Nat.{_<_, _^_};
 ghost use lib.IntN.{pos, natAbs, _+ℤ_, _*ℤ_};
 ghost use lib.ListN.{length};
 ghost use lib.Signed.{_≤ℤ_, _<ℤ_};
-ghost use Rattle.signal.specs.Signal.{between, every, atStart, Rounds, Folds, pastAfter};
+ghost use Rattle.signal.specs.Signal.{atStart, Rounds, Folds, pastAfter};
 ghost use Rattle.signal.specs.Shaper.{Shapes};
 
 // The range of x, y and past outputs.
@@ -12,49 +12,16 @@ pub const LOWEST: i32 = -131_072;
 
 pub const HIGHEST: i32 = 131_071;
 
-// The range of a coefficient.
-pub const LOWEST_COEFFICIENT: i32 = -2_097_152;
-
-pub const HIGHEST_COEFFICIENT: i32 = 2_097_151;
-
 // What the shaper is handed, with the answer first.
 pub struct Shaped {
     pub answer: u32,
     pub value: f32,
 }
 
-// Whether a number lies from low to high.
-pub fn in_range(z: i32, low: i32, high: i32) -> bool
-    ensures { λ r. ⌜ r ≡ between low high z ⌝ }
-{
-    if z < low {
-        return false;
-    }
-    if high < z {
-        return false;
-    }
-    true
-}
-
 // Tells a proof that a lent array has its 180 elements: a reference alone does not say so.
 fn whole(values: [i32; 180])
     ensures { λ r. ⌜ length values ≡ 180 ⌝ }
 {}
-
-// Whether all 180 numbers lie from low to high.
-pub fn all_in_range(values: &[i32; 180], low: i32, high: i32) -> bool
-    ensures { λ r. ⌜ r ≡ every (between low high) (now (values .entry)) ⌝ }
-{
-    whole(*values);
-    let mut k = 0;
-    while k < 180 {
-        if !in_range(values[k], low, high) {
-            return false;
-        }
-        k += 1;
-    }
-    true
-}
 
 // The floor, or the next number where the rest is half a step or more.
 fn halves_up(floor: i64, rest: i64) -> i64
@@ -118,7 +85,7 @@ pub fn shift(history: &mut [i32; 180], y: i32)
 pub fn shaper(y: i32) -> Shaped
     ensures { λ r. ⌜ Shapes y r ⌝ }
 {
-    if !in_range(y, LOWEST, HIGHEST) {
+    if !ranges::in_range(y, LOWEST, HIGHEST) {
         return Shaped {
             answer: answer::RANGE,
             value: 0.0,

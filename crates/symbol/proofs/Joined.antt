@@ -2,18 +2,19 @@
 use mathlib.Core.Path.{_≡_, refl, sym, ap, ap₂, _∙_, subst}
 use mathlib.Core.Bool.{true, not}
 use mathlib.Core.List.{List, [], _∷_, _++_}
-use Prim.Native.Nat.{ℕ, _+_, _<_}
+use Prim.Native.Nat.{ℕ, _+_}
 use borrow.Author.Tests.{eqb-true, eq-eqb, not-false}
-use lib.Dec.{eqb, leb, lit<}
+use lib.Dec.{eqb, leb}
 use lib.ListN.{length, length-append}
 use Rattle.answer.specs.Answer.{refuse, answer}
 use Rattle.answer.proofs.Laws.{none, given}
+use Rattle.octets.proofs.Digits.{Bits, nil-bits, digits-bits}
+use Rattle.ranges.proofs.Laws.{both}
 use Rattle.symbol.specs.declared.Encoder.{Encoder}
 use Rattle.symbol.specs.declared.Step.{Step}
 use Rattle.symbol.specs.declared.Run.{Run}
 use Rattle.symbol.specs.Encoder.{x1, codeOf, codesOf, sentAfter, registerOf, heldIn, encoderIn, symbolsIn, withRegister, startOf, Stepped, Ran}
-use Rattle.symbol.proofs.Runs.{and-true}
-use Rattle.symbol.proofs.Sent.{Bits, Agree, agree-kept, held-sent, low-bits, sent-bits, code-agree, register-agree, codes-joined, sent-joined, codes-from-register, register-from-register}
+use Rattle.symbol.proofs.Sent.{Agree, agree-kept, held-sent, sent-bits, code-agree, register-agree, codes-joined, sent-joined, codes-from-register, register-from-register}
 
 -- what a run that answered 0 has shown and written
 pub record Done (e : Encoder) (symbols codes : List ℕ) (r : Run) (codes′ : List ℕ) : Type 0 where
@@ -40,7 +41,7 @@ symbols-joined : (first second : List ℕ) → symbolsIn first ≡ true → symb
 unfolding symbolsIn
 symbols-joined [] second p q = q
 symbols-joined (s ∷ first) second p q =
-    let h = and-true (leb s 7) (symbolsIn first) p in
+    let h = both (leb s 7) (symbolsIn first) p in
     rw (h .0) (symbols-joined first second (h .1) q)
 
 -- two runs, the second from the state that the first handed back, are one run of the joined symbols
@@ -51,7 +52,7 @@ joined e first second codes more r s codes′ more′ p rz q sz =
     let f = done e first codes r codes′ p rz in
     let g = done (r .next) second more s more′ q sz in
     let earlier = heldIn (e .register) in
-    let bits = sent-bits earlier first (low-bits 20 (e .register)) in
+    let bits = sent-bits earlier first (digits-bits 20 (e .register)) in
     let h : Done (withRegister e (registerOf (sentAfter earlier first))) second more s more′ = subst (λ (x : Encoder). Done x second more s more′) (f .next) g in
     let lengths : length (codes ++ more) ≡ length (first ++ second) =
     length-append codes more ∙ ap₂ (λ (m n : ℕ). m + n) (f .lengths) (h .lengths) ∙ sym (length-append first second) in
@@ -89,4 +90,4 @@ run-is e sent symbols codes r codes′ bits h p z =
 -- from the start, before which no X1 was sent
 pub from-start : (a b : ℕ) (symbols codes : List ℕ) (r : Run) (codes′ : List ℕ)
     → Ran (startOf a b) symbols codes r codes′ → r .answer ≡ 0 → codes′ ≡ codesOf a b [] symbols
-from-start a b symbols codes r codes′ p z = run-is (startOf a b) [] symbols codes r codes′ (λ k. lit< tt) refl p z .0
+from-start a b symbols codes r codes′ p z = run-is (startOf a b) [] symbols codes r codes′ nil-bits refl p z .0

@@ -1,8 +1,8 @@
 -- Laws of steps and runs: what one turn adds to a run. Assumes nothing.
-use mathlib.Core.Path.{_≡_, refl, ap, _∙_}
-use mathlib.Core.Bool.{Bool, true, false, _&&_}
+use mathlib.Core.Path.{_≡_, ap, _∙_}
+use mathlib.Core.Bool.{true, false}
 use mathlib.Core.List.{List, [], _∷_, _++_, append-nil}
-use Prim.Native.Nat.{ℕ, zero, suc, _+_, _-_, _/_, _^_, _≤_, _<_}
+use Prim.Native.Nat.{ℕ, zero, suc, _+_, _/_, _^_, _≤_, _<_}
 use native.Mathlib.Omega.{arith}
 use native.Mathlib.Numerals.{add-one}
 use native.Mathlib.Nat.{mod-eq-of-lt}
@@ -10,22 +10,20 @@ use borrow.Author.Tests.{le-leb, lt-leb, leb-true, ltb-true, lt-ltb}
 use lib.Dec.{leb, lit≤}
 use lib.ListN.{length, getD, take, drop, set}
 use lib.Seq.{take-suc-set, drop-cons, drop-length, take-length, append-snoc}
+use Rattle.octets.specs.Bits.{valueOf}
+use Rattle.octets.proofs.Digits.{Bits, cons-bits, digits-bits, digits-take, value-digits, value-part}
+use Rattle.ranges.proofs.Laws.{both}
 use Rattle.symbol.specs.declared.Encoder.{Encoder}
-use Rattle.symbol.specs.Encoder.{x1, codeOf, sentAfter, codesOf, numberOf, registerOf, heldIn, encoderIn, symbolsIn, withRegister}
-use Rattle.symbol.proofs.Sent.{Bits, low-bits, cons-bits, number-small, number-low, take-low, codes-from-register, register-from-register}
+use Rattle.symbol.specs.Encoder.{x1, codeOf, sentAfter, codesOf, registerOf, heldIn, encoderIn, symbolsIn, withRegister}
+use Rattle.symbol.proofs.Sent.{bit-below, codes-from-register, register-from-register}
 
 -- ---- the tests
-
--- two tests that both hold
-pub and-true : (s t : Bool) → s && t ≡ true → (s ≡ true) × (t ≡ true)
-and-true true t e = (refl, e)
-and-true false t e = let z : _≡_ {A = Bool} false true = e in (cc, cc)
 
 -- an encoder in range has A, B and the register in theirs
 pub encoder-in : (e : Encoder) → encoderIn e ≡ true → (e .a ≤ 2097151) × (e .b ≤ 2097151) × (e .register < 2 ^ 20)
 encoder-in e h =
-    let p = and-true _ _ h in
-    let q = and-true _ _ (p .1) in
+    let p = both _ _ h in
+    let q = both _ _ (p .1) in
     (leb-true _ _ (p .0), leb-true _ _ (q .0), ltb-true _ _ (q .1))
 
 -- a code has four bits
@@ -52,21 +50,21 @@ symbols-end symbols i h k =
 pub symbol-in : (symbols : List ℕ) (i : ℕ) → i < length symbols → symbolsIn symbols ≡ true → getD symbols i 0 ≤ 7
 unfolding symbolsIn
 symbol-in [] i h e = omega arith
-symbol-in (s ∷ symbols) zero h e = leb-true s 7 (and-true (leb s 7) (symbolsIn symbols) e .0)
-symbol-in (s ∷ symbols) (suc i) h e = symbol-in symbols i (omega arith) (and-true (leb s 7) (symbolsIn symbols) e .1)
+symbol-in (s ∷ symbols) zero h e = leb-true s 7 (both (leb s 7) (symbolsIn symbols) e .0)
+symbol-in (s ∷ symbols) (suc i) h e = symbol-in symbols i (omega arith) (both (leb s 7) (symbolsIn symbols) e .1)
 
 -- ---- a turn of a run
 
 -- a register's own bits make it
 register-own : (register : ℕ) → register < 2 ^ 20 → registerOf (heldIn register) ≡ register
-register-own register h = ap numberOf (take-low 20 20 register (lit≤ tt)) ∙ number-low 20 register ∙ mod-eq-of-lt h
+register-own register h = ap valueOf (digits-take 20 20 register (lit≤ tt)) ∙ value-digits 20 register ∙ mod-eq-of-lt h
 
 -- a symbol's X1 before a register's are bits
 next-bits : (symbols : List ℕ) (register i : ℕ) → Bits (x1 (getD symbols i 0) ∷ heldIn register)
-next-bits symbols register i = cons-bits (getD symbols i 0 / 2 ^ 2) (heldIn register) (low-bits 20 register)
+next-bits symbols register i = cons-bits (x1 (getD symbols i 0)) (heldIn register) (bit-below (getD symbols i 0 / 2 ^ 2)) (digits-bits 20 register)
 
 pub next-small : (symbols : List ℕ) (register i : ℕ) → registerOf (x1 (getD symbols i 0) ∷ heldIn register) < 2 ^ 20
-next-small symbols register i = number-small 20 (x1 (getD symbols i 0) ∷ heldIn register) (next-bits symbols register i)
+next-small symbols register i = value-part 20 (x1 (getD symbols i 0) ∷ heldIn register) (next-bits symbols register i)
 
 module _ (a b : ℕ) (symbols : List ℕ) (register i : ℕ) (hi : i < length symbols) where
   abbrev symbol : ℕ

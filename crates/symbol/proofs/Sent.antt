@@ -4,24 +4,24 @@ use mathlib.Core.Bool.{Bool, true, false}
 use mathlib.Core.List.{List, [], _∷_, _++_}
 use Prim.Native.Nat.{ℕ, zero, suc, _+_, _-_, _*_, _/_, _%_, _^_, _≤_, _<_, min, zero-le, suc-le-suc}
 use native.Mathlib.Omega.{arith}
-use native.Mathlib.Nat.{not-suc-le-zero, zero-add, le-of-suc-le-suc, mod-lt, mod-one, div-one, div-div-eq-div-mul, mul-comm, pow-suc, zero-mul, one-mul, lt-of-le-of-lt, min-le-left}
-use lib.Arith.{digits-div, digits-mod, lt-one, mod-mul}
-use lib.Pow.{pow-pos}
-use lib.Dec.{lit<, ltb}
+use native.Mathlib.Nat.{not-suc-le-zero, zero-add, le-of-suc-le-suc, mod-lt, div-one, pow-suc, zero-mul, one-mul, lt-of-le-of-lt, min-le-left}
+use lib.Arith.{digits-div, digits-mod, lt-one}
+use lib.Dec.{ltb}
 use borrow.Author.Tests.{ltb-true, ltb-false}
 use lib.Bits.{bitAnd, and-step, and-zero-r}
 use lib.Count.{ones, onesIn, ones-step}
 use lib.ListN.{length, getD, take}
-use Rattle.symbol.specs.Encoder.{bit, x1, x2, x3, onesLeft, parityOf, codeOf, sentAfter, codesOf, lowBits, numberOf, registerOf, heldIn}
+use Rattle.octets.specs.Bits.{digitsOf, valueOf}
+use Rattle.octets.proofs.Digits.{Bits, cons-bits, shr-suc, digits-take, digits-zero, value-digits, value-next}
+use Rattle.symbol.specs.Encoder.{bit, x1, x2, x3, onesLeft, parityOf, codeOf, sentAfter, codesOf, registerOf, heldIn}
 
 -- ---- the ones of a masked word are those of the sum by place
 
-bit-below : (x : ℕ) → x % 2 < 2
+pub bit-below : (x : ℕ) → x % 2 < 2
 bit-below x = mod-lt x (suc-le-suc zero-le)
 
 bit-half : (x k : ℕ) → bit x (suc k) ≡ bit (x / 2) k
-bit-half x k =
-    ap (λ (y : ℕ). y % 2) (ap (λ (y : ℕ). x / y) (pow-suc 2 k ∙ mul-comm (2 ^ k) 2) ∙ sym (div-div-eq-div-mul x 2 (2 ^ k)))
+bit-half x k = ap (λ (y : ℕ). y % 2) (sym (shr-suc x k))
 
 -- the lowest place first
 ones-cons : (n word x : ℕ) (xs : List ℕ) → onesLeft (suc n) word (x ∷ xs) ≡ word % 2 * x + onesLeft n (word / 2) xs
@@ -47,8 +47,8 @@ and-odd a b =
     ap (λ (x : ℕ). x % 2) (and-step a b) ∙ digits-mod (bitAnd (a / 2) (b / 2)) (and-low a b)
     ∙ both (a % 2) (b % 2) (bit-below a) (bit-below b)
 
-pub ones-are : (n word window : ℕ) → window < 2 ^ n → ones (bitAnd word window) ≡ onesLeft n word (lowBits n window)
-unfolding onesLeft lowBits ones onesIn
+pub ones-are : (n word window : ℕ) → window < 2 ^ n → ones (bitAnd word window) ≡ onesLeft n word (digitsOf n window)
+unfolding onesLeft digitsOf ones onesIn
 ones-are zero word window h =
     ap (λ (x : ℕ). ones (bitAnd word x)) (lt-one h) ∙ ap ones (and-zero-r word)
 ones-are (suc n) word window h =
@@ -56,7 +56,7 @@ ones-are (suc n) word window h =
     ones-step (bitAnd word window)
     ∙ ap₂ (λ (x y : ℕ). x + ones y) (and-odd word window) (and-half word window)
     ∙ ap (λ (x : ℕ). word % 2 * (window % 2) + x) (ones-are n (word / 2) (window / 2) l)
-    ∙ sym (ones-cons n word (window % 2) (lowBits n (window / 2)))
+    ∙ sym (ones-cons n word (window % 2) (digitsOf n (window / 2)))
 
 -- ---- a register's bits
 
@@ -64,59 +64,19 @@ ones-are (suc n) word window h =
 abbrev pub Agree : ℕ → List ℕ → List ℕ → Type 0
 Agree n xs ys = (k : ℕ) → k < n → getD xs k 0 ≡ getD ys k 0
 
--- a list of bits
-abbrev pub Bits : List ℕ → Type 0
-Bits xs = (k : ℕ) → getD xs k 0 < 2
-
-pub number-low : (n x : ℕ) → numberOf (lowBits n x) ≡ x % 2 ^ n
-unfolding numberOf lowBits
-number-low zero x = sym (mod-one x)
-number-low (suc n) x =
-    let e : x % 2 ^ suc n ≡ x / 2 % 2 ^ n * 2 + x % 2 = ap (λ (m : ℕ). x % m) (pow-suc 2 n) ∙ mod-mul x (pow-pos n) (lit< tt) in
-    omega (arith, e, number-low n (x / 2))
-
-pub number-small : (n : ℕ) (xs : List ℕ) → Bits xs → numberOf (take n xs) < 2 ^ n
-unfolding numberOf
-number-small zero xs h = lit< tt
-number-small (suc n) [] h = pow-pos (suc n)
-number-small (suc n) (x ∷ xs) h = omega (arith, pow-suc 2 n, h 0, number-small n xs (λ k. h (suc k)))
-
-pub take-low : (n m x : ℕ) → n ≤ m → take n (lowBits m x) ≡ lowBits n x
-unfolding lowBits
-take-low zero m x h = refl
-take-low (suc n) zero x h = absurd (not-suc-le-zero h)
-take-low (suc n) (suc m) x h = ap (λ (l : List ℕ). x % 2 ∷ l) (take-low n m (x / 2) (le-of-suc-le-suc h))
-
-pub low-bits : (n x : ℕ) → Bits (lowBits n x)
-unfolding lowBits
-low-bits zero x k = lit< tt
-low-bits (suc n) x zero = bit-below x
-low-bits (suc n) x (suc k) = low-bits n (x / 2) k
-
-low-zero : (n k : ℕ) → getD (lowBits n 0) k 0 ≡ 0
-unfolding lowBits
-low-zero zero k = refl
-low-zero (suc n) zero = refl
-low-zero (suc n) (suc k) = low-zero n k
-
-pub cons-bits : (x : ℕ) (xs : List ℕ) → Bits xs → Bits (x % 2 ∷ xs)
-cons-bits x xs h zero = bit-below x
-cons-bits x xs h (suc k) = h k
-
 -- reading back a number made of bits
-low-number : (n : ℕ) (xs : List ℕ) → Bits xs → Agree n (lowBits n (numberOf (take n xs))) xs
-unfolding numberOf lowBits
-low-number zero xs b k h = absurd (not-suc-le-zero h)
-low-number (suc n) [] b zero h = refl
-low-number (suc n) [] b (suc k) h = low-zero n k
-low-number (suc n) (x ∷ xs) b zero h = omega (arith, b 0)
-low-number (suc n) (x ∷ xs) b (suc k) h =
-    let e : (x + 2 * numberOf (take n xs)) / 2 ≡ numberOf (take n xs) = omega (arith, b 0) in
-    rw e (low-number n xs (λ i. b (suc i)) k (le-of-suc-le-suc h))
+digits-agree : (n : ℕ) (xs : List ℕ) → Bits xs → Agree n (digitsOf n (valueOf (take n xs))) xs
+unfolding valueOf digitsOf
+digits-agree zero xs b k h = absurd (not-suc-le-zero h)
+digits-agree (suc n) [] b zero h = refl
+digits-agree (suc n) [] b (suc k) h = digits-zero n k
+digits-agree (suc n) (x ∷ xs) b zero h = digits-mod (valueOf (take n xs)) (b 0)
+digits-agree (suc n) (x ∷ xs) b (suc k) h =
+    rw (digits-div (valueOf (take n xs)) (b 0)) (digits-agree n xs (λ i. b (suc i)) k (le-of-suc-le-suc h))
 
 -- the register holds the last twenty X1 sent
 pub held-sent : (sent : List ℕ) → Bits sent → Agree 20 (heldIn (registerOf sent)) sent
-held-sent sent b = low-number 20 sent b
+held-sent sent b = digits-agree 20 sent b
 
 -- ---- only the last twenty X1 count
 
@@ -133,22 +93,15 @@ ones-agree zero word xs ys e = refl
 ones-agree (suc n) word xs ys e =
     ap₂ (λ (y z : ℕ). y + bit word n * z) (ones-agree n word xs ys (λ k h. e k (omega arith))) (e n (omega arith))
 
-number-none : (n : ℕ) (xs : List ℕ) → Agree n xs [] → numberOf (take n xs) ≡ 0
-unfolding numberOf
-number-none zero xs e = refl
-number-none (suc n) [] e = refl
-number-none (suc n) (x ∷ xs) e = omega (arith, e 0 (omega arith), number-none n xs (λ k h. e (suc k) (suc-le-suc h)))
-
-number-agree : (n : ℕ) (xs ys : List ℕ) → Agree n xs ys → numberOf (take n xs) ≡ numberOf (take n ys)
-unfolding numberOf
-number-agree zero xs ys e = refl
-number-agree (suc n) [] [] e = refl
-number-agree (suc n) [] (y ∷ ys) e = sym (number-none (suc n) (y ∷ ys) (λ k h. sym (e k h)))
-number-agree (suc n) (x ∷ xs) [] e = number-none (suc n) (x ∷ xs) e
-number-agree (suc n) (x ∷ xs) (y ∷ ys) e = ap₂ (λ (a b : ℕ). a + 2 * b) (e 0 (omega arith)) (number-agree n xs ys (λ k h. e (suc k) (suc-le-suc h)))
+value-agree : (n : ℕ) (xs ys : List ℕ) → Agree n xs ys → valueOf (take n xs) ≡ valueOf (take n ys)
+value-agree zero xs ys e = refl
+value-agree (suc n) xs ys e =
+    value-next xs n
+    ∙ ap₂ (λ (d v : ℕ). d * 2 ^ n + v) (e n (omega arith)) (value-agree n xs ys (λ k h. e k (omega arith)))
+    ∙ sym (value-next ys n)
 
 pub register-agree : (xs ys : List ℕ) → Agree 20 xs ys → registerOf xs ≡ registerOf ys
-register-agree xs ys e = number-agree 20 xs ys e
+register-agree xs ys e = value-agree 20 xs ys e
 
 module _ (a b : ℕ) where
   pub code-agree : (xs ys : List ℕ) (symbol : ℕ) → Agree 20 xs ys → codeOf a b xs symbol ≡ codeOf a b ys symbol
@@ -237,7 +190,7 @@ sent-joined earlier (s ∷ first) second = sent-joined (x1 s ∷ earlier) first 
 pub sent-bits : (earlier symbols : List ℕ) → Bits earlier → Bits (sentAfter earlier symbols)
 unfolding sentAfter
 sent-bits earlier [] h = h
-sent-bits earlier (s ∷ symbols) h = sent-bits (x1 s ∷ earlier) symbols (cons-bits (s / 2 ^ 2) earlier h)
+sent-bits earlier (s ∷ symbols) h = sent-bits (x1 s ∷ earlier) symbols (cons-bits (x1 s) earlier (bit-below (s / 2 ^ 2)) h)
 
 -- ---- what a turn computes
 
@@ -245,12 +198,12 @@ module _ (register symbol : ℕ) (hr : register < 2 ^ 20) (hs : symbol ≤ 7) wh
   abbrev window : ℕ
   window = register * 2 + symbol / 4
 
-  window-is : lowBits 21 window ≡ x1 symbol ∷ heldIn register
-  unfolding lowBits
+  window-is : digitsOf 21 window ≡ x1 symbol ∷ heldIn register
+  unfolding digitsOf
   window-is =
       let e : window % 2 ≡ x1 symbol = omega arith in
       let f : window / 2 ≡ register = omega arith in
-      ap₂ (λ (x y : ℕ). x ∷ lowBits 20 y) e f
+      ap₂ (λ (x y : ℕ). x ∷ digitsOf 20 y) e f
 
   pub turn-parity : (word : ℕ) → ones (bitAnd word window) % 2 ≡ parityOf word (x1 symbol ∷ heldIn register)
   turn-parity word =
@@ -258,4 +211,4 @@ module _ (register symbol : ℕ) (hr : register < 2 ^ 20) (hs : symbol ≤ 7) wh
 
   pub turn-register : window % 2 ^ 20 ≡ registerOf (x1 symbol ∷ heldIn register)
   turn-register =
-      sym (number-low 20 window) ∙ ap numberOf (sym (take-low 20 21 window (omega arith)) ∙ ap (take 20) window-is)
+      sym (value-digits 20 window) ∙ ap valueOf (sym (digits-take 20 21 window (omega arith)) ∙ ap (take 20) window-is)

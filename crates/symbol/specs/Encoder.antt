@@ -7,6 +7,8 @@ use lib.Dec.{leb, ltb}
 use lib.IntN.{pos}
 use lib.ListN.{length, getD, take}
 use Rattle.answer.specs.Answer.{Refusal, refuse, wrongLength, answer, held}
+use Rattle.octets.specs.Bits.{digitsOf, valueOf}
+use Rattle.ranges.specs.Ranges.{isWord}
 use Rattle.symbol.specs.Levels.{dataLevels, levelAt}
 use Rattle.symbol.specs.declared.Encoder.{Encoder}
 use Rattle.symbol.specs.declared.Step.{Step}
@@ -52,27 +54,17 @@ unfoldable pub codesOf : ℕ → ℕ → List ℕ → List ℕ → List ℕ
 codesOf a b earlier [] = []
 codesOf a b earlier (symbol ∷ symbols) = codeOf a b earlier symbol ∷ codesOf a b (x1 symbol ∷ earlier) symbols
 
--- the n low bits of a number, that of weight 1 first
-unfoldable pub lowBits : ℕ → ℕ → List ℕ
-lowBits zero x = []
-lowBits (suc n) x = x % 2 ∷ lowBits n (x / 2)
-
--- the number whose bits these are, that of weight 1 first
-unfoldable pub numberOf : List ℕ → ℕ
-numberOf [] = 0
-numberOf (d ∷ ds) = d + 2 * numberOf ds
-
 -- the register once these X1 were sent, newest first: 20 bits, the newest at weight 1
 abbrev pub registerOf : List ℕ → ℕ
-registerOf sent = numberOf (take 20 sent)
+registerOf sent = valueOf (take 20 sent)
 
 -- the X1 that a register holds, newest first
 abbrev pub heldIn : ℕ → List ℕ
-heldIn register = lowBits 20 register
+heldIn register = digitsOf 20 register
 
 -- whether A and B run from 0 to 2,097,151 and the register is below 2^20
 abbrev pub encoderIn : Encoder → Bool
-encoderIn e = leb (e .a) 2097151 && (leb (e .b) 2097151 && ltb (e .register) (2 ^ 20))
+encoderIn e = isWord (e .a) && (isWord (e .b) && ltb (e .register) (2 ^ 20))
 
 -- of a step: A, B or the register out of range, or a symbol over 7, is 4
 abbrev pub stepTests : Encoder → ℕ → List Refusal

@@ -133,8 +133,6 @@ struct Turn {
 }
 
 impl Encoder {
-    // The highest A or B, 21 bits.
-    pub const HIGHEST_WORD: u32 = 0x1f_ffff;
     // Registers lie below this, 20 bits.
     pub const REGISTERS: u32 = 0x10_0000;
     // The register before the first symbol.
@@ -155,10 +153,10 @@ impl Encoder {
     fn in_range(self) -> bool
         ensures { λ r. ⌜ r ≡ encoderIn self ⌝ }
     {
-        if Self::HIGHEST_WORD < self.a {
+        if ranges::HIGHEST_WORD < self.a {
             return false;
         }
-        if Self::HIGHEST_WORD < self.b {
+        if ranges::HIGHEST_WORD < self.b {
             return false;
         }
         self.register < Self::REGISTERS

@@ -1,65 +1,24 @@
 -- Laws of writing a frame, field behind field. Assumes nothing.
 use mathlib.Core.Path.{_≡_, refl, sym, ap, ap₂, _∙_, subst}
-use mathlib.Core.Bool.{Bool, true, false, _&&_}
-use mathlib.Core.List.{List, [], _∷_, _++_, append-assoc, reverse}
-use Prim.Native.Nat.{ℕ, zero, suc, _+_, _-_, _*_, _^_, _≤_, _<_}
-use native.Mathlib.Nat.{le-of-suc-le-suc, not-suc-le-zero}
-use native.Mathlib.Numerals.{add-one}
+use mathlib.Core.List.{List, _++_, append-assoc, reverse}
+use Prim.Native.Nat.{ℕ, zero, suc, _+_, _-_, _*_, _≤_, _<_}
 use native.Mathlib.Omega.{arith}
-use borrow.Author.Tests.{ltb-true, ltb-false, lt-leb, le-leb}
 use lib.Dec.{lit≤}
-use lib.IntN.{ℤ, pos, negsuc}
+use lib.IntN.{ℤ, pos}
 use lib.ListN.{length, getD, take, drop, replicate, length-append, length-drop, length-replicate, replicate-append-replicate, List·getD-append, getD-replicate}
-use lib.Seq.{getD-take, getD-append-add, length-take-le, sets-eq, take-at, take-suc, take-all, take-add}
-use lib.Signed.{ltZ, leZ}
+use lib.Seq.{getD-take, getD-append-add, length-take-le, sets-eq, take-at, take-all, take-add}
 use Rattle.octets.specs.Bits.{digitsOf, valueOf, bitsOf, octetsOf, part, laid}
 use Rattle.octets.specs.Signed.{twosOf, numberBits}
 use Rattle.octets.proofs.Digits.{Bits, append-bits, digits-length, digits-bits, zeros-bits, take-bits, drop-bits}
-use Rattle.octets.proofs.Laws.{bits-length, bits-bits, laid-length, laid-bits, laid-next, laid-end}
+use Rattle.octets.proofs.Laws.{bits-length, bits-bits, laid-bits, laid-next, laid-end}
 use Rattle.octets.proofs.Numbers.{number-length, number-bits}
-use Rattle.octets.proofs.Fields.{reads-back, part-stays, part-before, part-behind, part-is}
+use Rattle.octets.proofs.Fields.{part-is}
 use Rattle.remainder.specs.Division.{checkBits, generator}
 use Rattle.remainder.specs.Promises.{CheckBits}
 use Rattle.remainder.proofs.Division.{computed}
 use Rattle.remainder.proofs.Errors.{generator-degree}
 use Rattle.layout.specs.Frame.{trainingSync, finalSync, coefficientBits, used, message, checkOf, frameBits, trainingBits, finalBits}
-use Rattle.layout.specs.Refusals.{inRange, allInRange}
-use Rattle.layout.proofs.Laws.{all-append, used-length, tail-length, tail-bits, check-put, check-length, check-bits, training-digits, final-digits, training-length, final-length, training-bits, final-bits}
-
--- ---- ranges
-
-pub range-under : (c : ℤ) → ltZ c (negsuc 2097151) ≡ true → false ≡ inRange c
-unfolding inRange
-range-under (pos n) e = absurd (mathlib.Core.Bool.true≢false (sym e))
-range-under (negsuc n) e = sym (lt-leb n 2097151 (ltb-true 2097151 n e))
-
-pub range-over : (c : ℤ) → ltZ c (negsuc 2097151) ≡ false → leZ c (pos 2097151) ≡ inRange c
-unfolding inRange
-range-over (pos n) e = refl
-range-over (negsuc n) e = sym (le-leb n 2097151 (ltb-false 2097151 n e))
-
--- one coefficient more
-all-more : (cs : List ℤ) (k : ℕ) → k < length cs → allInRange (take (suc k) cs) ≡ (allInRange (take k cs) && inRange (getD cs k (pos 0)))
-unfolding allInRange
-all-more cs k h =
-    let c = getD cs k (pos 0) in
-    ap allInRange (take-suc cs k (pos 0) h) ∙ all-append (take k cs) (c ∷ []) ∙ ap (λ (t : Bool). allInRange (take k cs) && t) (and-true (inRange c))
-  where
-    and-true : (t : Bool) → (t && true) ≡ t
-    and-true true = refl
-    and-true false = refl
-
-module _ (cs : List ℤ) (k : ℕ) (h : k < length cs) where
-  pub all-next : allInRange (take k cs) ≡ true → inRange (getD cs k (pos 0)) ≡ true → allInRange (take (k + 1) cs) ≡ true
-  all-next a b = ap (λ (n : ℕ). allInRange (take n cs)) (add-one k) ∙ all-more cs k h ∙ ap₂ _&&_ a b
-
-  pub all-not : (n : ℕ) → k < n → allInRange (take k cs) ≡ true → inRange (getD cs k (pos 0)) ≡ false → allInRange (take n cs) ≡ false
-  all-not n l a b =
-      let e : n ≡ suc k + (n - suc k) = omega arith in
-      ap (λ (m : ℕ). allInRange (take m cs)) e
-      ∙ ap allInRange (take-add (suc k) (n - suc k) cs)
-      ∙ all-append (take (suc k) cs) (take (n - suc k) (drop (suc k) cs))
-      ∙ ap (λ (t : Bool). t && allInRange (take (n - suc k) (drop (suc k) cs))) (all-more cs k h ∙ ap₂ _&&_ a b)
+use Rattle.layout.proofs.Laws.{used-length, tail-length, tail-bits, check-put, check-length, check-bits, training-digits, final-digits, training-length, final-length, training-bits, final-bits}
 
 -- ---- the coefficients in use
 

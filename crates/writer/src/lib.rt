@@ -1,39 +1,12 @@
 // Writing an activation frame (document 01, "The activation frame").
 ghost use mathlib.Core.Path.{_≡_};
-ghost use mathlib.Core.Bool.{true};
 ghost use mathlib.Core.List.{_++_};
 ghost use Prim.Native.Nat.{_<_, _≤_};
 ghost use lib.IntN.{pos};
-ghost use lib.ListN.{length, getD, take, replicate};
+ghost use lib.ListN.{length, getD, replicate};
 ghost use Rattle.octets.specs.Bits.{digitsOf, bitsOf, octetsOf, part, laid};
 ghost use Rattle.layout.specs.Frame.{coefficientBits, used, frameBits, trainingBits, finalBits};
-ghost use Rattle.layout.specs.Refusals.{inRange, allInRange};
 ghost use Rattle.writer.specs.Promises.{Written};
-
-// Whether a coefficient is in its range.
-fn in_range(c: i32) -> bool
-    ensures { λ r. ⌜ r ≡ inRange c ⌝ }
-{
-    if c < layout::LEAST_COEFFICIENT {
-        return false;
-    }
-    c <= layout::LARGEST_COEFFICIENT
-}
-
-// Whether the first n coefficients are.
-fn all_in_range(coefficients: &[i32], n: usize) -> bool
-    requires { ⌜ n ≤ length (now coefficients) ⌝ }
-    ensures { λ r. ⌜ r ≡ allInRange (take n (now (coefficients .entry))) ⌝ }
-{
-    let mut k = 0;
-    while k < n {
-        if !in_range(coefficients[k]) {
-            return false;
-        }
-        k += 1;
-    }
-    true
-}
 
 // The coefficient at index k as it is written: zero behind the first `count`.
 fn coefficient(coefficients: &[i32], count: usize, k: usize) -> i32
@@ -53,7 +26,7 @@ fn put_coefficients(frame: &mut [u8], coefficients: &[i32], count: usize)
         let c = coefficient(coefficients, count, k);
         octets::put_signed_field(
             frame,
-            layout::COEFFICIENTS_AT + 22 * k,
+            layout::COEFFICIENTS_AT + layout::COEFFICIENT_STEP * k,
             layout::COEFFICIENT_BITS,
             c,
         );
@@ -92,7 +65,7 @@ fn put_final(frame: &mut [u8], vendor: &[u8])
     ensures { λ r. ⌜ now (frame .exit) ≡ octetsOf 529 (finalBits (now (vendor .entry))) ⌝ }
 {
     octets::put_field(frame, 0, layout::SYNC_BITS, layout::FINAL_SYNC);
-    octets::clear(frame, layout::COEFFICIENTS_AT, 3960);
+    octets::clear(frame, layout::COEFFICIENTS_AT, layout::ALL_COEFFICIENT_BITS);
     finish(frame, 0, 0, vendor);
 }
 
@@ -146,13 +119,17 @@ fn write_training(
     if layout::COEFFICIENTS < n {
         return answer::COUNT;
     }
-    if !all_in_range(coefficients, n) {
+    if !ranges::all_in_range(
+        &coefficients[..n],
+        ranges::LOWEST_COEFFICIENT,
+        ranges::HIGHEST_COEFFICIENT,
+    ) {
         return answer::RANGE;
     }
-    if layout::LARGEST_WORD < a {
+    if ranges::HIGHEST_WORD < a {
         return answer::RANGE;
     }
-    if layout::LARGEST_WORD < b {
+    if ranges::HIGHEST_WORD < b {
         return answer::RANGE;
     }
     put_training(frame, coefficients, n, a, b, vendor);

@@ -22,18 +22,18 @@ all-in-range-requires c κs = search needs
 
 returns-2 : tie.Need-returns-2
 returns-2 c =
-    rw (sym (signal (c .before .before .before)) ∙ not-false _ (c .before .before .if1 .left), sym (c .before .all-in-range .ensures) ∙ not-true _ (c .if2 .taken))
+    rw (sym (signal (c .before .before .before .before)) ∙ not-false _ (c .before .before .before .if1 .left), sym (c .before .all-in-range .ensures) ∙ not-true _ (c .if2 .taken))
 
 all-in-range-requires-2 : tie.Need-all-in-range-requires-2
 all-in-range-requires-2 c κs = search needs
 
 returns-3 : tie.Need-returns-3
 returns-3 c =
-    rw (sym (signal (c .before .before .before .before .before)) ∙ not-false _ (c .before .before .before .before .if1 .left), sym (c .before .before .before .all-in-range .ensures) ∙ not-false _ (c .before .before .if2 .left), sym (c .before .all-in-range2 .ensures) ∙ not-true _ (c .if3 .taken))
+    rw (sym (signal (c .before .before .before .before .before .before .before)) ∙ not-false _ (c .before .before .before .before .before .before .if1 .left), sym (c .before .before .before .before .all-in-range .ensures) ∙ not-false _ (c .before .before .before .if2 .left), sym (c .before .all-in-range2 .ensures) ∙ not-true _ (c .if3 .taken))
 
 returns-4 : tie.Need-returns-4
 returns-4 c =
-    rw (sym (signal (c .before .before .before .before .before)) ∙ not-false _ (c .before .before .before .before .if1 .left), sym (c .before .before .before .all-in-range .ensures) ∙ not-false _ (c .before .before .if2 .left), sym (c .before .all-in-range2 .ensures) ∙ not-false _ (c .if3 .left))
+    rw (sym (signal (c .before .before .before .before .before .before .before)) ∙ not-false _ (c .before .before .before .before .before .before .if1 .left), sym (c .before .before .before .before .all-in-range .ensures) ∙ not-false _ (c .before .before .before .if2 .left), sym (c .before .all-in-range2 .ensures) ∙ not-false _ (c .if3 .left))
 
 pub checked-spec : {M : Type 1} → statement M
 checked-spec =

@@ -16,15 +16,15 @@ all-in-range-requires-2 c κs = search needs
 
 returns-2 : tie.Need-returns-2
 returns-2 c =
-    rw (sym (c .before .before .before .all-in-range .ensures) ∙ not-false _ (c .before .before .if1 .left), sym (c .before .all-in-range2 .ensures) ∙ not-true _ (c .if2 .taken))
+    rw (sym (c .before .before .before .before .all-in-range .ensures) ∙ not-false _ (c .before .before .before .if1 .left), sym (c .before .all-in-range2 .ensures) ∙ not-true _ (c .if2 .taken))
 
-words-in-range-requires : tie.Need-words-in-range-requires
-words-in-range-requires c κs = search needs
+numbers-in-range-requires : tie.Need-numbers-in-range-requires
+numbers-in-range-requires c κs = search needs
 
 returns-3 : tie.Need-returns-3
 returns-3 c =
-    rw (sym (c .before .before .before .before .all-in-range .ensures) ∙ not-false _ (c .before .before .before .if1 .left), sym (c .before .before .all-in-range2 .ensures) ∙ not-false _ (c .before .if2 .left))
-    (c .words-in-range .ensures)
+    rw (sym (c .before .before .before .before .before .all-in-range .ensures) ∙ not-false _ (c .before .before .before .before .if1 .left), sym (c .before .before .all-in-range2 .ensures) ∙ not-false _ (c .before .if2 .left))
+    (c .numbers-in-range .ensures)
 
 pub ranges-right-spec : {M : Type 1} → statement M
 ranges-right-spec =
@@ -34,5 +34,5 @@ ranges-right-spec =
     returns
     all-in-range-requires-2
     returns-2
-    words-in-range-requires
+    numbers-in-range-requires
     returns-3)

@@ -1,20 +1,22 @@
 -- `precoder::send_all` meets its contract. The invariant: what is done, with the definition on what remains, is the definition on all.
 -- Assumes nothing.
+use borrow.Author.Needs.{needs}
 use mathlib.Core.Path.{_≡_, refl, sym, ap, _∙_}
 use mathlib.Core.Bool.{true}
 use mathlib.Core.List.{List, _++_}
 use Prim.Native.Nat.{ℕ, _+_, _*_, _-_, _≤_}
 use native.Mathlib.Omega.{arith}
-use lib.IntN.{ℤ}
-use lib.ListN.{length, take, drop}
+use lib.IntN.{ℤ, pos}
+use lib.ListN.{length, getD, take, drop}
 use mir.Syntax.{w32}
 use mir.Val.{SFits, toZ, ofZ}
 use mir.Facts.{toZ-ofZ}
-use Rattle.precoder.specs.Octets.{valueAt, valuesOf, octetsOf}
-use Rattle.signal.specs.Signal.{isSignal, isCoefficient, every, pastAfter}
+use Rattle.numbers.specs.Promises.{numbersOf, numberOctets}
+use Rattle.ranges.specs.Ranges.{isCoefficient, every}
+use Rattle.signal.specs.Signal.{isSignal, pastAfter}
 use Rattle.precoder.specs.Precoder.{outputOf}
 use Rattle.precoder.specs.Runs.{pastAfterAll, outputsOf}
-use Rattle.precoder.proofs.Quads.{written-length}
+use Rattle.numbers.proofs.Laws.{with-many}
 use Rattle.precoder.proofs.Signals.{output-is, sends-output, past-in}
 use Rattle.precoder.proofs.Turns.{ranges-are, written-turn, written-end, outputs-turn, past-out-turn, outputs-end, past-out-end}
 use Rattle.precoder.proofs.send_all.Statement.{statement}
@@ -23,8 +25,8 @@ use Rattle.precoder.proofs.send_all.Tie as tie
 abbrev Inv-loop : tie.InvT-loop
 Inv-loop coefficients history₀ xs ys₀ count i₀ history ys i =
     (4 * i ≤ length xs) × (length ys ≡ length ys₀) × (every isSignal history ≡ true)
-    × (take (4 * i) ys ++ octetsOf (outputsOf coefficients history (valuesOf (drop (4 * i) xs))) ≡ octetsOf (outputsOf coefficients history₀ (valuesOf xs)))
-    × (pastAfterAll history (outputsOf coefficients history (valuesOf (drop (4 * i) xs))) ≡ pastAfterAll history₀ (outputsOf coefficients history₀ (valuesOf xs)))
+    × (take (4 * i) ys ++ numberOctets (outputsOf coefficients history (drop i (numbersOf xs))) ≡ numberOctets (outputsOf coefficients history₀ (numbersOf xs)))
+    × (pastAfterAll history (outputsOf coefficients history (drop i (numbersOf xs))) ≡ pastAfterAll history₀ (outputsOf coefficients history₀ (numbersOf xs)))
 
 abbrev μ-loop : tie.MeasureT-loop
 μ-loop coefficients history₀ xs ys₀ count i₀ history ys i = count - i
@@ -32,13 +34,13 @@ abbrev μ-loop : tie.MeasureT-loop
 loop-holds : tie.Need-loop-holds Inv-loop μ-loop
 loop-holds c =
     let s = c .before .before in
-    let r = ranges-are (s .args .coefficients .now) (s .args .history .now) (valuesOf (s .args .xs .now)) (s .pre .0) in
+    let r = ranges-are (s .args .coefficients .now) (s .args .history .now) (numbersOf (s .args .xs .now)) (s .pre .0) in
     (omega arith, refl, r .1, refl, refl)
 
-word-requires : tie.Need-word-requires Inv-loop μ-loop
-word-requires c κs = omega arith
+number-requires : tie.Need-number-requires Inv-loop μ-loop
+number-requires c κs = search needs
 
-module _ (c : tie.After-word Inv-loop μ-loop) where
+module _ (c : tie.After-number Inv-loop μ-loop) where
   abbrev coefficients : List ℤ
   coefficients = c .before .before .before .before .before .args .coefficients .now
 
@@ -55,20 +57,20 @@ module _ (c : tie.After-word Inv-loop μ-loop) where
   room = omega (arith, c .before .loop-test .taken)
 
   in-range : every isCoefficient coefficients ≡ true
-  in-range = ranges-are coefficients (c .before .before .before .before .before .args .history .now) (valuesOf xs) (c .before .before .before .before .before .pre .0) .0
+  in-range = ranges-are coefficients (c .before .before .before .before .before .args .history .now) (numbersOf xs) (c .before .before .before .before .before .pre .0) .0
 
-  fits : SFits w32 (c .word .result)
-  fits = record { sfits = c .word .ok }
+  fits : SFits w32 (c .number .result)
+  fits = record { sfits = c .number .ok }
 
   -- the symbol is number i
-  read : toZ w32 (ofZ w32 (c .word .result)) ≡ valueAt xs (4 * at)
-  read = toZ-ofZ fits ∙ c .word .ensures
+  read : toZ w32 (ofZ w32 (c .number .result)) ≡ getD (numbersOf xs) at (pos 0)
+  read = toZ-ofZ fits ∙ c .number .ensures
 
 send-requires : tie.Need-send-requires Inv-loop μ-loop
 send-requires c κs = (in-range (c .before), c .before .before .before .loop .inv .2)
 
-put-word-requires : tie.Need-put-word-requires Inv-loop μ-loop
-put-word-requires c κs = let w = c .before .before .before in let s = w .before .before .before .before .before in omega (arith, room w, w .before .before .loop .inv .1, s .pre .2)
+put-number-requires : tie.Need-put-number-requires Inv-loop μ-loop
+put-number-requires c κs = search needs
 
 add-i : tie.Need-add-i Inv-loop μ-loop
 add-i c = let w = c .before .before .before .before .before .before in omega (arith, room w, w .before .before .before .before .before .good)
@@ -81,21 +83,21 @@ loop-again c =
     let w = c .before .before .before .before .before .before in
     let l = w .before .before .loop in
     let out = c .before .before .before .before .send in
-    let x = valueAt (xs w) (4 * at w) in
+    let x = getD (numbersOf (xs w)) (at w) (pos 0) in
     let y = outputOf (coefficients w) (past w) x in
     let fit : SFits w32 (out .result) = record { sfits = out .ok } in
     let e = rw (read w) at (out .ensures) in
     let is = output-is (coefficients w) (past w) x (out .result) (e .0) in
-    let p = rw (toZ-ofZ fit, is) at (c .before .before .put-word .ensures) in
+    let p = rw (toZ-ofZ fit, is) at (c .before .before .put-number .ensures) in
     let q = rw is at (e .1) in
     let fits-room : 4 * at w + 4 ≤ length (l .ys) = omega (arith, room w, l .inv .1, w .before .before .before .before .before .pre .2) in
     rw (p, q)
     ((
       omega (arith, room w),
-      written-length (l .ys) (at w) y fits-room ∙ l .inv .1,
+      with-many (l .ys) (at w) y fits-room ∙ l .inv .1,
       past-in (past w) y (l .inv .2) (sends-output (coefficients w) (past w) x .folds .signal),
-      written-turn (l .ys) (at w) y (outputsOf (coefficients w) (pastAfter (past w) y) (valuesOf (drop (4 * (at w + 1)) (xs w)))) fits-room
-          ∙ ap (λ (r : List ℤ). take (4 * at w) (l .ys) ++ octetsOf r) (sym (outputs-turn (coefficients w) (past w) (xs w) (at w) (room w))) ∙ l .inv .3,
+      written-turn (l .ys) (at w) y (outputsOf (coefficients w) (pastAfter (past w) y) (drop (at w + 1) (numbersOf (xs w)))) fits-room
+          ∙ ap (λ (r : List ℤ). take (4 * at w) (l .ys) ++ numberOctets r) (sym (outputs-turn (coefficients w) (past w) (xs w) (at w) (room w))) ∙ l .inv .3,
       sym (past-out-turn (coefficients w) (past w) (xs w) (at w) (room w)) ∙ l .inv .4,
     ))
 
@@ -120,9 +122,9 @@ send-all-spec =
     Inv-loop
     μ-loop
     loop-holds
-    word-requires
+    number-requires
     send-requires
-    put-word-requires
+    put-number-requires
     add-i
     loop-less
     loop-again

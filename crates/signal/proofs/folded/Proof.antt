@@ -1,4 +1,4 @@
--- `precoder::folded` meets its contract. Each step's number is read back from its bits. Assumes nothing.
+-- `signal::folded` meets its contract. Each step's number is read back from its bits. Assumes nothing.
 use mathlib.Core.Path.{_≡_}
 use mathlib.Core.Bool.{true, false}
 use lib.Dec.{lit<}

@@ -1,4 +1,4 @@
--- `precoder::shaper` meets its contract. Assumes nothing.
+-- `signal::shaper` meets its contract. Assumes nothing.
 use borrow.Author.Needs.{needs}
 use borrow.Author.Tests.{not-true, not-false}
 use mathlib.Core.Path.{_≡_, sym, ap, _∙_}

@@ -1,4 +1,4 @@
--- `precoder::shift` meets its contract. The invariant: up to place k stands the old. Assumes nothing.
+-- `signal::shift` meets its contract. The invariant: up to place k stands the old. Assumes nothing.
 use mathlib.Core.Path.{_≡_, ap, _∙_}
 use mathlib.Core.List.{List}
 use Prim.Native.Nat.{_-_, _<_}

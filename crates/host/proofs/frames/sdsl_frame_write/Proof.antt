@@ -1,9 +1,10 @@
 -- `host::frames::sdsl_frame_write` meets its contract.
 use borrow.Author.Needs.{needs}
 use borrow.Author.Tests.{eq-eqb, ne-eqb}
-use mathlib.Core.Path.{_≡_, refl, sym, ap, subst, _∙_}
+use mathlib.Core.Path.{refl, subst, _∙_}
 use mathlib.Core.List.{List}
 use lib.IntN.{ℤ}
+use Rattle.numbers.proofs.Laws.{numbers-whole}
 use Rattle.writer.specs.Promises.{Written}
 use Rattle.host.proofs.frames.sdsl_frame_write.Statement.{statement}
 use Rattle.host.proofs.frames.sdsl_frame_write.Tie as tie
@@ -27,7 +28,7 @@ returns-2 : tie.Need-returns-2
 returns-2 c =
     let a = c .before .before .before .before .before .before .before .before .before .before .args in
     let w = c .before .before .write in
-    let p = subst (λ (cs : List ℤ). Written (a .kind) (a .count) cs (a .a) (a .b) (a .vendor .now) (a .frame .now) (w .result) (w .last .1 .1 .1 .1 .1 .1 .0)) (c .before .before .before .before .before .numbers .ensures) (w .ensures) in
+    let p = subst (λ (cs : List ℤ). Written (a .kind) (a .count) cs (a .a) (a .b) (a .vendor .now) (a .frame .now) (w .result) (w .last .1 .1 .1 .1 .1 .1 .0)) (c .before .before .before .before .before .numbers .ensures ∙ numbers-whole (a .coefficients .now) (c .before .before .before .before .before .before .if1 .left)) (w .ensures) in
     record { answered = p .answered ∙ simp (eq-eqb _ _ (c .before .before .before .before .before .before .if1 .left)); left = p .left }
 
 pub sdsl-frame-write-spec : {M : Type 1} → statement M

@@ -1,9 +1,9 @@
--- `precoder::in_range` meets its contract. Assumes nothing.
+-- `ranges::in_range` meets its contract. Assumes nothing.
 use mathlib.Core.Path.{sym}
 use mir.Facts.{toZ-ofZ}
-use Rattle.signal.proofs.Range.{below-out, above-out, inside}
-use Rattle.signal.proofs.in_range.Statement.{statement}
-use Rattle.signal.proofs.in_range.Tie as tie
+use Rattle.ranges.proofs.Laws.{below-out, above-out, inside}
+use Rattle.ranges.proofs.in_range.Statement.{statement}
+use Rattle.ranges.proofs.in_range.Tie as tie
 
 returns : tie.Need-returns
 returns c =

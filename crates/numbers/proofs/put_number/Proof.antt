@@ -1,14 +1,19 @@
--- `precoder::put_word` meets its contract. Assumes nothing.
+-- `numbers::put_number` meets its contract. Assumes nothing.
 use borrow.Author.Needs.{needs}
-use mathlib.Core.Path.{ap, _∙_}
-use Prim.Native.Nat.{_*_}
+use borrow.Author.Tests.{le-ltb}
+use mathlib.Core.Path.{sym, ap, _∙_}
+use Prim.Native.Nat.{_+_, _*_, _≤_}
 use native.Mathlib.Omega.{arith}
-use lib.ListN.{length-set}
+use lib.ListN.{length, length-set}
 use mir.Facts.{toZ-ofZ}
-use Rattle.precoder.specs.Octets.{unsigned}
-use Rattle.precoder.proofs.Quads.{four-stores}
-use Rattle.precoder.proofs.put_word.Statement.{statement}
-use Rattle.precoder.proofs.put_word.Tie as tie
+use Rattle.octets.specs.Signed.{twosOf}
+use Rattle.numbers.proofs.Laws.{four-stores, with-is}
+use Rattle.numbers.proofs.put_number.Statement.{statement}
+use Rattle.numbers.proofs.put_number.Tie as tie
+
+-- where there is no such number nothing changes
+returns : tie.Need-returns
+returns c = rw (le-ltb _ _ (c .if1 .taken))
 
 mul-at : tie.Need-mul-at
 mul-at c = search needs
@@ -52,16 +57,18 @@ slice-write-octets-4 c = simp length-set (omega arith)
 same-length : tie.Need-same-length
 same-length c = search needs
 
-returns : tie.Need-returns
-returns c =
-    let a = c .before .before .args in
-    let e = c .to-unsigned .ensures ∙ ap unsigned (toZ-ofZ (c .before .before .fits .z)) in
-    rw e (four-stores (a .octets .now) (4 * a .i) (a .z) (c .before .before .pre))
+returns-2 : tie.Need-returns-2
+returns-2 c =
+    let a = c .before .before .before .args in
+    let e = c .to-unsigned .ensures ∙ ap (twosOf 32) (toZ-ofZ (c .before .before .before .fits .z)) in
+    let room : 4 * a .k + 4 ≤ length (a .octets .now) = omega (arith, c .before .if1 .left) in
+    rw e (four-stores (a .octets .now) (4 * a .k) (a .z) room) ∙ sym (with-is (a .octets .now) (a .k) (a .z) room)
 
-pub put-word-spec : {M : Type 1} → statement M
-put-word-spec =
+pub put-number-spec : {M : Type 1} → statement M
+put-number-spec =
     tie.close
     (tie.spec
+    returns
     mul-at
     to-unsigned-requires
     cast-octets
@@ -76,4 +83,4 @@ put-word-spec =
     add-octets-3
     slice-write-octets-4
     same-length
-    returns)
+    returns-2)

@@ -1,4 +1,4 @@
--- `precoder::to_signed` meets its contract. Assumes nothing.
+-- `numbers::to_signed` meets its contract. Assumes nothing.
 use borrow.Author.Needs.{needs}
 use mathlib.Core.Path.{_≡_, sym, ap, _∙_}
 use Prim.Native.Nat.{ℕ, _-_}
@@ -7,15 +7,15 @@ use lib.IntN.{ℤ, negsuc, _-ℤ_}
 use mir.Syntax.{w32}
 use mir.Val.{SFits, toZ}
 use mir.Facts.{toZ-pos, toZ-ofZ}
-use Rattle.precoder.proofs.Quads.{signed-low, signed-high, below-minus-one}
-use Rattle.precoder.proofs.to_signed.Statement.{statement}
-use Rattle.precoder.proofs.to_signed.Tie as tie
+use Rattle.octets.proofs.Complement.{signed-low, signed-high, less-one}
+use Rattle.numbers.proofs.to_signed.Statement.{statement}
+use Rattle.numbers.proofs.to_signed.Tie as tie
 
 cast-result : tie.Need-cast-result
 cast-result c = search needs
 
 returns : tie.Need-returns
-returns c = toZ-pos w32 (c .if1 .taken) ∙ sym (signed-low (c .before .args .n) (c .if1 .taken))
+returns c = toZ-pos w32 (c .if1 .taken) ∙ sym (signed-low 32 (c .before .args .n) (c .if1 .taken))
 
 sub-result : tie.Need-sub-result
 sub-result c = search needs
@@ -29,7 +29,7 @@ module _ (c : tie.Else1) where
 
   -- the difference, read back from its bits
   read : negsuc 0 -ℤ toZ w32 m ≡ negsuc m
-  read = ap (λ (z : ℤ). negsuc 0 -ℤ z) (toZ-pos w32 {n = m} (omega arith)) ∙ below-minus-one m
+  read = ap (λ (z : ℤ). negsuc 0 -ℤ z) (toZ-pos w32 {n = m} (omega arith)) ∙ less-one m
 
   fits : SFits w32 (negsuc m)
   fits = record { sfits = omega arith }
@@ -38,7 +38,7 @@ sub-result-2 : tie.Need-sub-result-2
 sub-result-2 c = rw (read c) (fits c)
 
 returns-2 : tie.Need-returns-2
-returns-2 c = rw (read c) (toZ-ofZ (fits c) ∙ sym (signed-high (c .before .args .n) (c .if1 .left)))
+returns-2 c = rw (read c) (toZ-ofZ (fits c) ∙ sym (signed-high 32 (c .before .args .n) (c .if1 .left) (c .before .fits .n .fits)))
 
 pub to-signed-spec : {M : Type 1} → statement M
 to-signed-spec =

@@ -1,13 +1,22 @@
--- `precoder::word` meets its contract. Assumes nothing.
+-- `numbers::number` meets its contract. Assumes nothing.
 use borrow.Author.Needs.{needs}
-use mathlib.Core.Path.{_≡_, ap, _∙_}
-use Prim.Native.Nat.{_+_, _*_}
-use lib.ListN.{getD}
+use mathlib.Core.Path.{_≡_, sym, ap, _∙_}
+use Prim.Native.Nat.{_+_, _*_, _≤_}
+use lib.IntN.{pos}
+use lib.ListN.{length, getD, List·getD-eq-default}
 use native.Mathlib.Omega.{arith}
 use mir.Facts.{toZ-ofZ}
-use Rattle.precoder.specs.Octets.{signed}
-use Rattle.precoder.proofs.word.Statement.{statement}
-use Rattle.precoder.proofs.word.Tie as tie
+use Rattle.octets.specs.Signed.{signedOf}
+use Rattle.numbers.specs.Promises.{numbersOf}
+use Rattle.numbers.proofs.Laws.{numbers-many, number-at}
+use Rattle.numbers.proofs.number.Statement.{statement}
+use Rattle.numbers.proofs.number.Tie as tie
+
+-- past the last number it is 0
+returns : tie.Need-returns
+returns c =
+    let a = c .before .before .args in
+    sym (List·getD-eq-default (numbersOf (a .octets .now)) (pos 0) (omega (arith, numbers-many (a .octets .now), c .if1 .taken)))
 
 mul-at : tie.Need-mul-at
 mul-at c = search needs
@@ -66,22 +75,26 @@ add-to-signed c = search needs
 to-signed-requires : tie.Need-to-signed-requires
 to-signed-requires c κs = search needs
 
-returns : tie.Need-returns
-returns c =
-    let os = c .before .before .before .before .before .before .before .before .before .before .args .octets .now in
-    let at = 4 * c .before .before .before .before .before .before .before .before .before .before .args .i in
+returns-2 : tie.Need-returns-2
+returns-2 c =
+    let a = c .before .before .before .before .before .before .before .before .before .before .before .args in
+    let os = a .octets .now in
+    let at = 4 * a .k in
+    let known = c .before .before .before .before .before .before .before .before .before .before .shared-slice-known .given in
+    let room : at + 4 ≤ length os = omega (arith, c .before .before .before .before .before .before .before .before .before .if1 .left) in
     let o = c .before .before .before .before .before .before .before .wide in
     let p = c .before .before .before .before .before .wide2 in
     let q = c .before .before .before .wide3 in
     let r = c .before .wide4 in
     let e : o .result + p .result * 256 + (q .result * 65536 + r .result * 16777216) ≡ getD os at 0 + 256 * getD os (at + 1) 0 + 65536 * getD os (at + 2) 0 + 16777216 * getD os (at + 3) 0 =
     omega (arith, o .ensures .0, p .ensures .0, q .ensures .0, r .ensures .0) in
-    toZ-ofZ (record { sfits = c .to-signed .ok }) ∙ c .to-signed .ensures ∙ ap signed e
+    toZ-ofZ (record { sfits = c .to-signed .ok }) ∙ c .to-signed .ensures ∙ ap (signedOf 32) e ∙ sym (number-at os (a .k) (λ i. omega (arith, known i)) room)
 
-pub word-spec : {M : Type 1} → statement M
-word-spec =
+pub number-spec : {M : Type 1} → statement M
+number-spec =
     tie.close
     (tie.spec
+    returns
     mul-at
     shared-slice-read-wide
     wide-requires
@@ -101,4 +114,4 @@ word-spec =
     add-high
     add-to-signed
     to-signed-requires
-    returns)
+    returns-2)
