@@ -1,0 +1,25 @@
+-- The field reader keeps the lent frame it walks and the place of the next field (document 01, "The activation frame"): what its functions promise.
+use mathlib.Core.Path.{_≡_}
+use mathlib.Core.List.{List}
+use Prim.Native.Nat.{ℕ, min}
+use denote.Ref.{RefT, now}
+use Rattle.octets.specs.Bits.{valueOf, bitsOf, part}
+use Rattle.octets.specs.Promises.{FieldRead, behindOf}
+use Rattle.fields.specs.declared.FieldReader.{FieldReader}
+use Rattle.fields.specs.declared.Taken.{Taken}
+
+-- the reader behind a field of w bits: the same lent frame, and the place behind the field
+abbrev pub past : FieldReader → ℕ → FieldReader
+past r w = record { frame = r .frame; at = behindOf (r .at) w }
+
+-- reader
+abbrev pub Made : RefT (List ℕ) → ℕ → FieldReader → Type 0
+Made frame at r = r ≡ record { frame = frame; at = at }
+
+-- FieldReader::take: the field at the reader's place, and the reader afterwards
+abbrev pub FieldTaken : FieldReader → ℕ → ℕ → FieldReader → Type 0
+FieldTaken r w v exit = FieldRead (now (r .frame)) (r .at) w v × (exit ≡ past r w)
+
+-- one
+abbrev pub OneTaken : List ℕ → ℕ → ℕ → Taken → Type 0
+OneTaken s at w r = r ≡ record { value = valueOf (part at (min w 32) (bitsOf s)); next = behindOf at w }

@@ -1,0 +1,42 @@
+// The field reader (document 01, "The activation frame"): it keeps the lent frame it walks and the place of the next field.
+// The borrow checker covers no function over such a struct, so those here are proved by hand and are thin: the work is
+// done by the slice-and-place functions of octets.
+ghost use Rattle.fields.specs.Promises.{Made, FieldTaken, OneTaken};
+
+pub struct FieldReader<'a> {
+    pub frame: &'a [u8],
+    pub at: usize,
+}
+
+// A reader of a lent frame, at a place.
+pub fn reader<'a>(frame: &'a [u8], at: usize) -> FieldReader<'a>
+    ensures { λ r. ⌜ Made (frame .entry) at r ⌝ }
+{
+    FieldReader { frame, at }
+}
+
+impl<'a> FieldReader<'a> {
+    // The next field, of w bits; the reader is then behind it.
+    pub fn take(&mut self, w: u32) -> u32
+        ensures { λ v. ⌜ FieldTaken (now (self .entry)) w v (now (self .exit)) ⌝ }
+    {
+        let v = octets::field(self.frame, self.at, w);
+        self.at = octets::behind(self.at, w);
+        v
+    }
+}
+
+// A field and the place behind it.
+pub struct Taken {
+    pub value: u32,
+    pub next: usize,
+}
+
+// The field of w bits at a place.
+pub fn one(frame: &[u8], at: usize, w: u32) -> Taken
+    ensures { λ r. ⌜ OneTaken (now (frame .entry)) at w r ⌝ }
+{
+    let mut r = reader(frame, at);
+    let value = r.take(w);
+    Taken { value, next: r.at }
+}
