@@ -7,6 +7,7 @@ use Rattle.octets.specs.Bits.{valueOf, bitsOf, part}
 use Rattle.octets.specs.Promises.{FieldRead, behindOf}
 use Rattle.fields.specs.declared.FieldReader.{FieldReader}
 use Rattle.fields.specs.declared.Taken.{Taken}
+use Rattle.fields.specs.declared.TwoTaken.{TwoTaken}
 
 -- the reader behind a field of w bits: the same lent frame, and the place behind the field
 abbrev pub past : FieldReader → ℕ → FieldReader
@@ -23,3 +24,12 @@ FieldTaken r w v exit = FieldRead (now (r .frame)) (r .at) w v × (exit ≡ past
 -- one
 abbrev pub OneTaken : List ℕ → ℕ → ℕ → Taken → Type 0
 OneTaken s at w r = r ≡ record { value = valueOf (part at (min w 32) (bitsOf s)); next = behindOf at w }
+
+-- two
+abbrev pub BothTaken : List ℕ → ℕ → ℕ → ℕ → TwoTaken → Type 0
+BothTaken s at v w r =
+    r ≡ record {
+      first = valueOf (part at (min v 32) (bitsOf s));
+      second = valueOf (part (behindOf at v) (min w 32) (bitsOf s));
+      next = behindOf (behindOf at v) w;
+    }
