@@ -1,3 +1,4 @@
 pub mod Lent
 pub mod Makes
+pub mod Take
 pub mod Takes

@@ -2,9 +2,10 @@
 use mathlib.Core.Path.{_≡_}
 use mathlib.Core.List.{List}
 use Prim.Native.Nat.{ℕ, min}
+use lib.IntN.{ℤ}
 use denote.Ref.{RefT, now}
 use Rattle.octets.specs.Bits.{valueOf, bitsOf, part}
-use Rattle.octets.specs.Promises.{FieldRead, behindOf}
+use Rattle.octets.specs.Promises.{FieldRead, SignedRead, behindOf}
 use Rattle.fields.specs.declared.FieldReader.{FieldReader}
 use Rattle.fields.specs.declared.Taken.{Taken}
 use Rattle.fields.specs.declared.TwoTaken.{TwoTaken}
@@ -20,6 +21,10 @@ Made frame at r = r ≡ record { frame = frame; at = at }
 -- FieldReader::take: the field at the reader's place, and the reader afterwards
 abbrev pub FieldTaken : FieldReader → ℕ → ℕ → FieldReader → Type 0
 FieldTaken r w v exit = FieldRead (now (r .frame)) (r .at) w v × (exit ≡ past r w)
+
+-- FieldReader::take_signed: the same in two's complement
+abbrev pub SignedTaken : FieldReader → ℕ → ℤ → FieldReader → Type 0
+SignedTaken r w v exit = SignedRead (now (r .frame)) (r .at) w v × (exit ≡ past r w)
 
 -- one
 abbrev pub OneTaken : List ℕ → ℕ → ℕ → Taken → Type 0

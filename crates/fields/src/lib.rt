@@ -1,7 +1,7 @@
 // The field reader (document 01, "The activation frame"): it keeps the lent frame it walks and the place of the next field.
 // The borrow checker covers no function over such a struct, so those here are proved by hand and are thin: the work is
 // done by the slice-and-place functions of octets.
-ghost use Rattle.fields.specs.Promises.{Made, FieldTaken, OneTaken, BothTaken};
+ghost use Rattle.fields.specs.Promises.{Made, FieldTaken, SignedTaken, OneTaken, BothTaken};
 
 pub struct FieldReader<'a> {
     pub frame: &'a [u8],
@@ -21,6 +21,15 @@ impl<'a> FieldReader<'a> {
         ensures { λ v. ⌜ FieldTaken (now (self .entry)) w v (now (self .exit)) ⌝ }
     {
         let v = octets::field(self.frame, self.at, w);
+        self.at = octets::behind(self.at, w);
+        v
+    }
+
+    // The next field, of w bits, in two's complement; the reader is then behind it.
+    pub fn take_signed(&mut self, w: u32) -> i32
+        ensures { λ v. ⌜ SignedTaken (now (self .entry)) w v (now (self .exit)) ⌝ }
+    {
+        let v = octets::signed_field(self.frame, self.at, w);
         self.at = octets::behind(self.at, w);
         v
     }

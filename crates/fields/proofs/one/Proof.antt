@@ -60,10 +60,6 @@ use Rattle.fields.proofs.one as one
 use Rattle.fields.proofs.one.Statement as stated
 use Rattle.fields.proofs.one.Code as code
 
--- what is said of the value that `take` gives
-abbrev Field : FieldReader → ℕ → ℕ → Type 0
-Field h w v = FieldRead (now (h .frame)) (h .at) w v
-
 abbrev stayed : Stays (one.ended .signature .params) (one.ended .kept)
 stayed = (stay-none-slice (0 ∷ []) tt (plain (λ _. u8)) yes, (stay-none (λ _. usize) yes, (stay-none (λ _. u32) yes, tt)))
 
@@ -104,10 +100,10 @@ module _ {M : Type 1} (𝓤 : URA M) (H : Heap 𝓤) (A : Atoms 𝓤) (W : Given
 
   -- what a call of `take` asks beside what is kept, and what it gives
   abbrev asks : (l : ℕ) (r : FieldReader) (x : ℕ) → x < 2 ^ 32 → Item 𝓤
-  asks l r x fits = later (some (λ (p : ℕ × GName). raw (Takes.Taking u32 Field 𝓤 H A .pre (Takes.to u32 Field 𝓤 H A W κ q l r x fits p)) ⊛ ‵ (Kept 𝓤 H A W κ q l (p .0) (p .1))))
+  asks l r x fits = later (some (λ (p : ℕ × GName). raw (Takes.Taking u32 FieldRead 𝓤 H A .pre (Takes.to u32 FieldRead 𝓤 H A W κ q l r x fits p)) ⊛ ‵ (Kept 𝓤 H A W κ q l (p .0) (p .1))))
 
   abbrev gives : ℕ → FieldReader → ℕ → Val → Item 𝓤
-  gives l r x u = later (some (λ (y : ℕ). given (Field r x y) (‵ (u32 .own y (u ∷ [])) ⊛ ‵ (cell l (past r x)) ⊛ ‵ (own l (past r x)) ⊛ ‵ (flft κ q))))
+  gives l r x u = later (some (λ (y : ℕ). given (FieldRead (now s) (r .at) x y) (‵ (u32 .own y (u ∷ [])) ⊛ ‵ (cell l (past r x)) ⊛ ‵ (own l (past r x)) ⊛ ‵ (flft κ q))))
 
   exits : (x : ℕ) → FieldRead (now s) n w x → x < 2 ^ 32 → behindOf n w < 2 ^ 64 → ent 𝓤 (⋆ 𝓤 H A (‵ (flft κ q) ∷ ‵ Frame ∷ [])) (Post (S′.lowered (result x)))
   exits x e x-fits next-fits =
@@ -117,7 +113,7 @@ module _ {M : Type 1} (𝓤 : URA M) (H : Heap 𝓤) (A : Atoms 𝓤) (W : Given
       nothing ! $ owned ! u32 (Is u32) (uint-makes 𝓤 H A W w32) w _ (refl, w-fits) $ fjoin ! $ owned ! usize (Is usize) (uint-makes 𝓤 H A W w64) n _ (refl, n-fits) $ fjoin ! $ move ! (1 ∷ 0 ∷ []) $ fjoin ! $ frame ! $
       nothing ! $ owned ! usize (Is usize) (uint-makes 𝓤 H A W w64) (behindOf n w) _ (refl, next-fits) $ fjoin ! $ owned ! u32 (Is u32) (uint-makes 𝓤 H A W w32) x _ (refl, x-fits) $ fjoin ! $ by ! (own-shut 𝓤 H A W S.the-type S′.the-laws (x, (behindOf n w, tt)))
 
-  module _ (C : Calls 𝓤 H) (Λ : Loops 𝓤 H) (fm : FmC 𝓤 H (W .laws) C) (known-reader : Triple 𝓤 (C #fields·reader) (Reader 𝓤 H A at-mem run)) (known-take : Triple 𝓤 (C #fields·FieldReader·take) (Takes.Taking u32 Field 𝓤 H A)) where
+  module _ (C : Calls 𝓤 H) (Λ : Loops 𝓤 H) (fm : FmC 𝓤 H (W .laws) C) (known-reader : Triple 𝓤 (C #fields·reader) (Reader 𝓤 H A at-mem run)) (known-take : Triple 𝓤 (C #fields·FieldReader·take) (Takes.Taking u32 FieldRead 𝓤 H A)) where
     walk : Is (ShrSlice (named 0) κ u8) s (v ∷ []) → ent 𝓤 (onEntry 𝓤 H A one.signature (κ, tt) (q, tt) a at) (WpFn 𝓤 H C Λ code.function (v ∷ vint w64 n ∷ vint w32 w ∷ []) Post)
     walk p =
         qed W ((‵ (flft κ q) ⊛ ‵ ftrue) ∷ ‵ (owns (ShrSlice (named 0) κ u8 ∷ usize ∷ u32 ∷ []) a at) ∷ []) ∵ enter ! C Λ code.function (v ∷ vint w64 n ∷ vint w32 w ∷ []) _ $
@@ -134,9 +130,9 @@ module _ {M : Type 1} (𝓤 : URA M) (H : Heap 𝓤) (A : Atoms 𝓤) (W : Given
         assigns ! (of-opd ! (load ! (from ! (stop !)) (look ! 7 refl))) (from ! (stop !)) (init ! 11 refl (subst Typed (e .0) (e .1))) $
         assigns ! (addr ! (from ! (stop !))) (from ! (stop !)) (init ! 5 refl (tt, tt)) $
         -- `take`
-        move ! (11 ∷ 0 ∷ 1 ∷ []) $ use3 W (asks l₄ h w w-fits) (Takes.goes u32 Field 𝓤 H A W κ q l₄ h w w-fits) $ await ! tt $ pick ! (λ x. split ! $
-        calls-at ! fm (Takes.Taking u32 Field 𝓤 H A) known-take (Takes.to u32 Field 𝓤 H A W κ q l₄ h w w-fits x) (and-then ! (load ! (from ! (stop !)) (look ! 5 refl)) (and-then ! (load ! (from ! (stop !)) (look ! 12 refl)) (no-more !))) (λ u₁.
-        use2 W (gives l₄ h w u₁) (Takes.comes u32 Field 𝓤 H A W κ q l₄ h w w-fits x u₁) $ await ! tt $ pick ! (λ y. learn ! (λ e₁. split ! $ peeks ! u32 (Is u32) (shows 𝓤 H A u32) y (u₁ ∷ []) (λ is₁. drop ! $
+        move ! (11 ∷ 0 ∷ 1 ∷ []) $ use3 W (asks l₄ h w w-fits) (Takes.goes u32 FieldRead 𝓤 H A W κ q l₄ h w w-fits) $ await ! tt $ pick ! (λ x. split ! $
+        calls-at ! fm (Takes.Taking u32 FieldRead 𝓤 H A) known-take (Takes.to u32 FieldRead 𝓤 H A W κ q l₄ h w w-fits x) (and-then ! (load ! (from ! (stop !)) (look ! 5 refl)) (and-then ! (load ! (from ! (stop !)) (look ! 12 refl)) (no-more !))) (λ u₁.
+        use2 W (gives l₄ h w u₁) (Takes.comes u32 FieldRead 𝓤 H A W κ q l₄ h w w-fits x u₁) $ await ! tt $ pick ! (λ y. learn ! (λ e₁. split ! $ peeks ! u32 (Is u32) (shows 𝓤 H A u32) y (u₁ ∷ []) (λ is₁. drop ! $
         split3 ! $ move ! (1 ∷ []) $ peeks ! R (Is R) (shows 𝓤 H A R) (past h w) (T′.lowered (past h w) ∷ []) (λ is₂.
         -- [what the reader owns; its cell, _4; the token; what the frame owns; _8; …; _7; …; _6; …; room for _5; …; …; _3; …; _2; …; _1; …; room for _0; …]
         land ! (from ! (stop !)) (init ! 10 refl (uint-lawful 𝓤 H A W w32 .typed y _ is₁ .0)) $ rewrite ! 10 (λ (x : Val). ‵ (fat fullShare (tyInt w32) l₅ 0 x)) (ap only (is₁ .0)) refl $
@@ -147,14 +143,14 @@ module _ {M : Type 1} (𝓤 : URA M) (H : Heap 𝓤) (A : Atoms 𝓤) (W : Given
         keep ! (1 ∷ 2 ∷ []) $ by ! (exits y e₁ (is₁ .1) (typed 𝓤 H A W κ (past h w) _ is₂ .1 .1 .0 .fits)))))))))))))))))))
 
 module _ {M : Type 1} (𝓤 : URA M) (H : Heap 𝓤) (A : Atoms 𝓤) (W : Given 𝓤 H A) (mem : Memory → SProp 𝓤) (run : Routine → Fun 𝓤) where
-  one-walks : (C : Calls 𝓤 H) (Λ : Loops 𝓤 H) → FmC 𝓤 H (W .laws) C → Triple 𝓤 (C #fields·reader) (Reader 𝓤 H A mem run) → Triple 𝓤 (C #fields·FieldReader·take) (Takes.Taking u32 Field 𝓤 H A)
+  one-walks : (C : Calls 𝓤 H) (Λ : Loops 𝓤 H) → FmC 𝓤 H (W .laws) C → Triple 𝓤 (C #fields·reader) (Reader 𝓤 H A mem run) → Triple 𝓤 (C #fields·FieldReader·take) (Takes.Taking u32 FieldRead 𝓤 H A)
       → Walks 𝓤 H A one.ended stayed (WpFn 𝓤 H C Λ code.function) (one.clauses 𝓤 H A mem run)
   one-walks C Λ fm known-reader known-take =
       walked 𝓤 H A one.ended stayed (one.clauses 𝓤 H A mem run) (WpFn 𝓤 H C Λ code.function) (λ κs. (slice-vals, (uint-vals w64, (uint-vals w32, tt)))) (λ κs. (shr-slice-tells (named 0) (κs .0) u8, (uint-tells w64, (uint-tells w32, tt))))
       (λ κs qs bounds a g are. via 𝓤 _ (fst∗ 𝓤 _ (emp 𝓤)) (walk 𝓤 H A W mem run (κs .0) (qs .0) (a .0) (a .1 .0) (a .1 .1 .0) (are .1 .0 .1) (are .1 .1 .0 .1) C Λ fm known-reader known-take (are .0)))
 
 one-meets : {M : Type 1} (𝓤 : URA M) (H : Heap 𝓤) (A : Atoms 𝓤) (W : Given 𝓤 H A) (mem : Memory → SProp 𝓤) (run : Routine → Fun 𝓤) (𝓣 : Tables 𝓤 H)
-    → Triple 𝓤 (𝓣 .C #fields·reader) (Reader 𝓤 H A mem run) → Triple 𝓤 (𝓣 .C #fields·FieldReader·take) (Takes.Taking u32 Field 𝓤 H A)
+    → Triple 𝓤 (𝓣 .C #fields·reader) (Reader 𝓤 H A mem run) → Triple 𝓤 (𝓣 .C #fields·FieldReader·take) (Takes.Taking u32 FieldRead 𝓤 H A)
     → Meets 𝓤 H A one.signature (WpFn 𝓤 H (𝓣 .C) (𝓣 .Λ) code.function) (one.spec 𝓤 H A mem run)
 one-meets 𝓤 H A W mem run 𝓣 known-reader known-take =
     walk-meets 𝓤 H A one.ended stayed W (goes-none-slice 𝓤 H A W 1 (0 ∷ []) tt (plain (λ _. u8)) yes, (goes-none 𝓤 H A W 1 (λ _. usize) yes (λ κs x f. refl), (goes-none 𝓤 H A W 1 (λ _. u32) yes (λ κs x f. refl), tt))) (one.clauses 𝓤 H A mem run)
@@ -167,4 +163,4 @@ one-spec 𝓤 H 𝓜 𝓖 𝓡 =
     (tables 𝓤 H 𝓜 𝓡 code.env .C) (tables 𝓤 H 𝓜 𝓡 code.env .Λ) #fields·one code.function (code.unfolded 𝓤 H 𝓜 𝓡)
     (one-meets 𝓤 H (𝓖 .A) (givenOf 𝓤 H 𝓜 𝓖) (𝓜 .mem) (𝓡 .run) (tablesOf 𝓤 H 𝓜 (tables 𝓤 H 𝓜 𝓡 code.env))
     (cited 𝓤 H (Reader 𝓤 H (𝓖 .A) (𝓜 .mem) (𝓡 .run)) 𝓜 𝓡 code.env #fields·reader reader-def.routine code.calls-fields·reader (reader-thm.met 𝓤 H 𝓜 𝓖 𝓡))
-    (cited 𝓤 H (Takes.Taking u32 Field 𝓤 H (𝓖 .A)) 𝓜 𝓡 code.env #fields·FieldReader·take take-def.routine code.calls-fields·FieldReader·take (take-thm.met 𝓤 H 𝓜 𝓖 𝓡)))
+    (cited 𝓤 H (Takes.Taking u32 FieldRead 𝓤 H (𝓖 .A)) 𝓜 𝓡 code.env #fields·FieldReader·take take-def.routine code.calls-fields·FieldReader·take (take-thm.met 𝓤 H 𝓜 𝓖 𝓡)))

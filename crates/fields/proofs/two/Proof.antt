@@ -60,10 +60,6 @@ use Rattle.fields.proofs.two as two
 use Rattle.fields.proofs.two.Statement as stated
 use Rattle.fields.proofs.two.Code as code
 
--- what is said of the value that `take` gives
-abbrev Field : FieldReader → ℕ → ℕ → Type 0
-Field h w v = FieldRead (now (h .frame)) (h .at) w v
-
 abbrev stayed : Stays (two.ended .signature .params) (two.ended .kept)
 stayed = (stay-none-slice (0 ∷ []) tt (plain (λ _. u8)) yes, (stay-none (λ _. usize) yes, (stay-none (λ _. u32) yes, (stay-none (λ _. u32) yes, tt))))
 
@@ -107,10 +103,10 @@ module _ {M : Type 1} (𝓤 : URA M) (H : Heap 𝓤) (A : Atoms 𝓤) (W : Given
 
   -- what a call of `take` asks beside what is kept, and what it gives
   abbrev asks : (l : ℕ) (r : FieldReader) (x : ℕ) → x < 2 ^ 32 → Item 𝓤
-  asks l r x fits = later (some (λ (p : ℕ × GName). raw (Takes.Taking u32 Field 𝓤 H A .pre (Takes.to u32 Field 𝓤 H A W κ q l r x fits p)) ⊛ ‵ (Kept 𝓤 H A W κ q l (p .0) (p .1))))
+  asks l r x fits = later (some (λ (p : ℕ × GName). raw (Takes.Taking u32 FieldRead 𝓤 H A .pre (Takes.to u32 FieldRead 𝓤 H A W κ q l r x fits p)) ⊛ ‵ (Kept 𝓤 H A W κ q l (p .0) (p .1))))
 
   abbrev gives : ℕ → FieldReader → ℕ → Val → Item 𝓤
-  gives l r x u = later (some (λ (y : ℕ). given (Field r x y) (‵ (u32 .own y (u ∷ [])) ⊛ ‵ (cell l (past r x)) ⊛ ‵ (own l (past r x)) ⊛ ‵ (flft κ q))))
+  gives l r x u = later (some (λ (y : ℕ). given (FieldRead (now s) (r .at) x y) (‵ (u32 .own y (u ∷ [])) ⊛ ‵ (cell l (past r x)) ⊛ ‵ (own l (past r x)) ⊛ ‵ (flft κ q))))
 
   exits : (x y : ℕ) → FieldRead (now s) n w x → FieldRead (now s) (behindOf n w) w′ y → x < 2 ^ 32 → y < 2 ^ 32 → behindOf (behindOf n w) w′ < 2 ^ 64 → ent 𝓤 (⋆ 𝓤 H A (‵ (flft κ q) ∷ ‵ Frame ∷ [])) (Post (S′.lowered (result x y)))
   exits x y e e′ x-fits y-fits next-fits =
@@ -121,7 +117,7 @@ module _ {M : Type 1} (𝓤 : URA M) (H : Heap 𝓤) (A : Atoms 𝓤) (W : Given
       nothing ! $ owned ! usize (Is usize) (uint-makes 𝓤 H A W w64) (behindOf (behindOf n w) w′) _ (refl, next-fits) $ fjoin ! $ owned ! u32 (Is u32) (uint-makes 𝓤 H A W w32) y _ (refl, y-fits) $ fjoin ! $ owned ! u32 (Is u32) (uint-makes 𝓤 H A W w32) x _ (refl, x-fits) $ fjoin ! $
       by ! (own-shut 𝓤 H A W S.the-type S′.the-laws (x, (y, (behindOf (behindOf n w) w′, tt))))
 
-  module _ (C : Calls 𝓤 H) (Λ : Loops 𝓤 H) (fm : FmC 𝓤 H (W .laws) C) (known-reader : Triple 𝓤 (C #fields·reader) (Reader 𝓤 H A at-mem run)) (known-take : Triple 𝓤 (C #fields·FieldReader·take) (Takes.Taking u32 Field 𝓤 H A)) where
+  module _ (C : Calls 𝓤 H) (Λ : Loops 𝓤 H) (fm : FmC 𝓤 H (W .laws) C) (known-reader : Triple 𝓤 (C #fields·reader) (Reader 𝓤 H A at-mem run)) (known-take : Triple 𝓤 (C #fields·FieldReader·take) (Takes.Taking u32 FieldRead 𝓤 H A)) where
     walk : Is (ShrSlice (named 0) κ u8) s (v ∷ []) → ent 𝓤 (onEntry 𝓤 H A two.signature (κ, tt) (q, tt) a at) (WpFn 𝓤 H C Λ code.function (v ∷ vint w64 n ∷ vint w32 w ∷ vint w32 w′ ∷ []) Post)
     walk p =
         qed W ((‵ (flft κ q) ⊛ ‵ ftrue) ∷ ‵ (owns (ShrSlice (named 0) κ u8 ∷ usize ∷ u32 ∷ u32 ∷ []) a at) ∷ []) ∵ enter ! C Λ code.function (v ∷ vint w64 n ∷ vint w32 w ∷ vint w32 w′ ∷ []) _ $
@@ -138,16 +134,16 @@ module _ {M : Type 1} (𝓤 : URA M) (H : Heap 𝓤) (A : Atoms 𝓤) (W : Given
         assigns ! (of-opd ! (load ! (from ! (stop !)) (look ! 9 refl))) (from ! (stop !)) (init ! 15 refl (subst Typed (e .0) (e .1))) $
         -- `take`
         assigns ! (addr ! (from ! (stop !))) (from ! (stop !)) (init ! 7 refl (tt, tt)) $
-        move ! (15 ∷ 0 ∷ 1 ∷ []) $ use3 W (asks l₅ h w w-fits) (Takes.goes u32 Field 𝓤 H A W κ q l₅ h w w-fits) $ await ! tt $ pick ! (λ x. split ! $
-        calls-at ! fm (Takes.Taking u32 Field 𝓤 H A) known-take (Takes.to u32 Field 𝓤 H A W κ q l₅ h w w-fits x) (and-then ! (load ! (from ! (stop !)) (look ! 7 refl)) (and-then ! (load ! (from ! (stop !)) (look ! 18 refl)) (no-more !))) (λ u₁.
-        use2 W (gives l₅ h w u₁) (Takes.comes u32 Field 𝓤 H A W κ q l₅ h w w-fits x u₁) $ await ! tt $ pick ! (λ y. learn ! (λ e₁. split ! $ peeks ! u32 (Is u32) (shows 𝓤 H A u32) y (u₁ ∷ []) (λ is₁. drop ! $ split3 ! $
+        move ! (15 ∷ 0 ∷ 1 ∷ []) $ use3 W (asks l₅ h w w-fits) (Takes.goes u32 FieldRead 𝓤 H A W κ q l₅ h w w-fits) $ await ! tt $ pick ! (λ x. split ! $
+        calls-at ! fm (Takes.Taking u32 FieldRead 𝓤 H A) known-take (Takes.to u32 FieldRead 𝓤 H A W κ q l₅ h w w-fits x) (and-then ! (load ! (from ! (stop !)) (look ! 7 refl)) (and-then ! (load ! (from ! (stop !)) (look ! 18 refl)) (no-more !))) (λ u₁.
+        use2 W (gives l₅ h w u₁) (Takes.comes u32 FieldRead 𝓤 H A W κ q l₅ h w w-fits x u₁) $ await ! tt $ pick ! (λ y. learn ! (λ e₁. split ! $ peeks ! u32 (Is u32) (shows 𝓤 H A u32) y (u₁ ∷ []) (λ is₁. drop ! $ split3 ! $
         -- [the reader's cell, _5; what it owns; the token; what the frame owns; _11; …; _10; …; _9; …; _8; …; _7; …; room for _6; …; …; _4; …; _3; …; _2; …; _1; …; room for _0; …]
         land ! (from ! (stop !)) (init ! 14 refl (uint-lawful 𝓤 H A W w32 .typed y _ is₁ .0)) $ rewrite ! 14 (λ (x : Val). ‵ (fat fullShare (tyInt w32) l₆ 0 x)) (ap only (is₁ .0)) refl $
         -- `take` again
         assigns ! (addr ! (from ! (stop !))) (from ! (stop !)) (init ! 6 refl (tt, tt)) $
-        use3 W (asks l₅ h₁ w′ w′-fits) (Takes.goes u32 Field 𝓤 H A W κ q l₅ h₁ w′ w′-fits) $ await ! tt $ pick ! (λ x′. split ! $
-        calls-at ! fm (Takes.Taking u32 Field 𝓤 H A) known-take (Takes.to u32 Field 𝓤 H A W κ q l₅ h₁ w′ w′-fits x′) (and-then ! (load ! (from ! (stop !)) (look ! 5 refl)) (and-then ! (load ! (from ! (stop !)) (look ! 16 refl)) (no-more !))) (λ u₂.
-        use2 W (gives l₅ h₁ w′ u₂) (Takes.comes u32 Field 𝓤 H A W κ q l₅ h₁ w′ w′-fits x′ u₂) $ await ! tt $ pick ! (λ z. learn ! (λ e₂. split ! $ peeks ! u32 (Is u32) (shows 𝓤 H A u32) z (u₂ ∷ []) (λ is₂. drop ! $
+        use3 W (asks l₅ h₁ w′ w′-fits) (Takes.goes u32 FieldRead 𝓤 H A W κ q l₅ h₁ w′ w′-fits) $ await ! tt $ pick ! (λ x′. split ! $
+        calls-at ! fm (Takes.Taking u32 FieldRead 𝓤 H A) known-take (Takes.to u32 FieldRead 𝓤 H A W κ q l₅ h₁ w′ w′-fits x′) (and-then ! (load ! (from ! (stop !)) (look ! 5 refl)) (and-then ! (load ! (from ! (stop !)) (look ! 16 refl)) (no-more !))) (λ u₂.
+        use2 W (gives l₅ h₁ w′ u₂) (Takes.comes u32 FieldRead 𝓤 H A W κ q l₅ h₁ w′ w′-fits x′ u₂) $ await ! tt $ pick ! (λ z. learn ! (λ e₂. split ! $ peeks ! u32 (Is u32) (shows 𝓤 H A u32) z (u₂ ∷ []) (λ is₂. drop ! $
         split3 ! $ move ! (1 ∷ []) $ peeks ! R (Is R) (shows 𝓤 H A R) (past h₁ w′) (T′.lowered (past h₁ w′) ∷ []) (λ is₃.
         -- [what the reader owns; its cell, _5; the token; what the frame owns; _11; …; _10; …; _9; …; _8; …; room for _7; …; _6; …; …; _4; …; _3; …; _2; …; _1; …; room for _0; …]
         land ! (from ! (stop !)) (init ! 12 refl (uint-lawful 𝓤 H A W w32 .typed z _ is₂ .0)) $ rewrite ! 12 (λ (x : Val). ‵ (fat fullShare (tyInt w32) l₇ 0 x)) (ap only (is₂ .0)) refl $
@@ -158,14 +154,14 @@ module _ {M : Type 1} (𝓤 : URA M) (H : Heap 𝓤) (A : Atoms 𝓤) (W : Given
         keep ! (1 ∷ 2 ∷ []) $ by ! (exits y z e₁ e₂ (is₁ .1) (is₂ .1) (typed 𝓤 H A W κ (past h₁ w′) _ is₃ .1 .1 .0 .fits)))))))))))))))))))))))))))
 
 module _ {M : Type 1} (𝓤 : URA M) (H : Heap 𝓤) (A : Atoms 𝓤) (W : Given 𝓤 H A) (mem : Memory → SProp 𝓤) (run : Routine → Fun 𝓤) where
-  two-walks : (C : Calls 𝓤 H) (Λ : Loops 𝓤 H) → FmC 𝓤 H (W .laws) C → Triple 𝓤 (C #fields·reader) (Reader 𝓤 H A mem run) → Triple 𝓤 (C #fields·FieldReader·take) (Takes.Taking u32 Field 𝓤 H A)
+  two-walks : (C : Calls 𝓤 H) (Λ : Loops 𝓤 H) → FmC 𝓤 H (W .laws) C → Triple 𝓤 (C #fields·reader) (Reader 𝓤 H A mem run) → Triple 𝓤 (C #fields·FieldReader·take) (Takes.Taking u32 FieldRead 𝓤 H A)
       → Walks 𝓤 H A two.ended stayed (WpFn 𝓤 H C Λ code.function) (two.clauses 𝓤 H A mem run)
   two-walks C Λ fm known-reader known-take =
       walked 𝓤 H A two.ended stayed (two.clauses 𝓤 H A mem run) (WpFn 𝓤 H C Λ code.function) (λ κs. (slice-vals, (uint-vals w64, (uint-vals w32, (uint-vals w32, tt))))) (λ κs. (shr-slice-tells (named 0) (κs .0) u8, (uint-tells w64, (uint-tells w32, (uint-tells w32, tt)))))
       (λ κs qs bounds a g are. via 𝓤 _ (fst∗ 𝓤 _ (emp 𝓤)) (walk 𝓤 H A W mem run (κs .0) (qs .0) (a .0) (a .1 .0) (a .1 .1 .0) (a .1 .1 .1 .0) (are .1 .0 .1) (are .1 .1 .0 .1) (are .1 .1 .1 .0 .1) C Λ fm known-reader known-take (are .0)))
 
 two-meets : {M : Type 1} (𝓤 : URA M) (H : Heap 𝓤) (A : Atoms 𝓤) (W : Given 𝓤 H A) (mem : Memory → SProp 𝓤) (run : Routine → Fun 𝓤) (𝓣 : Tables 𝓤 H)
-    → Triple 𝓤 (𝓣 .C #fields·reader) (Reader 𝓤 H A mem run) → Triple 𝓤 (𝓣 .C #fields·FieldReader·take) (Takes.Taking u32 Field 𝓤 H A)
+    → Triple 𝓤 (𝓣 .C #fields·reader) (Reader 𝓤 H A mem run) → Triple 𝓤 (𝓣 .C #fields·FieldReader·take) (Takes.Taking u32 FieldRead 𝓤 H A)
     → Meets 𝓤 H A two.signature (WpFn 𝓤 H (𝓣 .C) (𝓣 .Λ) code.function) (two.spec 𝓤 H A mem run)
 two-meets 𝓤 H A W mem run 𝓣 known-reader known-take =
     walk-meets 𝓤 H A two.ended stayed W (goes-none-slice 𝓤 H A W 1 (0 ∷ []) tt (plain (λ _. u8)) yes, (goes-none 𝓤 H A W 1 (λ _. usize) yes (λ κs x f. refl), (goes-none 𝓤 H A W 1 (λ _. u32) yes (λ κs x f. refl), (goes-none 𝓤 H A W 1 (λ _. u32) yes (λ κs x f. refl), tt)))) (two.clauses 𝓤 H A mem run)
@@ -178,4 +174,4 @@ two-spec 𝓤 H 𝓜 𝓖 𝓡 =
     (tables 𝓤 H 𝓜 𝓡 code.env .C) (tables 𝓤 H 𝓜 𝓡 code.env .Λ) #fields·two code.function (code.unfolded 𝓤 H 𝓜 𝓡)
     (two-meets 𝓤 H (𝓖 .A) (givenOf 𝓤 H 𝓜 𝓖) (𝓜 .mem) (𝓡 .run) (tablesOf 𝓤 H 𝓜 (tables 𝓤 H 𝓜 𝓡 code.env))
     (cited 𝓤 H (Reader 𝓤 H (𝓖 .A) (𝓜 .mem) (𝓡 .run)) 𝓜 𝓡 code.env #fields·reader reader-def.routine code.calls-fields·reader (reader-thm.met 𝓤 H 𝓜 𝓖 𝓡))
-    (cited 𝓤 H (Takes.Taking u32 Field 𝓤 H (𝓖 .A)) 𝓜 𝓡 code.env #fields·FieldReader·take take-def.routine code.calls-fields·FieldReader·take (take-thm.met 𝓤 H 𝓜 𝓖 𝓡)))
+    (cited 𝓤 H (Takes.Taking u32 FieldRead 𝓤 H (𝓖 .A)) 𝓜 𝓡 code.env #fields·FieldReader·take take-def.routine code.calls-fields·FieldReader·take (take-thm.met 𝓤 H 𝓜 𝓖 𝓡)))
