@@ -1,7 +1,7 @@
 // The field reader (document 01, "The activation frame"): it keeps the lent frame it walks and the place of the next field.
 // The borrow checker covers no function over such a struct, so those here are proved by hand and are thin: the work is
 // done by the slice-and-place functions of octets.
-ghost use Rattle.fields.specs.Promises.{Made, FieldTaken, SignedTaken, OneTaken, BothTaken};
+ghost use Rattle.fields.specs.Promises.{Made, FieldTaken, SignedTaken, OneTaken, BothTaken, SignedFilled};
 
 pub struct FieldReader<'a> {
     pub frame: &'a [u8],
@@ -69,4 +69,18 @@ pub fn two(frame: &[u8], at: usize, v: u32, w: u32) -> TwoTaken
         second,
         next: r.at,
     }
+}
+
+// The fields of w bits in two's complement, one behind the other from a place on, as many as the lent room takes, and the
+// place behind them.
+pub fn fill_signed(frame: &[u8], at: usize, w: u32, into: &mut [i32]) -> usize
+    ensures { λ r. ⌜ SignedFilled (now (frame .entry)) at w (now (into .entry)) (now (into .exit)) r ⌝ }
+{
+    let mut r = reader(frame, at);
+    let mut k = 0;
+    while k < into.len() {
+        into[k] = r.take_signed(w);
+        k += 1;
+    }
+    r.at
 }
