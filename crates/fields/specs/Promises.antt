@@ -10,7 +10,7 @@ use Rattle.octets.specs.Signed.{signedOf}
 use Rattle.octets.specs.Promises.{FieldRead, SignedRead, behindOf}
 use Rattle.fields.specs.declared.FieldReader.{FieldReader}
 use Rattle.fields.specs.declared.Taken.{Taken}
-use Rattle.fields.specs.declared.TwoTaken.{TwoTaken}
+use Rattle.fields.specs.declared.TakenPair.{TakenPair}
 
 -- the reader behind a field of w bits: the same lent frame, and the place behind the field
 abbrev pub past : FieldReader → ℕ → FieldReader
@@ -28,13 +28,13 @@ FieldTaken r w v exit = FieldRead (now (r .frame)) (r .at) w v × (exit ≡ past
 abbrev pub SignedTaken : FieldReader → ℕ → ℤ → FieldReader → Type 0
 SignedTaken r w v exit = SignedRead (now (r .frame)) (r .at) w v × (exit ≡ past r w)
 
--- one
-abbrev pub OneTaken : List ℕ → ℕ → ℕ → Taken → Type 0
-OneTaken s at w r = r ≡ record { value = valueOf (part at (min w 32) (bitsOf s)); next = behindOf at w }
+-- single
+abbrev pub SingleTaken : List ℕ → ℕ → ℕ → Taken → Type 0
+SingleTaken s at w r = r ≡ record { value = valueOf (part at (min w 32) (bitsOf s)); next = behindOf at w }
 
--- two
-abbrev pub BothTaken : List ℕ → ℕ → ℕ → ℕ → TwoTaken → Type 0
-BothTaken s at v w r =
+-- pair
+abbrev pub PairTaken : List ℕ → ℕ → ℕ → ℕ → TakenPair → Type 0
+PairTaken s at v w r =
     r ≡ record {
       first = valueOf (part at (min v 32) (bitsOf s));
       second = valueOf (part (behindOf at v) (min w 32) (bitsOf s));

@@ -1,7 +1,7 @@
 // The field reader (document 01, "The activation frame"): it keeps the lent frame it walks and the place of the next field.
 // The borrow checker covers no function over such a struct, so those here are proved by hand and are thin: the work is
 // done by the slice-and-place functions of octets.
-ghost use Rattle.fields.specs.Promises.{Made, FieldTaken, SignedTaken, OneTaken, BothTaken, SignedFilled};
+ghost use Rattle.fields.specs.Promises.{Made, FieldTaken, SignedTaken, SingleTaken, PairTaken, SignedFilled};
 
 pub struct FieldReader<'a> {
     pub frame: &'a [u8],
@@ -42,8 +42,8 @@ pub struct Taken {
 }
 
 // The field of w bits at a place.
-pub fn one(frame: &[u8], at: usize, w: u32) -> Taken
-    ensures { λ r. ⌜ OneTaken (now (frame .entry)) at w r ⌝ }
+pub fn single(frame: &[u8], at: usize, w: u32) -> Taken
+    ensures { λ r. ⌜ SingleTaken (now (frame .entry)) at w r ⌝ }
 {
     let mut r = reader(frame, at);
     let value = r.take(w);
@@ -51,20 +51,20 @@ pub fn one(frame: &[u8], at: usize, w: u32) -> Taken
 }
 
 // Two fields, one behind the other, and the place behind them.
-pub struct TwoTaken {
+pub struct TakenPair {
     pub first: u32,
     pub second: u32,
     pub next: usize,
 }
 
 // The field of v bits at a place, and the one of w bits behind it.
-pub fn two(frame: &[u8], at: usize, v: u32, w: u32) -> TwoTaken
-    ensures { λ r. ⌜ BothTaken (now (frame .entry)) at v w r ⌝ }
+pub fn pair(frame: &[u8], at: usize, v: u32, w: u32) -> TakenPair
+    ensures { λ r. ⌜ PairTaken (now (frame .entry)) at v w r ⌝ }
 {
     let mut r = reader(frame, at);
     let first = r.take(v);
     let second = r.take(w);
-    TwoTaken {
+    TakenPair {
         first,
         second,
         next: r.at,

@@ -1,4 +1,4 @@
--- `fields::one` meets its contract: a walk of its MIR, by hand. A reader is made in a local (`Makes.antt`), lent to `take`, and comes back behind the field (`Takes.antt`).
+-- `fields::single` meets its contract: a walk of its MIR, by hand. A reader is made in a local (`Makes.antt`), lent to `take`, and comes back behind the field (`Takes.antt`).
 -- Of the two callees the proof knows that they meet their contracts.
 -- Assumes nothing.
 use mathlib.Core.Path.{_≡_, refl, ap, subst}
@@ -55,12 +55,12 @@ use Rattle.fields.proofs.reader.Met as reader-thm
 use Rattle.fields.proofs.FieldReader.take.Symbol as take-def
 use Rattle.fields.proofs.FieldReader.take.Symbol.{name as #fields·FieldReader·take}
 use Rattle.fields.proofs.FieldReader.take.Met as take-thm
-use Rattle.fields.proofs.one.Key.{name as #fields·one}
-use Rattle.fields.proofs.one as one
-use Rattle.fields.proofs.one.Statement as stated
-use Rattle.fields.proofs.one.Code as code
+use Rattle.fields.proofs.single.Key.{name as #fields·single}
+use Rattle.fields.proofs.single as single
+use Rattle.fields.proofs.single.Statement as stated
+use Rattle.fields.proofs.single.Code as code
 
-abbrev stayed : Stays (one.ended .signature .params) (one.ended .kept)
+abbrev stayed : Stays (single.ended .signature .params) (single.ended .kept)
 stayed = (stay-none-slice (0 ∷ []) tt (plain (λ _. u8)) yes, (stay-none (λ _. usize) yes, (stay-none (λ _. u32) yes, tt)))
 
 module _ {M : Type 1} (𝓤 : URA M) (H : Heap 𝓤) (A : Atoms 𝓤) (W : Given 𝓤 H A) (at-mem : Memory → SProp 𝓤) (run : Routine → Fun 𝓤) (κ : Lft) (q : Share) (s : RefT (List ℕ)) (n w : ℕ) (n-fits : n < 2 ^ 64) (w-fits : w < 2 ^ 32) where
@@ -82,7 +82,7 @@ module _ {M : Type 1} (𝓤 : URA M) (H : Heap 𝓤) (A : Atoms 𝓤) (W : Given
   at = (v ∷ [], (vint w64 n ∷ [], (vint w32 w ∷ [], tt)))
 
   abbrev Post : Val → SProp 𝓤
-  Post = walkOf 𝓤 H A one.ended stayed (one.clauses 𝓤 H A at-mem run) .post (((κ, tt), (q, tt), tt, a, at), tt)
+  Post = walkOf 𝓤 H A single.ended stayed (single.clauses 𝓤 H A at-mem run) .post (((κ, tt), (q, tt), tt, a, at), tt)
 
   -- what the frame owns
   abbrev Frame : Fml
@@ -108,13 +108,13 @@ module _ {M : Type 1} (𝓤 : URA M) (H : Heap 𝓤) (A : Atoms 𝓤) (W : Given
   exits : (x : ℕ) → FieldRead (now s) n w x → x < 2 ^ 32 → behindOf n w < 2 ^ 64 → ent 𝓤 (⋆ 𝓤 H A (‵ (flft κ q) ∷ ‵ Frame ∷ [])) (Post (S′.lowered (result x)))
   exits x e x-fits next-fits =
       qed W (‵ (flft κ q) ∷ ‵ Frame ∷ []) ∵
-      suffices ! _ (ends-at 𝓤 H A one.ended stayed (one.clauses 𝓤 H A at-mem run) W (((κ, tt), (q, tt), tt, a, at), tt) (S′.lowered (result x)) (result x) (tt, (tt, (tt, tt))) (tt, (tt, (tt, tt)))) $
+      suffices ! _ (ends-at 𝓤 H A single.ended stayed (single.clauses 𝓤 H A at-mem run) W (((κ, tt), (q, tt), tt, a, at), tt) (S′.lowered (result x)) (result x) (tt, (tt, (tt, tt))) (tt, (tt, (tt, tt)))) $
       says ! (ap result e) $ nothing ! $ move ! (1 ∷ 0 ∷ []) $ join ! $ frame ! $
       nothing ! $ owned ! u32 (Is u32) (uint-makes 𝓤 H A W w32) w _ (refl, w-fits) $ fjoin ! $ owned ! usize (Is usize) (uint-makes 𝓤 H A W w64) n _ (refl, n-fits) $ fjoin ! $ move ! (1 ∷ 0 ∷ []) $ fjoin ! $ frame ! $
       nothing ! $ owned ! usize (Is usize) (uint-makes 𝓤 H A W w64) (behindOf n w) _ (refl, next-fits) $ fjoin ! $ owned ! u32 (Is u32) (uint-makes 𝓤 H A W w32) x _ (refl, x-fits) $ fjoin ! $ by ! (own-shut 𝓤 H A W S.the-type S′.the-laws (x, (behindOf n w, tt)))
 
   module _ (C : Calls 𝓤 H) (Λ : Loops 𝓤 H) (fm : FmC 𝓤 H (W .laws) C) (known-reader : Triple 𝓤 (C #fields·reader) (Reader 𝓤 H A at-mem run)) (known-take : Triple 𝓤 (C #fields·FieldReader·take) (Takes.Taking u32 FieldRead 𝓤 H A)) where
-    walk : Is (ShrSlice (named 0) κ u8) s (v ∷ []) → ent 𝓤 (onEntry 𝓤 H A one.signature (κ, tt) (q, tt) a at) (WpFn 𝓤 H C Λ code.function (v ∷ vint w64 n ∷ vint w32 w ∷ []) Post)
+    walk : Is (ShrSlice (named 0) κ u8) s (v ∷ []) → ent 𝓤 (onEntry 𝓤 H A single.signature (κ, tt) (q, tt) a at) (WpFn 𝓤 H C Λ code.function (v ∷ vint w64 n ∷ vint w32 w ∷ []) Post)
     walk p =
         qed W ((‵ (flft κ q) ⊛ ‵ ftrue) ∷ ‵ (owns (ShrSlice (named 0) κ u8 ∷ usize ∷ u32 ∷ []) a at) ∷ []) ∵ enter ! C Λ code.function (v ∷ vint w64 n ∷ vint w32 w ∷ []) _ $
         alloc1 ! (λ l₀. alloc1 ! (λ l₁. alloc1 ! (λ l₂. alloc1 ! (λ l₃. alloc1 ! (λ l₄. alloc1 ! (λ l₅. alloc1 ! (λ l₆. alloc1 ! (λ l₇. alloc1 ! (λ l₈. alloc0 ! $ params1 ! $
@@ -143,24 +143,24 @@ module _ {M : Type 1} (𝓤 : URA M) (H : Heap 𝓤) (A : Atoms 𝓤) (W : Given
         keep ! (1 ∷ 2 ∷ []) $ by ! (exits y e₁ (is₁ .1) (typed 𝓤 H A W κ (past h w) _ is₂ .1 .1 .0 .fits)))))))))))))))))))
 
 module _ {M : Type 1} (𝓤 : URA M) (H : Heap 𝓤) (A : Atoms 𝓤) (W : Given 𝓤 H A) (mem : Memory → SProp 𝓤) (run : Routine → Fun 𝓤) where
-  one-walks : (C : Calls 𝓤 H) (Λ : Loops 𝓤 H) → FmC 𝓤 H (W .laws) C → Triple 𝓤 (C #fields·reader) (Reader 𝓤 H A mem run) → Triple 𝓤 (C #fields·FieldReader·take) (Takes.Taking u32 FieldRead 𝓤 H A)
-      → Walks 𝓤 H A one.ended stayed (WpFn 𝓤 H C Λ code.function) (one.clauses 𝓤 H A mem run)
-  one-walks C Λ fm known-reader known-take =
-      walked 𝓤 H A one.ended stayed (one.clauses 𝓤 H A mem run) (WpFn 𝓤 H C Λ code.function) (λ κs. (slice-vals, (uint-vals w64, (uint-vals w32, tt)))) (λ κs. (shr-slice-tells (named 0) (κs .0) u8, (uint-tells w64, (uint-tells w32, tt))))
+  single-walks : (C : Calls 𝓤 H) (Λ : Loops 𝓤 H) → FmC 𝓤 H (W .laws) C → Triple 𝓤 (C #fields·reader) (Reader 𝓤 H A mem run) → Triple 𝓤 (C #fields·FieldReader·take) (Takes.Taking u32 FieldRead 𝓤 H A)
+      → Walks 𝓤 H A single.ended stayed (WpFn 𝓤 H C Λ code.function) (single.clauses 𝓤 H A mem run)
+  single-walks C Λ fm known-reader known-take =
+      walked 𝓤 H A single.ended stayed (single.clauses 𝓤 H A mem run) (WpFn 𝓤 H C Λ code.function) (λ κs. (slice-vals, (uint-vals w64, (uint-vals w32, tt)))) (λ κs. (shr-slice-tells (named 0) (κs .0) u8, (uint-tells w64, (uint-tells w32, tt))))
       (λ κs qs bounds a g are. via 𝓤 _ (fst∗ 𝓤 _ (emp 𝓤)) (walk 𝓤 H A W mem run (κs .0) (qs .0) (a .0) (a .1 .0) (a .1 .1 .0) (are .1 .0 .1) (are .1 .1 .0 .1) C Λ fm known-reader known-take (are .0)))
 
-one-meets : {M : Type 1} (𝓤 : URA M) (H : Heap 𝓤) (A : Atoms 𝓤) (W : Given 𝓤 H A) (mem : Memory → SProp 𝓤) (run : Routine → Fun 𝓤) (𝓣 : Tables 𝓤 H)
+single-meets : {M : Type 1} (𝓤 : URA M) (H : Heap 𝓤) (A : Atoms 𝓤) (W : Given 𝓤 H A) (mem : Memory → SProp 𝓤) (run : Routine → Fun 𝓤) (𝓣 : Tables 𝓤 H)
     → Triple 𝓤 (𝓣 .C #fields·reader) (Reader 𝓤 H A mem run) → Triple 𝓤 (𝓣 .C #fields·FieldReader·take) (Takes.Taking u32 FieldRead 𝓤 H A)
-    → Meets 𝓤 H A one.signature (WpFn 𝓤 H (𝓣 .C) (𝓣 .Λ) code.function) (one.spec 𝓤 H A mem run)
-one-meets 𝓤 H A W mem run 𝓣 known-reader known-take =
-    walk-meets 𝓤 H A one.ended stayed W (goes-none-slice 𝓤 H A W 1 (0 ∷ []) tt (plain (λ _. u8)) yes, (goes-none 𝓤 H A W 1 (λ _. usize) yes (λ κs x f. refl), (goes-none 𝓤 H A W 1 (λ _. u32) yes (λ κs x f. refl), tt))) (one.clauses 𝓤 H A mem run)
-    (WpFn 𝓤 H (𝓣 .C) (𝓣 .Λ) code.function) (WpFn-mono 𝓤 H (W .laws) 𝓣 code.function) (one-walks 𝓤 H A W mem run (𝓣 .C) (𝓣 .Λ) (fmOf 𝓤 H (W .laws) 𝓣) known-reader known-take)
+    → Meets 𝓤 H A single.signature (WpFn 𝓤 H (𝓣 .C) (𝓣 .Λ) code.function) (single.spec 𝓤 H A mem run)
+single-meets 𝓤 H A W mem run 𝓣 known-reader known-take =
+    walk-meets 𝓤 H A single.ended stayed W (goes-none-slice 𝓤 H A W 1 (0 ∷ []) tt (plain (λ _. u8)) yes, (goes-none 𝓤 H A W 1 (λ _. usize) yes (λ κs x f. refl), (goes-none 𝓤 H A W 1 (λ _. u32) yes (λ κs x f. refl), tt))) (single.clauses 𝓤 H A mem run)
+    (WpFn 𝓤 H (𝓣 .C) (𝓣 .Λ) code.function) (WpFn-mono 𝓤 H (W .laws) 𝓣 code.function) (single-walks 𝓤 H A W mem run (𝓣 .C) (𝓣 .Λ) (fmOf 𝓤 H (W .laws) 𝓣) known-reader known-take)
 
-pub one-spec : {M : Type 1} → stated.statement M
+pub single-spec : {M : Type 1} → stated.statement M
 unfolding code.routine tablesOf
-one-spec 𝓤 H 𝓜 𝓖 𝓡 =
-    entered 𝓤 H (tripleOf 𝓤 H (𝓖 .A) one.signature (one.spec 𝓤 H (𝓖 .A) (𝓜 .mem) (𝓡 .run)))
-    (tables 𝓤 H 𝓜 𝓡 code.env .C) (tables 𝓤 H 𝓜 𝓡 code.env .Λ) #fields·one code.function (code.unfolded 𝓤 H 𝓜 𝓡)
-    (one-meets 𝓤 H (𝓖 .A) (givenOf 𝓤 H 𝓜 𝓖) (𝓜 .mem) (𝓡 .run) (tablesOf 𝓤 H 𝓜 (tables 𝓤 H 𝓜 𝓡 code.env))
+single-spec 𝓤 H 𝓜 𝓖 𝓡 =
+    entered 𝓤 H (tripleOf 𝓤 H (𝓖 .A) single.signature (single.spec 𝓤 H (𝓖 .A) (𝓜 .mem) (𝓡 .run)))
+    (tables 𝓤 H 𝓜 𝓡 code.env .C) (tables 𝓤 H 𝓜 𝓡 code.env .Λ) #fields·single code.function (code.unfolded 𝓤 H 𝓜 𝓡)
+    (single-meets 𝓤 H (𝓖 .A) (givenOf 𝓤 H 𝓜 𝓖) (𝓜 .mem) (𝓡 .run) (tablesOf 𝓤 H 𝓜 (tables 𝓤 H 𝓜 𝓡 code.env))
     (cited 𝓤 H (Reader 𝓤 H (𝓖 .A) (𝓜 .mem) (𝓡 .run)) 𝓜 𝓡 code.env #fields·reader reader-def.routine code.calls-fields·reader (reader-thm.met 𝓤 H 𝓜 𝓖 𝓡))
     (cited 𝓤 H (Takes.Taking u32 FieldRead 𝓤 H (𝓖 .A)) 𝓜 𝓡 code.env #fields·FieldReader·take take-def.routine code.calls-fields·FieldReader·take (take-thm.met 𝓤 H 𝓜 𝓖 𝓡)))

@@ -1,4 +1,4 @@
--- `fields::two` meets its contract: a walk of its MIR, by hand. A reader is made in a local (`Makes.antt`), and lent to `take` twice; each time it comes back behind the field (`Takes.antt`).
+-- `fields::pair` meets its contract: a walk of its MIR, by hand. A reader is made in a local (`Makes.antt`), and lent to `take` twice; each time it comes back behind the field (`Takes.antt`).
 -- Of the two callees the proof knows that they meet their contracts.
 -- Assumes nothing.
 use mathlib.Core.Path.{_≡_, refl, ap, ap₂, subst}
@@ -39,12 +39,12 @@ use denote.Triple.Walked.{says, Stays, stay-none, stay-none-slice, walkOf, goes-
 use denote.Exit.{yes}
 use Rattle.octets.specs.Promises.{FieldRead, behindOf}
 use Rattle.fields.specs.declared.FieldReader.{FieldReader}
-use Rattle.fields.specs.declared.TwoTaken.{TwoTaken}
+use Rattle.fields.specs.declared.TakenPair.{TakenPair}
 use Rattle.fields.specs.Promises.{past}
 use Rattle.fields.proofs.FieldReader as T
 use Rattle.fields.proofs.FieldReader.Laws as T′
-use Rattle.fields.proofs.TwoTaken as S
-use Rattle.fields.proofs.TwoTaken.Laws as S′
+use Rattle.fields.proofs.TakenPair as S
+use Rattle.fields.proofs.TakenPair.Laws as S′
 use Rattle.fields.proofs.Lent.{Cell, Own, Kept}
 use Rattle.fields.proofs.Makes.{Typed, typed, Reader}
 use Rattle.fields.proofs.Makes as Makes
@@ -55,12 +55,12 @@ use Rattle.fields.proofs.reader.Met as reader-thm
 use Rattle.fields.proofs.FieldReader.take.Symbol as take-def
 use Rattle.fields.proofs.FieldReader.take.Symbol.{name as #fields·FieldReader·take}
 use Rattle.fields.proofs.FieldReader.take.Met as take-thm
-use Rattle.fields.proofs.two.Key.{name as #fields·two}
-use Rattle.fields.proofs.two as two
-use Rattle.fields.proofs.two.Statement as stated
-use Rattle.fields.proofs.two.Code as code
+use Rattle.fields.proofs.pair.Key.{name as #fields·pair}
+use Rattle.fields.proofs.pair as pair
+use Rattle.fields.proofs.pair.Statement as stated
+use Rattle.fields.proofs.pair.Code as code
 
-abbrev stayed : Stays (two.ended .signature .params) (two.ended .kept)
+abbrev stayed : Stays (pair.ended .signature .params) (pair.ended .kept)
 stayed = (stay-none-slice (0 ∷ []) tt (plain (λ _. u8)) yes, (stay-none (λ _. usize) yes, (stay-none (λ _. u32) yes, (stay-none (λ _. u32) yes, tt))))
 
 module _ {M : Type 1} (𝓤 : URA M) (H : Heap 𝓤) (A : Atoms 𝓤) (W : Given 𝓤 H A) (at-mem : Memory → SProp 𝓤) (run : Routine → Fun 𝓤) (κ : Lft) (q : Share) (s : RefT (List ℕ)) (n w w′ : ℕ) (n-fits : n < 2 ^ 64) (w-fits : w < 2 ^ 32) (w′-fits : w′ < 2 ^ 32) where
@@ -75,7 +75,7 @@ module _ {M : Type 1} (𝓤 : URA M) (H : Heap 𝓤) (A : Atoms 𝓤) (W : Given
   abbrev h₁ : FieldReader
   h₁ = past h w
 
-  abbrev result : ℕ → ℕ → TwoTaken
+  abbrev result : ℕ → ℕ → TakenPair
   result x y = record { first = x; second = y; next = behindOf (behindOf n w) w′ }
 
   abbrev a : RefT (List ℕ) × (ℕ × (ℕ × (ℕ × Unit {0})))
@@ -85,7 +85,7 @@ module _ {M : Type 1} (𝓤 : URA M) (H : Heap 𝓤) (A : Atoms 𝓤) (W : Given
   at = (v ∷ [], (vint w64 n ∷ [], (vint w32 w ∷ [], (vint w32 w′ ∷ [], tt))))
 
   abbrev Post : Val → SProp 𝓤
-  Post = walkOf 𝓤 H A two.ended stayed (two.clauses 𝓤 H A at-mem run) .post (((κ, tt), (q, tt), tt, a, at), tt)
+  Post = walkOf 𝓤 H A pair.ended stayed (pair.clauses 𝓤 H A at-mem run) .post (((κ, tt), (q, tt), tt, a, at), tt)
 
   -- what the frame owns
   abbrev Frame : Fml
@@ -111,14 +111,14 @@ module _ {M : Type 1} (𝓤 : URA M) (H : Heap 𝓤) (A : Atoms 𝓤) (W : Given
   exits : (x y : ℕ) → FieldRead (now s) n w x → FieldRead (now s) (behindOf n w) w′ y → x < 2 ^ 32 → y < 2 ^ 32 → behindOf (behindOf n w) w′ < 2 ^ 64 → ent 𝓤 (⋆ 𝓤 H A (‵ (flft κ q) ∷ ‵ Frame ∷ [])) (Post (S′.lowered (result x y)))
   exits x y e e′ x-fits y-fits next-fits =
       qed W (‵ (flft κ q) ∷ ‵ Frame ∷ []) ∵
-      suffices ! _ (ends-at 𝓤 H A two.ended stayed (two.clauses 𝓤 H A at-mem run) W (((κ, tt), (q, tt), tt, a, at), tt) (S′.lowered (result x y)) (result x y) (tt, (tt, (tt, (tt, tt)))) (tt, (tt, (tt, (tt, tt))))) $
+      suffices ! _ (ends-at 𝓤 H A pair.ended stayed (pair.clauses 𝓤 H A at-mem run) W (((κ, tt), (q, tt), tt, a, at), tt) (S′.lowered (result x y)) (result x y) (tt, (tt, (tt, (tt, tt)))) (tt, (tt, (tt, (tt, tt))))) $
       says ! (ap₂ result e e′) $ nothing ! $ move ! (1 ∷ 0 ∷ []) $ join ! $ frame ! $
       nothing ! $ owned ! u32 (Is u32) (uint-makes 𝓤 H A W w32) w′ _ (refl, w′-fits) $ fjoin ! $ owned ! u32 (Is u32) (uint-makes 𝓤 H A W w32) w _ (refl, w-fits) $ fjoin ! $ owned ! usize (Is usize) (uint-makes 𝓤 H A W w64) n _ (refl, n-fits) $ fjoin ! $ move ! (1 ∷ 0 ∷ []) $ fjoin ! $ frame ! $
       nothing ! $ owned ! usize (Is usize) (uint-makes 𝓤 H A W w64) (behindOf (behindOf n w) w′) _ (refl, next-fits) $ fjoin ! $ owned ! u32 (Is u32) (uint-makes 𝓤 H A W w32) y _ (refl, y-fits) $ fjoin ! $ owned ! u32 (Is u32) (uint-makes 𝓤 H A W w32) x _ (refl, x-fits) $ fjoin ! $
       by ! (own-shut 𝓤 H A W S.the-type S′.the-laws (x, (y, (behindOf (behindOf n w) w′, tt))))
 
   module _ (C : Calls 𝓤 H) (Λ : Loops 𝓤 H) (fm : FmC 𝓤 H (W .laws) C) (known-reader : Triple 𝓤 (C #fields·reader) (Reader 𝓤 H A at-mem run)) (known-take : Triple 𝓤 (C #fields·FieldReader·take) (Takes.Taking u32 FieldRead 𝓤 H A)) where
-    walk : Is (ShrSlice (named 0) κ u8) s (v ∷ []) → ent 𝓤 (onEntry 𝓤 H A two.signature (κ, tt) (q, tt) a at) (WpFn 𝓤 H C Λ code.function (v ∷ vint w64 n ∷ vint w32 w ∷ vint w32 w′ ∷ []) Post)
+    walk : Is (ShrSlice (named 0) κ u8) s (v ∷ []) → ent 𝓤 (onEntry 𝓤 H A pair.signature (κ, tt) (q, tt) a at) (WpFn 𝓤 H C Λ code.function (v ∷ vint w64 n ∷ vint w32 w ∷ vint w32 w′ ∷ []) Post)
     walk p =
         qed W ((‵ (flft κ q) ⊛ ‵ ftrue) ∷ ‵ (owns (ShrSlice (named 0) κ u8 ∷ usize ∷ u32 ∷ u32 ∷ []) a at) ∷ []) ∵ enter ! C Λ code.function (v ∷ vint w64 n ∷ vint w32 w ∷ vint w32 w′ ∷ []) _ $
         alloc1 ! (λ l₀. alloc1 ! (λ l₁. alloc1 ! (λ l₂. alloc1 ! (λ l₃. alloc1 ! (λ l₄. alloc1 ! (λ l₅. alloc1 ! (λ l₆. alloc1 ! (λ l₇. alloc1 ! (λ l₈. alloc1 ! (λ l₉. alloc1 ! (λ l₁₀. alloc1 ! (λ l₁₁. alloc0 ! $ params1 ! $
@@ -154,24 +154,24 @@ module _ {M : Type 1} (𝓤 : URA M) (H : Heap 𝓤) (A : Atoms 𝓤) (W : Given
         keep ! (1 ∷ 2 ∷ []) $ by ! (exits y z e₁ e₂ (is₁ .1) (is₂ .1) (typed 𝓤 H A W κ (past h₁ w′) _ is₃ .1 .1 .0 .fits)))))))))))))))))))))))))))
 
 module _ {M : Type 1} (𝓤 : URA M) (H : Heap 𝓤) (A : Atoms 𝓤) (W : Given 𝓤 H A) (mem : Memory → SProp 𝓤) (run : Routine → Fun 𝓤) where
-  two-walks : (C : Calls 𝓤 H) (Λ : Loops 𝓤 H) → FmC 𝓤 H (W .laws) C → Triple 𝓤 (C #fields·reader) (Reader 𝓤 H A mem run) → Triple 𝓤 (C #fields·FieldReader·take) (Takes.Taking u32 FieldRead 𝓤 H A)
-      → Walks 𝓤 H A two.ended stayed (WpFn 𝓤 H C Λ code.function) (two.clauses 𝓤 H A mem run)
-  two-walks C Λ fm known-reader known-take =
-      walked 𝓤 H A two.ended stayed (two.clauses 𝓤 H A mem run) (WpFn 𝓤 H C Λ code.function) (λ κs. (slice-vals, (uint-vals w64, (uint-vals w32, (uint-vals w32, tt))))) (λ κs. (shr-slice-tells (named 0) (κs .0) u8, (uint-tells w64, (uint-tells w32, (uint-tells w32, tt)))))
+  pair-walks : (C : Calls 𝓤 H) (Λ : Loops 𝓤 H) → FmC 𝓤 H (W .laws) C → Triple 𝓤 (C #fields·reader) (Reader 𝓤 H A mem run) → Triple 𝓤 (C #fields·FieldReader·take) (Takes.Taking u32 FieldRead 𝓤 H A)
+      → Walks 𝓤 H A pair.ended stayed (WpFn 𝓤 H C Λ code.function) (pair.clauses 𝓤 H A mem run)
+  pair-walks C Λ fm known-reader known-take =
+      walked 𝓤 H A pair.ended stayed (pair.clauses 𝓤 H A mem run) (WpFn 𝓤 H C Λ code.function) (λ κs. (slice-vals, (uint-vals w64, (uint-vals w32, (uint-vals w32, tt))))) (λ κs. (shr-slice-tells (named 0) (κs .0) u8, (uint-tells w64, (uint-tells w32, (uint-tells w32, tt)))))
       (λ κs qs bounds a g are. via 𝓤 _ (fst∗ 𝓤 _ (emp 𝓤)) (walk 𝓤 H A W mem run (κs .0) (qs .0) (a .0) (a .1 .0) (a .1 .1 .0) (a .1 .1 .1 .0) (are .1 .0 .1) (are .1 .1 .0 .1) (are .1 .1 .1 .0 .1) C Λ fm known-reader known-take (are .0)))
 
-two-meets : {M : Type 1} (𝓤 : URA M) (H : Heap 𝓤) (A : Atoms 𝓤) (W : Given 𝓤 H A) (mem : Memory → SProp 𝓤) (run : Routine → Fun 𝓤) (𝓣 : Tables 𝓤 H)
+pair-meets : {M : Type 1} (𝓤 : URA M) (H : Heap 𝓤) (A : Atoms 𝓤) (W : Given 𝓤 H A) (mem : Memory → SProp 𝓤) (run : Routine → Fun 𝓤) (𝓣 : Tables 𝓤 H)
     → Triple 𝓤 (𝓣 .C #fields·reader) (Reader 𝓤 H A mem run) → Triple 𝓤 (𝓣 .C #fields·FieldReader·take) (Takes.Taking u32 FieldRead 𝓤 H A)
-    → Meets 𝓤 H A two.signature (WpFn 𝓤 H (𝓣 .C) (𝓣 .Λ) code.function) (two.spec 𝓤 H A mem run)
-two-meets 𝓤 H A W mem run 𝓣 known-reader known-take =
-    walk-meets 𝓤 H A two.ended stayed W (goes-none-slice 𝓤 H A W 1 (0 ∷ []) tt (plain (λ _. u8)) yes, (goes-none 𝓤 H A W 1 (λ _. usize) yes (λ κs x f. refl), (goes-none 𝓤 H A W 1 (λ _. u32) yes (λ κs x f. refl), (goes-none 𝓤 H A W 1 (λ _. u32) yes (λ κs x f. refl), tt)))) (two.clauses 𝓤 H A mem run)
-    (WpFn 𝓤 H (𝓣 .C) (𝓣 .Λ) code.function) (WpFn-mono 𝓤 H (W .laws) 𝓣 code.function) (two-walks 𝓤 H A W mem run (𝓣 .C) (𝓣 .Λ) (fmOf 𝓤 H (W .laws) 𝓣) known-reader known-take)
+    → Meets 𝓤 H A pair.signature (WpFn 𝓤 H (𝓣 .C) (𝓣 .Λ) code.function) (pair.spec 𝓤 H A mem run)
+pair-meets 𝓤 H A W mem run 𝓣 known-reader known-take =
+    walk-meets 𝓤 H A pair.ended stayed W (goes-none-slice 𝓤 H A W 1 (0 ∷ []) tt (plain (λ _. u8)) yes, (goes-none 𝓤 H A W 1 (λ _. usize) yes (λ κs x f. refl), (goes-none 𝓤 H A W 1 (λ _. u32) yes (λ κs x f. refl), (goes-none 𝓤 H A W 1 (λ _. u32) yes (λ κs x f. refl), tt)))) (pair.clauses 𝓤 H A mem run)
+    (WpFn 𝓤 H (𝓣 .C) (𝓣 .Λ) code.function) (WpFn-mono 𝓤 H (W .laws) 𝓣 code.function) (pair-walks 𝓤 H A W mem run (𝓣 .C) (𝓣 .Λ) (fmOf 𝓤 H (W .laws) 𝓣) known-reader known-take)
 
-pub two-spec : {M : Type 1} → stated.statement M
+pub pair-spec : {M : Type 1} → stated.statement M
 unfolding code.routine tablesOf
-two-spec 𝓤 H 𝓜 𝓖 𝓡 =
-    entered 𝓤 H (tripleOf 𝓤 H (𝓖 .A) two.signature (two.spec 𝓤 H (𝓖 .A) (𝓜 .mem) (𝓡 .run)))
-    (tables 𝓤 H 𝓜 𝓡 code.env .C) (tables 𝓤 H 𝓜 𝓡 code.env .Λ) #fields·two code.function (code.unfolded 𝓤 H 𝓜 𝓡)
-    (two-meets 𝓤 H (𝓖 .A) (givenOf 𝓤 H 𝓜 𝓖) (𝓜 .mem) (𝓡 .run) (tablesOf 𝓤 H 𝓜 (tables 𝓤 H 𝓜 𝓡 code.env))
+pair-spec 𝓤 H 𝓜 𝓖 𝓡 =
+    entered 𝓤 H (tripleOf 𝓤 H (𝓖 .A) pair.signature (pair.spec 𝓤 H (𝓖 .A) (𝓜 .mem) (𝓡 .run)))
+    (tables 𝓤 H 𝓜 𝓡 code.env .C) (tables 𝓤 H 𝓜 𝓡 code.env .Λ) #fields·pair code.function (code.unfolded 𝓤 H 𝓜 𝓡)
+    (pair-meets 𝓤 H (𝓖 .A) (givenOf 𝓤 H 𝓜 𝓖) (𝓜 .mem) (𝓡 .run) (tablesOf 𝓤 H 𝓜 (tables 𝓤 H 𝓜 𝓡 code.env))
     (cited 𝓤 H (Reader 𝓤 H (𝓖 .A) (𝓜 .mem) (𝓡 .run)) 𝓜 𝓡 code.env #fields·reader reader-def.routine code.calls-fields·reader (reader-thm.met 𝓤 H 𝓜 𝓖 𝓡))
     (cited 𝓤 H (Takes.Taking u32 FieldRead 𝓤 H (𝓖 .A)) 𝓜 𝓡 code.env #fields·FieldReader·take take-def.routine code.calls-fields·FieldReader·take (take-thm.met 𝓤 H 𝓜 𝓖 𝓡)))
