@@ -14,12 +14,15 @@ use Rattle.answer.proofs.Laws.{kept, given}
 use Rattle.octets.specs.Bits.{digitsOf, valueOf, bitsOf, octetsOf, part, laid}
 use Rattle.octets.proofs.Digits.{Bits, digits-value, take-bits, drop-bits}
 use Rattle.octets.proofs.Laws.{bits-length, bits-bits, laid-end}
-use Rattle.octets.proofs.Fields.{part-part}
+use Rattle.octets.specs.Promises.{behindOf}
+use Rattle.fields.specs.declared.TakenPair.{TakenPair}
+use Rattle.fields.specs.Promises.{PairTaken, signedFrom, behindAll}
+use Rattle.fields.proofs.Laws.{behind-all-is, signed-from}
 use Rattle.remainder.specs.Division.{polynomial, generator}
 use Rattle.remainder.specs.Promises.{CheckBits}
 use Rattle.remainder.proofs.Division.{computed}
 use Rattle.remainder.proofs.Errors.{generator-degree}
-use Rattle.layout.specs.Places.{check, coefficients, wordA, wordB, vendor}
+use Rattle.layout.specs.Places.{check, wordA, wordB, vendor, pad}
 use Rattle.layout.specs.Frame.{trainingSync, finalSync, fieldOf, messageOf, checkOf, coefficientsOf}
 use Rattle.layout.specs.Refusals.{hasSync, readRefusals}
 use Rattle.layout.proofs.Laws.{training-value, final-value}
@@ -72,19 +75,36 @@ checks-is f r c t l d e g =
     ap₂ eqb (check-number f c t l e g)
     (computed 16 generator (lit≤ tt) generator-degree (messageOf B) r (take-bits 4197 (drop 14 B) (drop-bits 14 B (bits-bits f))) d)
 
--- ---- coefficients
+-- ---- pad
 
--- coefficient k in the frame, and in the coefficients' field
-pub coefficient-place : (B : List ℕ) (k : ℕ) → k < 180 → part (14 + 22 * k) 22 B ≡ part (22 * k) 22 (fieldOf coefficients B)
-coefficient-place B k h = sym (part-part B (22 * k) 22 14 3960 (14 + 22 * k) (omega arith) refl)
+module _ (B : List ℕ) (n : ℕ) (e : n ≡ valueOf (part 4227 5 B)) where
+  pub pad-not : (n ≡ 0 → ⊥) → eqb (valueOf (fieldOf pad B)) 0 ≡ false
+  pad-not h = ne-eqb (valueOf (fieldOf pad B)) 0 (λ f. h (e ∙ f))
+
+  pub pad-is : n ≡ 0 → eqb (valueOf (fieldOf pad B)) 0 ≡ true
+  pad-is h = eq-eqb (valueOf (fieldOf pad B)) 0 (sym e ∙ h)
+
+-- ---- the walk of a training frame: coefficients from behind sync on, A and B behind those
+
+module _ (f : List ℕ) (at n : ℕ) (e : at ≡ 14) (l : n ≡ 180) where
+  pub coefficients-read : signedFrom f at 22 n ≡ coefficientsOf (bitsOf f)
+  coefficients-read = ap₂ (λ (i k : ℕ). signedFrom f i 22 k) e l ∙ signed-from 22 (lit≤ tt) f 14 3960 (lit≤ tt) 180 0 (lit≤ tt)
+
+  pub words-at : behindAll at 22 n ≡ 3974
+  words-at = ap₂ (λ (i k : ℕ). behindAll i 22 k) e l ∙ behind-all-is 22 (lit≤ tt) 180 14 (lit≤ tt)
+
+pub words-read : (f : List ℕ) (at : ℕ) (w : TakenPair) → at ≡ 3974 → PairTaken f at 21 21 w
+    → w ≡ record { first = valueOf (fieldOf wordA (bitsOf f)); second = valueOf (fieldOf wordB (bitsOf f)); next = 4016 }
+words-read f at w e p =
+    p ∙ ap (λ (i : ℕ). record { first = valueOf (part i 21 (bitsOf f)); second = valueOf (part (behindOf i 21) 21 (bitsOf f)); next = behindOf (behindOf i 21) 21 }) e
 
 -- ---- vendor data
 
-pub vendor-read : (f v v′ : List ℕ) → length f ≡ 529 → length v ≡ 16 → v′ ≡ laid v 0 (part 4016 128 (bitsOf f)) → v′ ≡ octetsOf 16 (fieldOf vendor (bitsOf f))
-vendor-read f v v′ l lv e =
+pub vendor-read : (f v v′ : List ℕ) (at : ℕ) → length f ≡ 529 → length v ≡ 16 → at ≡ 4016 → v′ ≡ laid v 0 (part at 128 (bitsOf f)) → v′ ≡ octetsOf 16 (fieldOf vendor (bitsOf f))
+vendor-read f v v′ at l lv h e =
     let D = part 4016 128 (bitsOf f) in
     let n : length D ≡ 128 = length-take-le 128 (drop 4016 (bitsOf f)) (omega (arith, length-drop 4016 (bitsOf f), bits-length f)) in
-    e ∙ laid-end v 0 D (omega arith) ∙ ap (λ (k : ℕ). octetsOf k D) lv
+    e ∙ ap (λ (i : ℕ). laid v 0 (part i 128 (bitsOf f))) h ∙ laid-end v 0 D (omega arith) ∙ ap (λ (k : ℕ). octetsOf k D) lv
 
 -- ---- what reading promises, by cases
 
