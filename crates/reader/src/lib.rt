@@ -43,18 +43,23 @@ fn wrong(frame: &[u8]) -> u32
     requires { ⌜ length (now frame) ≡ 529 ⌝ }
     ensures { λ r. ⌜ r ≡ answer (bitRefusals (bitsOf (now (frame .entry)))) ⌝ }
 {
-    let sync = fields::single(frame, 0, layout::SYNC_BITS);
-    if !known(sync.value) {
+    let sync = fields::single(frame, 0, layout::SYNC_BITS).value;
+    if !known(sync) {
         return answer::SYNC;
     }
-    let end = fields::pair(frame, layout::CHECK_AT, layout::CHECK_BITS, layout::PAD_BITS);
+    let end = fields::pair(
+        frame,
+        layout::CHECK_AT,
+        layout::CHECK_BITS,
+        layout::PAD_BITS,
+    );
     if end.second != 0 {
         return answer::PAD;
     }
     if !checks(frame, end.first) {
         return answer::CHECK;
     }
-    if sync.value == layout::TRAINING_SYNC {
+    if sync == layout::TRAINING_SYNC {
         if !octets::is_clear(frame, layout::RESERVED_AT, layout::RESERVED_BITS) {
             return answer::RESERVED;
         }
@@ -103,12 +108,7 @@ pub fn read(frame: &[u8], coefficients: &mut [i32], vendor: &mut [u8]) -> Found
     }
     let sync = fields::single(frame, 0, layout::SYNC_BITS);
     if sync.value == layout::TRAINING_SYNC {
-        let at = fields::fill_signed(
-            frame,
-            sync.next,
-            layout::COEFFICIENT_BITS,
-            coefficients,
-        );
+        let at = fields::fill_signed(frame, sync.next, layout::COEFFICIENT_BITS, coefficients);
         let words = fields::pair(frame, at, layout::WORD_BITS, layout::WORD_BITS);
         octets::copy(vendor, 0, frame, words.next, layout::VENDOR_BITS);
         return Found {

@@ -1,13 +1,10 @@
 -- `reader::read` meets its contract.
 use borrow.Author.Needs.{needs}
 use borrow.Author.Tests.{eq-eqb, ne-eqb}
-use mathlib.Core.Path.{_≡_, refl, sym, ap, _∙_}
+use mathlib.Core.Path.{refl, sym, ap, _∙_}
 use native.Mathlib.Omega.{arith}
-use lib.ListN.{length}
-use Rattle.octets.specs.Bits.{bitsOf}
-use Rattle.fields.specs.declared.Taken.{Taken}
 use Rattle.fields.specs.declared.TakenPair.{TakenPair}
-use Rattle.reader.proofs.Laws.{refusing, training-read, final-read, training-is, training-not, coefficients-read, words-at, words-read, vendor-read}
+use Rattle.reader.proofs.Laws.{refusing, training-read, final-read, next-is, training-is, training-not, coefficients-read, words-at, words-read, vendor-read}
 use Rattle.reader.proofs.read.Statement.{statement}
 use Rattle.reader.proofs.read.Tie as tie
 
@@ -65,14 +62,14 @@ returns-5 c =
     let k = c .before .before .before .before .before .before .fill-signed in
     let w = c .before .before .before .before .pair in
     let y = c .before .before .copy in
-    let next : s .result .next ≡ 14 = ap (λ (t : Taken). t .next) (s .ensures) in
-    let words = words-read (a .frame .now) (k .result) (w .result) (k .ensures .1 ∙ words-at (a .frame .now) (s .result .next) (length (a .coefficients .now)) next (c .before .before .before .before .before .before .before .before .before .before .before .before .before .before .if2 .left)) (w .ensures) in
+    let next = next-is (a .frame .now) (s .result) (s .ensures) in
+    let words = words-read (a .frame .now) (k .result) (w .result) (words-at (a .frame .now) (s .result .next) (a .coefficients .now) (k .last .1 .1 .1 .0) (k .result) next (c .before .before .before .before .before .before .before .before .before .before .before .before .before .before .if2 .left) (k .ensures)) (w .ensures) in
     training-read (a .frame .now) (a .coefficients .now) (a .vendor .now)
     (simp (eq-eqb _ _ (c .before .before .before .before .before .before .before .before .before .before .before .before .before .before .before .if1 .left), eq-eqb _ _ (c .before .before .before .before .before .before .before .before .before .before .before .before .before .before .if2 .left), eq-eqb _ _ (c .before .before .before .before .before .before .before .before .before .before .before .before .before .if3 .left)) (sym (c .before .before .before .before .before .before .before .before .before .before .before .before .wrong .ensures) ∙ c .before .before .before .before .before .before .before .before .before .before .before .if4 .left))
     (w .result .first) (w .result .second) (k .last .1 .1 .1 .0) (y .last .0)
-    (training-is (bitsOf (a .frame .now)) (s .result .value) (ap (λ (t : Taken). t .value) (s .ensures)) (c .before .before .before .before .before .before .before .before .if5 .taken))
+    (training-is (a .frame .now) (s .result) (s .ensures) (c .before .before .before .before .before .before .before .before .if5 .taken))
     (ap (λ (t : TakenPair). t .first) words) (ap (λ (t : TakenPair). t .second) words)
-    (k .ensures .0 ∙ coefficients-read (a .frame .now) (s .result .next) (length (a .coefficients .now)) next (c .before .before .before .before .before .before .before .before .before .before .before .before .before .before .if2 .left))
+    (coefficients-read (a .frame .now) (s .result .next) (a .coefficients .now) (k .last .1 .1 .1 .0) (k .result) next (c .before .before .before .before .before .before .before .before .before .before .before .before .before .before .if2 .left) (k .ensures))
     (vendor-read (a .frame .now) (a .vendor .now) (y .last .0) (w .result .next) (c .before .before .before .before .before .before .before .before .before .before .before .before .before .before .before .if1 .left) (c .before .before .before .before .before .before .before .before .before .before .before .before .before .if3 .left) (ap (λ (t : TakenPair). t .next) words) (y .ensures))
 
 copy-requires-2 : tie.Need-copy-requires-2
@@ -88,7 +85,7 @@ returns-6 c =
     let y = c .before .before .copy2 in
     final-read (a .frame .now) (a .coefficients .now) (a .vendor .now)
     (simp (eq-eqb _ _ (c .before .before .before .before .before .before .before .before .before .before .before .if1 .left), eq-eqb _ _ (c .before .before .before .before .before .before .before .before .before .before .if2 .left), eq-eqb _ _ (c .before .before .before .before .before .before .before .before .before .if3 .left)) (sym (c .before .before .before .before .before .before .before .before .wrong .ensures) ∙ c .before .before .before .before .before .before .before .if4 .left))
-    (y .last .0) (training-not (bitsOf (a .frame .now)) (s .result .value) (ap (λ (t : Taken). t .value) (s .ensures)) (c .before .before .before .before .if5 .left))
+    (y .last .0) (training-not (a .frame .now) (s .result) (s .ensures) (c .before .before .before .before .if5 .left))
     (vendor-read (a .frame .now) (a .vendor .now) (y .last .0) 4016 (c .before .before .before .before .before .before .before .before .before .before .before .if1 .left) (c .before .before .before .before .before .before .before .before .before .if3 .left) refl (y .ensures))
 
 pub read-spec : {M : Type 1} → statement M
