@@ -4,10 +4,14 @@
 // A frame's octets.
 pub const FRAME_OCTETS: usize = 529;
 
-// Coefficients in a frame, and the bits of one.
+// Coefficients in a frame, the bits of one, as a width and from place to place, and those of all.
 pub const COEFFICIENTS: usize = 180;
 
 pub const COEFFICIENT_BITS: u32 = 22;
+
+pub const COEFFICIENT_STEP: usize = COEFFICIENT_BITS as usize;
+
+pub const COEFFICIENTS_BITS: u32 = (COEFFICIENTS as u32) * COEFFICIENT_BITS;
 
 // The bits of sync, of A or B, of vendor data, of the reserved field, of the check bits and of the pad.
 pub const SYNC_BITS: u32 = 14;
@@ -26,22 +30,22 @@ pub const PAD_BITS: u32 = 5;
 pub const VENDOR_OCTETS: usize = 16;
 
 // The fields' places, from 0.
-pub const COEFFICIENTS_AT: usize = 14;
+pub const COEFFICIENTS_AT: usize = SYNC_BITS as usize;
 
-pub const A_AT: usize = COEFFICIENTS_AT + 180 * 22;
+pub const A_AT: usize = COEFFICIENTS_AT + COEFFICIENTS * COEFFICIENT_STEP;
 
-pub const B_AT: usize = A_AT + 21;
+pub const B_AT: usize = A_AT + (WORD_BITS as usize);
 
-pub const VENDOR_AT: usize = B_AT + 21;
+pub const VENDOR_AT: usize = B_AT + (WORD_BITS as usize);
 
-pub const RESERVED_AT: usize = VENDOR_AT + 128;
+pub const RESERVED_AT: usize = VENDOR_AT + (VENDOR_BITS as usize);
 
-pub const CHECK_AT: usize = RESERVED_AT + 67;
+pub const CHECK_AT: usize = RESERVED_AT + (RESERVED_BITS as usize);
 
-pub const PAD_AT: usize = CHECK_AT + 16;
+pub const PAD_AT: usize = CHECK_AT + (CHECK_BITS as usize);
 
 // The bits under the check bits: 15 to 4211 of the paper.
-pub const MESSAGE_BITS: u32 = 4197;
+pub const MESSAGE_BITS: u32 = (CHECK_AT - COEFFICIENTS_AT) as u32;
 
 // The two sync words, the first bit lowest.
 pub const TRAINING_SYNC: u32 = 0x359f;

@@ -11,7 +11,7 @@ ghost use Rattle.scrambler.specs.Run.{scramble, descramble, outOf, nextO
 ghost use Rattle.scrambler.specs.Promises.{StartPromise, stepRefusals, StepPromise, runRefusals, RunPromise, frameRefusals, FramePromise};
 
 // The bits of a frame that clock the state: all but sync and pad.
-const CLOCKED: usize = 4213;
+const CLOCKED: usize = layout::PAD_AT - layout::COEFFICIENTS_AT;
 
 // An end's scrambler: the end, and the last 23 scrambled bits, the newest at weight 1.
 pub struct Scrambler {

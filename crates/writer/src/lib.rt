@@ -53,7 +53,7 @@ fn put_coefficients(frame: &mut [u8], coefficients: &[i32], count: usize)
         let c = coefficient(coefficients, count, k);
         octets::put_signed_field(
             frame,
-            layout::COEFFICIENTS_AT + 22 * k,
+            layout::COEFFICIENTS_AT + layout::COEFFICIENT_STEP * k,
             layout::COEFFICIENT_BITS,
             c,
         );
@@ -92,7 +92,7 @@ fn put_final(frame: &mut [u8], vendor: &[u8])
     ensures { λ r. ⌜ now (frame .exit) ≡ octetsOf 529 (finalBits (now (vendor .entry))) ⌝ }
 {
     octets::put_field(frame, 0, layout::SYNC_BITS, layout::FINAL_SYNC);
-    octets::clear(frame, layout::COEFFICIENTS_AT, 3960);
+    octets::clear(frame, layout::COEFFICIENTS_AT, layout::COEFFICIENTS_BITS);
     finish(frame, 0, 0, vendor);
 }
 
