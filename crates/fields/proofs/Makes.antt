@@ -2,7 +2,7 @@
 --     goes     from 'a's token and what the frame owns: what `reader` asks, and what the frame owns again, since a `&[u8]` is Copy
 --     comes    from what `reader` gives: the machine value of the reader at the frame and the place, what it owns, and the token
 -- Assumes nothing.
-use mathlib.Core.Path.{_≡_, refl, sym, ap, subst}
+use mathlib.Core.Path.{_≡_, refl, ap}
 use Prim.Native.Nat.{ℕ, _<_, _^_}
 use mathlib.Core.List.{List, [], _∷_}
 use lib.Dec.{T as Holds}
@@ -23,7 +23,7 @@ use denote.RattleType.{RattleType}
 use denote.Laws.{Is, shows}
 use denote.Plain.{uint-makes}
 use denote.Builtin.{u8, usize}
-use denote.Ref.{RefT, NamedLft, now}
+use denote.Ref.{RefT, now}
 use denote.Slice.{sliceVal, ShrSlice, shr-slice-copy}
 use denote.Steps.{only, nothing, owned, heard, peeks}
 use denote.Struct.Laws as LL

@@ -3,6 +3,7 @@
 // done by the slice-and-place functions of octets.
 ghost use Rattle.fields.specs.Promises.{Made, FieldTaken, SignedTaken, SingleTaken, PairTaken, SignedFilled};
 
+// The lent frame, and the place of the next field.
 pub struct FieldReader<'a> {
     pub frame: &'a [u8],
     pub at: usize,

@@ -29,7 +29,7 @@ use ghost.Atoms.{Atoms}
 use contract.Monad.{Fun}
 use contract.Running.{givenOf, tables, tablesOf}
 use sound.Loop.{loop-rule}
-use sound.WpLaws.{FmC, fmOf, WpFn-mono}
+use sound.WpLaws.{fmOf, WpFn-mono}
 use types.Kit.{Given, Item, ‵, raw, _⊛_, given, ⋆, some, later, anyQ, atRet, _$_, _∵_, !, qed, by, move, keep, drop, use1, use2, use3, split, split3, join, learn, pick, rewrite, fsplit, fjoin, suffices, frame, await, done}
 use types.Part.{whole, sub, look-in}
 use types.Run.{look, init, store, forget, stop, hop, fld, from, load, lit, addr, of-opd, bin, and-then, no-more, assigns, assigns-last, land, stays, leaves-loop, returns, enter, alloc1, alloc0, params1, pass1, pass0, free1, free0, exec}
@@ -55,7 +55,7 @@ use denote.Triple.Walked.{says, Stays, stay-none, stay-none-slice, stay-slice, w
 use denote.Exit.{yes}
 use Rattle.octets.specs.Promises.{SignedRead, behindOf}
 use Rattle.fields.specs.declared.FieldReader.{FieldReader}
-use Rattle.fields.specs.Promises.{past, signedFrom, behindAll}
+use Rattle.fields.specs.Promises.{signedFrom, behindAll}
 use Rattle.fields.proofs.FieldReader as T
 use Rattle.fields.proofs.FieldReader.Laws as T′
 use Rattle.fields.proofs.Lent.{Cell, Own, Kept}
