@@ -4,7 +4,7 @@
 // A frame's octets.
 pub const FRAME_OCTETS: usize = 529;
 
-// Coefficients in a frame, and the bits of one.
+// Coefficients in a frame, the bits of one, as a width and from place to place, and those of all.
 pub const COEFFICIENTS: usize = 180;
 
 pub const COEFFICIENT_BITS: u32 = 22;

@@ -4,10 +4,7 @@ use mathlib.Core.Bool.{Bool}
 use mathlib.Core.List.{List}
 use Prim.Native.Nat.{ℕ}
 use lib.IntN.{ℤ}
-use Rattle.octets.specs.declared.Place.{Place}
-use Rattle.octets.specs.declared.Taken.{Taken}
-use Rattle.octets.specs.declared.SignedTaken.{SignedTaken}
-use Rattle.octets.specs.Promises.{BitRead, BitPut, HasBit, FieldRead, FieldPut, SignedRead, SignedPut, Turned, Copied, Cleared, IsClear, IsStart, FieldTaken, SignedFieldTaken}
+use Rattle.octets.specs.Promises.{BitRead, BitPut, HasBit, FieldRead, FieldPut, SignedRead, SignedPut, Turned, Copied, Cleared, IsClear, Behind}
 
 both : {A : Type 0} {x y z : A} → x ≡ z → y ≡ z → x ≡ y
 both p q = p ∙ sym q
@@ -45,11 +42,5 @@ clear-one s at n t t′ p q = both p q
 pub is-clear-one : (s : List ℕ) (at n : ℕ) (r r′ : Bool) → IsClear s at n r → IsClear s at n r′ → r ≡ r′
 is-clear-one s at n r r′ p q = both p q
 
-pub start-one : (r r′ : Place) → IsStart r → IsStart r′ → r ≡ r′
-start-one r r′ p q = both p q
-
-pub take-one : (s : List ℕ) (p : Place) (w : ℕ) (r r′ : Taken) → FieldTaken s p w r → FieldTaken s p w r′ → r ≡ r′
-take-one s p w r r′ a b = both a b
-
-pub take-signed-one : (s : List ℕ) (p : Place) (w : ℕ) (r r′ : SignedTaken) → SignedFieldTaken s p w r → SignedFieldTaken s p w r′ → r ≡ r′
-take-signed-one s p w r r′ a b = both a b
+pub behind-one : (at w r r′ : ℕ) → Behind at w r → Behind at w r′ → r ≡ r′
+behind-one at w r r′ p q = both p q

@@ -8,9 +8,6 @@ use lib.IntN.{ℤ}
 use lib.ListN.{length, replicate}
 use Rattle.octets.specs.Bits.{digitsOf, valueOf, bitsOf, bitOf, part, laid}
 use Rattle.octets.specs.Signed.{signedOf, twosOf}
-use Rattle.octets.specs.declared.Place.{Place}
-use Rattle.octets.specs.declared.Taken.{Taken}
-use Rattle.octets.specs.declared.SignedTaken.{SignedTaken}
 
 -- bit
 abbrev pub BitRead : List ℕ → ℕ → ℕ → ℕ → Type 0
@@ -56,23 +53,10 @@ Cleared s at n exit = exit ≡ laid s at (replicate n 0)
 abbrev pub IsClear : List ℕ → ℕ → ℕ → Bool → Type 0
 IsClear s at n r = r ≡ eqb (valueOf (part at n (bitsOf s))) 0
 
--- Place::start
-abbrev pub IsStart : Place → Type 0
-IsStart r = r ≡ record { at = 0 }
-
 -- the place behind a field of w bits; the last place that a number can name where there is none
 abbrev pub behindOf : ℕ → ℕ → ℕ
 behindOf at w = min (at + min w 32) (2 ^ 64 - 1)
 
--- Place::take
-abbrev pub FieldTaken : List ℕ → Place → ℕ → Taken → Type 0
-FieldTaken s p w r =
-    r ≡ record { value = valueOf (part (p .at) (min w 32) (bitsOf s)); next = record { at = behindOf (p .at) w } }
-
--- Place::take_signed
-abbrev pub SignedFieldTaken : List ℕ → Place → ℕ → SignedTaken → Type 0
-SignedFieldTaken s p w r =
-    r ≡ record {
-      value = signedOf (min w 32) (valueOf (part (p .at) (min w 32) (bitsOf s)));
-      next = record { at = behindOf (p .at) w };
-    }
+-- behind
+abbrev pub Behind : ℕ → ℕ → ℕ → Type 0
+Behind at w r = r ≡ behindOf at w

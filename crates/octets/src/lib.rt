@@ -4,7 +4,7 @@
 ghost use mathlib.Core.Path.{_≡_};
 ghost use Prim.Native.Nat.{_^_, _<_, _≤_, min};
 ghost use Rattle.octets.specs.Signed.{signedOf, twosOf};
-ghost use Rattle.octets.specs.Promises.{BitRead, BitPut, HasBit, FieldRead, FieldPut, SignedRead, SignedPut, Turned, Copied, Cleared, IsClear, IsStart, behindOf, FieldTaken, SignedFieldTaken};
+ghost use Rattle.octets.specs.Promises.{BitRead, BitPut, HasBit, FieldRead, FieldPut, SignedRead, SignedPut, Turned, Copied, Cleared, IsClear, Behind};
 
 // The widest field.
 const WIDEST: u32 = 32;
@@ -175,64 +175,10 @@ pub fn is_clear(s: &[u8], at: usize, n: u32) -> bool
     true
 }
 
-// The field reader: the place of the next field, beside the slice that it walks.
-pub struct Place {
-    pub at: usize,
-}
-
-// A field and the place behind it.
-pub struct Taken {
-    pub value: u32,
-    pub next: Place,
-}
-
-// A field in two's complement and the place behind it.
-pub struct SignedTaken {
-    pub value: i32,
-    pub next: Place,
-}
-
-impl Place {
-    // The first place.
-    pub fn start() -> Place
-        ensures { λ r. ⌜ IsStart r ⌝ }
-    {
-        Place { at: 0 }
-    }
-
-    // The place w bits behind; the last one where there is none.
-    fn behind(self, w: u32) -> Place
-        ensures { λ r. ⌜ r .at ≡ behindOf (self .at) w ⌝ }
-    {
-        let n = width(w) as usize;
-        if LAST - n < self.at {
-            Place { at: LAST }
-        } else {
-            Place { at: self.at + n }
-        }
-    }
-
-    // The field of w bits at the place.
-    pub fn take(self, s: &[u8], w: u32) -> Taken
-        ensures { λ r. ⌜ FieldTaken (now (s .entry)) self w r ⌝ }
-    {
-        let at = self.at;
-        let next = self.behind(w);
-        Taken {
-            value: field(s, at, w),
-            next,
-        }
-    }
-
-    // The field of w bits at the place, in two's complement.
-    pub fn take_signed(self, s: &[u8], w: u32) -> SignedTaken
-        ensures { λ r. ⌜ SignedFieldTaken (now (s .entry)) self w r ⌝ }
-    {
-        let at = self.at;
-        let next = self.behind(w);
-        SignedTaken {
-            value: signed_field(s, at, w),
-            next,
-        }
-    }
+// The place behind a field of w bits at place `at`; the last one where there is none.
+pub fn behind(at: usize, w: u32) -> usize
+    ensures { λ r. ⌜ Behind at w r ⌝ }
+{
+    let n = width(w) as usize;
+    if LAST - n < at { LAST } else { at + n }
 }

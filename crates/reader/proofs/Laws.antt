@@ -1,25 +1,29 @@
 -- Laws of checking and reading a frame. Assumes nothing.
-use mathlib.Core.Path.{_≡_, refl, sym, ap, ap₂, _∙_, subst}
+use mathlib.Core.Path.{_≡_, refl, sym, ap, ap₂, _∙_}
 use mathlib.Core.Bool.{Bool, true, false, cond, _||_}
-use mathlib.Core.List.{List, [], _∷_, _++_, reverse}
-use Prim.Native.Nat.{ℕ, zero, suc, _+_, _-_, _*_, _^_, _≤_, _<_}
+use mathlib.Core.List.{List, reverse}
+use Prim.Native.Nat.{ℕ, zero, suc}
 use native.Mathlib.Omega.{arith}
 use borrow.Author.Tests.{eq-eqb, ne-eqb}
 use lib.Dec.{eqb, lit≤}
-use lib.IntN.{ℤ, pos}
+use lib.IntN.{ℤ}
 use lib.ListN.{length, drop, length-drop}
 use lib.Seq.{length-take-le}
-use Rattle.answer.specs.Answer.{answer, held}
+use Rattle.answer.specs.Answer.{answer}
 use Rattle.answer.proofs.Laws.{kept, given}
 use Rattle.octets.specs.Bits.{digitsOf, valueOf, bitsOf, octetsOf, part, laid}
-use Rattle.octets.proofs.Digits.{Bits, digits-value, take-bits, drop-bits}
+use Rattle.octets.proofs.Digits.{digits-value, take-bits, drop-bits}
 use Rattle.octets.proofs.Laws.{bits-length, bits-bits, laid-end}
-use Rattle.octets.proofs.Fields.{part-part}
+use Rattle.octets.specs.Promises.{behindOf}
+use Rattle.fields.specs.declared.Taken.{Taken}
+use Rattle.fields.specs.declared.TakenPair.{TakenPair}
+use Rattle.fields.specs.Promises.{SingleTaken, PairTaken, SignedFilled, signedFrom, behindAll}
+use Rattle.fields.proofs.Laws.{behind-all-is, signed-from}
 use Rattle.remainder.specs.Division.{polynomial, generator}
 use Rattle.remainder.specs.Promises.{CheckBits}
 use Rattle.remainder.proofs.Division.{computed}
 use Rattle.remainder.proofs.Errors.{generator-degree}
-use Rattle.layout.specs.Places.{check, coefficients, wordA, wordB, vendor}
+use Rattle.layout.specs.Places.{check, wordA, wordB, vendor, pad}
 use Rattle.layout.specs.Frame.{trainingSync, finalSync, fieldOf, messageOf, checkOf, coefficientsOf}
 use Rattle.layout.specs.Refusals.{hasSync, readRefusals}
 use Rattle.layout.proofs.Laws.{training-value, final-value}
@@ -42,15 +46,23 @@ other-known s h = ap (eqb s) (sym training-value) ∙ pick (eqb s (valueOf train
     pick true = refl
     pick false = refl
 
-module _ (B : List ℕ) (s : ℕ) (e : s ≡ valueOf (part 0 14 B)) where
-  pub known-is : (t : Bool) → t ≡ (eqb s (valueOf trainingSync) || eqb s (valueOf finalSync)) → (hasSync trainingSync B || hasSync finalSync B) ≡ t
-  known-is t k = sym (k ∙ ap (λ (n : ℕ). eqb n (valueOf trainingSync) || eqb n (valueOf finalSync)) e)
+-- sync, as the first field of a frame
+module _ (f : List ℕ) (t : Taken) (e : SingleTaken f 0 14 t) where
+  value-is : t .value ≡ valueOf (part 0 14 (bitsOf f))
+  value-is = ap (λ (x : Taken). x .value) e
 
-  pub training-is : s ≡ 0x359f → hasSync trainingSync B ≡ true
-  training-is h = eq-eqb (valueOf (part 0 14 B)) (valueOf trainingSync) (sym e ∙ h ∙ sym training-value)
+  pub next-is : t .next ≡ 14
+  next-is = ap (λ (x : Taken). x .next) e
 
-  pub training-not : (s ≡ 0x359f → ⊥) → hasSync trainingSync B ≡ false
-  training-not h = ne-eqb (valueOf (part 0 14 B)) (valueOf trainingSync) (λ f. h (e ∙ f ∙ training-value))
+  pub known-is : (k : Bool) → k ≡ (eqb (t .value) (valueOf trainingSync) || eqb (t .value) (valueOf finalSync))
+      → (hasSync trainingSync (bitsOf f) || hasSync finalSync (bitsOf f)) ≡ k
+  known-is k h = sym (h ∙ ap (λ (n : ℕ). eqb n (valueOf trainingSync) || eqb n (valueOf finalSync)) value-is)
+
+  pub training-is : t .value ≡ 0x359f → hasSync trainingSync (bitsOf f) ≡ true
+  training-is h = eq-eqb (valueOf (part 0 14 (bitsOf f))) (valueOf trainingSync) (sym value-is ∙ h ∙ sym training-value)
+
+  pub training-not : (t .value ≡ 0x359f → ⊥) → hasSync trainingSync (bitsOf f) ≡ false
+  training-not h = ne-eqb (valueOf (part 0 14 (bitsOf f))) (valueOf trainingSync) (λ g. h (value-is ∙ g ∙ training-value))
 
 -- ---- check bits
 
@@ -72,19 +84,39 @@ checks-is f r c t l d e g =
     ap₂ eqb (check-number f c t l e g)
     (computed 16 generator (lit≤ tt) generator-degree (messageOf B) r (take-bits 4197 (drop 14 B) (drop-bits 14 B (bits-bits f))) d)
 
--- ---- coefficients
+-- ---- check bits and pad, as the last two fields of a frame
 
--- coefficient k in the frame, and in the coefficients' field
-pub coefficient-place : (B : List ℕ) (k : ℕ) → k < 180 → part (14 + 22 * k) 22 B ≡ part (22 * k) 22 (fieldOf coefficients B)
-coefficient-place B k h = sym (part-part B (22 * k) 22 14 3960 (14 + 22 * k) (omega arith) refl)
+module _ (f : List ℕ) (t : TakenPair) (e : PairTaken f 4211 16 5 t) where
+  pub check-is : t .first ≡ valueOf (fieldOf check (bitsOf f))
+  check-is = ap (λ (x : TakenPair). x .first) e
+
+  pub pad-not : (t .second ≡ 0 → ⊥) → eqb (valueOf (fieldOf pad (bitsOf f))) 0 ≡ false
+  pad-not h = ne-eqb (valueOf (fieldOf pad (bitsOf f))) 0 (λ g. h (ap (λ (x : TakenPair). x .second) e ∙ g))
+
+  pub pad-is : t .second ≡ 0 → eqb (valueOf (fieldOf pad (bitsOf f))) 0 ≡ true
+  pad-is h = eq-eqb (valueOf (fieldOf pad (bitsOf f))) 0 (sym (ap (λ (x : TakenPair). x .second) e) ∙ h)
+
+-- ---- the walk of a training frame: coefficients from behind sync on, A and B behind those
+
+module _ (f : List ℕ) (at : ℕ) (cs ds : List ℤ) (r : ℕ) (e : at ≡ 14) (l : length cs ≡ 180) (p : SignedFilled f at 22 cs ds r) where
+  pub coefficients-read : ds ≡ coefficientsOf (bitsOf f)
+  coefficients-read = p .0 ∙ ap₂ (λ (i k : ℕ). signedFrom f i 22 k) e l ∙ signed-from 22 (lit≤ tt) f 14 3960 (lit≤ tt) 180 0 (lit≤ tt)
+
+  pub words-at : r ≡ 3974
+  words-at = p .1 ∙ ap₂ (λ (i k : ℕ). behindAll i 22 k) e l ∙ behind-all-is 22 (lit≤ tt) 180 14 (lit≤ tt)
+
+pub words-read : (f : List ℕ) (at : ℕ) (w : TakenPair) → at ≡ 3974 → PairTaken f at 21 21 w
+    → w ≡ record { first = valueOf (fieldOf wordA (bitsOf f)); second = valueOf (fieldOf wordB (bitsOf f)); next = 4016 }
+words-read f at w e p =
+    p ∙ ap (λ (i : ℕ). record { first = valueOf (part i 21 (bitsOf f)); second = valueOf (part (behindOf i 21) 21 (bitsOf f)); next = behindOf (behindOf i 21) 21 }) e
 
 -- ---- vendor data
 
-pub vendor-read : (f v v′ : List ℕ) → length f ≡ 529 → length v ≡ 16 → v′ ≡ laid v 0 (part 4016 128 (bitsOf f)) → v′ ≡ octetsOf 16 (fieldOf vendor (bitsOf f))
-vendor-read f v v′ l lv e =
+pub vendor-read : (f v v′ : List ℕ) (at : ℕ) → length f ≡ 529 → length v ≡ 16 → at ≡ 4016 → v′ ≡ laid v 0 (part at 128 (bitsOf f)) → v′ ≡ octetsOf 16 (fieldOf vendor (bitsOf f))
+vendor-read f v v′ at l lv h e =
     let D = part 4016 128 (bitsOf f) in
     let n : length D ≡ 128 = length-take-le 128 (drop 4016 (bitsOf f)) (omega (arith, length-drop 4016 (bitsOf f), bits-length f)) in
-    e ∙ laid-end v 0 D (omega arith) ∙ ap (λ (k : ℕ). octetsOf k D) lv
+    e ∙ ap (λ (i : ℕ). laid v 0 (part i 128 (bitsOf f))) h ∙ laid-end v 0 D (omega arith) ∙ ap (λ (k : ℕ). octetsOf k D) lv
 
 -- ---- what reading promises, by cases
 

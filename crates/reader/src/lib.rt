@@ -7,7 +7,7 @@ ghost use Rattle.octets.specs.Bits.{valueOf, bitsOf};
 ghost use Rattle.remainder.specs.Division.{polynomial};
 ghost use lib.Dec.{eqb};
 ghost use Rattle.layout.specs.Places.{check};
-ghost use Rattle.layout.specs.Frame.{trainingSync, finalSync, fieldOf, messageOf, checkOf, coefficientsOf};
+ghost use Rattle.layout.specs.Frame.{trainingSync, finalSync, fieldOf, messageOf, checkOf};
 ghost use Rattle.layout.specs.Refusals.{bitRefusals};
 ghost use Rattle.reader.specs.Promises.{Checked, Read};
 
@@ -29,13 +29,12 @@ fn known(sync: u32) -> bool
     sync == layout::TRAINING_SYNC
 }
 
-// Whether the check bits are those of the message.
-fn checks(frame: &[u8]) -> bool
-    requires { ⌜ length (now frame) ≡ 529 ⌝ }
+// Whether the check bits, as a field, are those of the message.
+fn checks(frame: &[u8], c: u32) -> bool
+    requires { ⌜ (length (now frame) ≡ 529) × (c ≡ valueOf (fieldOf check (bitsOf (now frame)))) ⌝ }
     ensures { λ r. ⌜ r ≡ eqb (polynomial (fieldOf check (bitsOf (now (frame .entry))))) (checkOf (messageOf (bitsOf (now (frame .entry))))) ⌝ }
 {
     let r = remainder::check_bits(frame, layout::COEFFICIENTS_AT, layout::MESSAGE_BITS);
-    let c = octets::field(frame, layout::CHECK_AT, layout::CHECK_BITS);
     octets::turned(layout::CHECK_BITS, c) == r
 }
 
@@ -44,14 +43,20 @@ fn wrong(frame: &[u8]) -> u32
     requires { ⌜ length (now frame) ≡ 529 ⌝ }
     ensures { λ r. ⌜ r ≡ answer (bitRefusals (bitsOf (now (frame .entry)))) ⌝ }
 {
-    let sync = octets::field(frame, 0, layout::SYNC_BITS);
+    let sync = fields::single(frame, 0, layout::SYNC_BITS).value;
     if !known(sync) {
         return answer::SYNC;
     }
-    if !octets::is_clear(frame, layout::PAD_AT, layout::PAD_BITS) {
+    let end = fields::pair(
+        frame,
+        layout::CHECK_AT,
+        layout::CHECK_BITS,
+        layout::PAD_BITS,
+    );
+    if end.second != 0 {
         return answer::PAD;
     }
-    if !checks(frame) {
+    if !checks(frame, end.first) {
         return answer::CHECK;
     }
     if sync == layout::TRAINING_SYNC {
@@ -70,22 +75,6 @@ pub fn check(frame: &[u8]) -> u32
         return answer::LENGTH;
     }
     wrong(frame)
-}
-
-// All 180 coefficients.
-fn get_coefficients(frame: &[u8], into: &mut [i32])
-    requires { ⌜ (length (now frame) ≡ 529) × (length (now into) ≡ 180) ⌝ }
-    ensures { λ r. ⌜ now (into .exit) ≡ coefficientsOf (bitsOf (now (frame .entry))) ⌝ }
-{
-    let mut k = 0;
-    while k < layout::COEFFICIENTS {
-        into[k] = octets::signed_field(
-            frame,
-            layout::COEFFICIENTS_AT + 22 * k,
-            layout::COEFFICIENT_BITS,
-        );
-        k += 1;
-    }
 }
 
 // A refusal, with 0 for every other number.
@@ -117,16 +106,19 @@ pub fn read(frame: &[u8], coefficients: &mut [i32], vendor: &mut [u8]) -> Found
     if n != 0 {
         return refused(n);
     }
-    octets::copy(vendor, 0, frame, layout::VENDOR_AT, layout::VENDOR_BITS);
-    if octets::field(frame, 0, layout::SYNC_BITS) == layout::TRAINING_SYNC {
-        get_coefficients(frame, coefficients);
+    let sync = fields::single(frame, 0, layout::SYNC_BITS);
+    if sync.value == layout::TRAINING_SYNC {
+        let at = fields::fill_signed(frame, sync.next, layout::COEFFICIENT_BITS, coefficients);
+        let words = fields::pair(frame, at, layout::WORD_BITS, layout::WORD_BITS);
+        octets::copy(vendor, 0, frame, words.next, layout::VENDOR_BITS);
         return Found {
             answer: answer::DONE,
             kind: layout::TRAINING,
-            a: octets::field(frame, layout::A_AT, layout::WORD_BITS),
-            b: octets::field(frame, layout::B_AT, layout::WORD_BITS),
+            a: words.first,
+            b: words.second,
         };
     }
+    octets::copy(vendor, 0, frame, layout::VENDOR_AT, layout::VENDOR_BITS);
     Found {
         answer: answer::DONE,
         kind: layout::FINAL,

@@ -7,18 +7,14 @@ use Rattle.reader.proofs.checks.Tie as tie
 check-bits-requires : tie.Need-check-bits-requires
 check-bits-requires c κs = search needs
 
-field-requires : tie.Need-field-requires
-field-requires c κs = search needs
-
 turned-requires : tie.Need-turned-requires
 turned-requires c κs = search needs
 
 returns : tie.Need-returns
 returns c =
-    let a = c .before .before .before .before .args in
-    let r = c .before .before .check-bits in
-    let f = c .before .field in
-    checks-is (a .frame .now) (r .result) (f .result) (c .turned .result) (c .before .before .before .before .pre) (r .ensures) (f .ensures) (c .turned .ensures)
+    let a = c .before .before .before .args in
+    let r = c .before .check-bits in
+    checks-is (a .frame .now) (r .result) (a .c) (c .turned .result) (c .before .before .before .pre .0) (r .ensures) (c .before .before .before .pre .1) (c .turned .ensures)
 
 pub checks-spec : {M : Type 1} → statement M
-checks-spec = tie.close (tie.spec check-bits-requires field-requires turned-requires returns)
+checks-spec = tie.close (tie.spec check-bits-requires turned-requires returns)

@@ -1,10 +1,10 @@
 -- `reader::read` meets its contract.
 use borrow.Author.Needs.{needs}
 use borrow.Author.Tests.{eq-eqb, ne-eqb}
-use mathlib.Core.Path.{_≡_, sym, _∙_}
+use mathlib.Core.Path.{refl, sym, ap, _∙_}
 use native.Mathlib.Omega.{arith}
-use Rattle.octets.specs.Bits.{bitsOf}
-use Rattle.reader.proofs.Laws.{refusing, training-read, final-read, training-is, training-not, vendor-read}
+use Rattle.fields.specs.declared.TakenPair.{TakenPair}
+use Rattle.reader.proofs.Laws.{refusing, training-read, final-read, next-is, training-is, training-not, coefficients-read, words-at, words-read, vendor-read}
 use Rattle.reader.proofs.read.Statement.{statement}
 use Rattle.reader.proofs.read.Tie as tie
 
@@ -37,20 +37,17 @@ returns-4 c =
     refusing (c .before .before .before .before .before .before .before .before .args .frame .now) (c .before .before .before .before .before .before .before .before .args .coefficients .now) (c .before .before .before .before .before .before .before .before .args .vendor .now) (c .before .before .wrong .result) (c .refused4 .result)
     (c .before .before .wrong .ensures ∙ simp (eq-eqb _ _ (c .before .before .before .before .before .if1 .left), eq-eqb _ _ (c .before .before .before .before .if2 .left), eq-eqb _ _ (c .before .before .before .if3 .left))) (c .before .if4 .taken) (c .refused4 .ensures)
 
+single-requires : tie.Need-single-requires
+single-requires c κs = search needs
+
+fill-signed-requires : tie.Need-fill-signed-requires
+fill-signed-requires c κs = search needs
+
+pair-requires : tie.Need-pair-requires
+pair-requires c κs = search needs
+
 copy-requires : tie.Need-copy-requires
 copy-requires c κs = search needs
-
-field-requires : tie.Need-field-requires
-field-requires c κs = search needs
-
-get-coefficients-requires : tie.Need-get-coefficients-requires
-get-coefficients-requires c κs = search needs
-
-field-requires-2 : tie.Need-field-requires-2
-field-requires-2 c κs = search needs
-
-field-requires-3 : tie.Need-field-requires-3
-field-requires-3 c κs = search needs
 
 same-length : tie.Need-same-length
 same-length c = search needs
@@ -61,24 +58,35 @@ same-length-2 c = search needs
 returns-5 : tie.Need-returns-5
 returns-5 c =
     let a = c .before .before .before .before .before .before .before .before .before .before .before .before .before .before .before .before .before .before .args in
-    let s = c .before .before .before .before .before .before .field in
-    training-read (c .before .before .before .before .before .before .before .before .before .before .before .before .before .before .before .before .before .before .args .frame .now) (c .before .before .before .before .before .before .before .before .before .before .before .before .before .before .before .before .before .before .args .coefficients .now) (c .before .before .before .before .before .before .before .before .before .before .before .before .before .before .before .before .before .before .args .vendor .now)
+    let s = c .before .before .before .before .before .before .before .before .before .before .single in
+    let k = c .before .before .before .before .before .before .fill-signed in
+    let w = c .before .before .before .before .pair in
+    let y = c .before .before .copy in
+    let next = next-is (a .frame .now) (s .result) (s .ensures) in
+    let words = words-read (a .frame .now) (k .result) (w .result) (words-at (a .frame .now) (s .result .next) (a .coefficients .now) (k .last .1 .1 .1 .0) (k .result) next (c .before .before .before .before .before .before .before .before .before .before .before .before .before .before .if2 .left) (k .ensures)) (w .ensures) in
+    training-read (a .frame .now) (a .coefficients .now) (a .vendor .now)
     (simp (eq-eqb _ _ (c .before .before .before .before .before .before .before .before .before .before .before .before .before .before .before .if1 .left), eq-eqb _ _ (c .before .before .before .before .before .before .before .before .before .before .before .before .before .before .if2 .left), eq-eqb _ _ (c .before .before .before .before .before .before .before .before .before .before .before .before .before .if3 .left)) (sym (c .before .before .before .before .before .before .before .before .before .before .before .before .wrong .ensures) ∙ c .before .before .before .before .before .before .before .before .before .before .before .if4 .left))
-    (c .before .field2 .result) (c .field3 .result) (c .before .before .before .get-coefficients .last .1 .0) (c .before .before .before .before .before .before .before .before .before .copy .last .0)
-    (training-is (bitsOf (a .frame .now)) (s .result) (s .ensures) (c .before .before .before .before .before .if5 .taken)) (c .before .field2 .ensures) (c .field3 .ensures) (c .before .before .before .get-coefficients .ensures)
-    (vendor-read (a .frame .now) (a .vendor .now) (c .before .before .before .before .before .before .before .before .before .copy .last .0) (c .before .before .before .before .before .before .before .before .before .before .before .before .before .before .before .if1 .left) (c .before .before .before .before .before .before .before .before .before .before .before .before .before .if3 .left) (c .before .before .before .before .before .before .before .before .before .copy .ensures))
+    (w .result .first) (w .result .second) (k .last .1 .1 .1 .0) (y .last .0)
+    (training-is (a .frame .now) (s .result) (s .ensures) (c .before .before .before .before .before .before .before .before .if5 .taken))
+    (ap (λ (t : TakenPair). t .first) words) (ap (λ (t : TakenPair). t .second) words)
+    (coefficients-read (a .frame .now) (s .result .next) (a .coefficients .now) (k .last .1 .1 .1 .0) (k .result) next (c .before .before .before .before .before .before .before .before .before .before .before .before .before .before .if2 .left) (k .ensures))
+    (vendor-read (a .frame .now) (a .vendor .now) (y .last .0) (w .result .next) (c .before .before .before .before .before .before .before .before .before .before .before .before .before .before .before .if1 .left) (c .before .before .before .before .before .before .before .before .before .before .before .before .before .if3 .left) (ap (λ (t : TakenPair). t .next) words) (y .ensures))
+
+copy-requires-2 : tie.Need-copy-requires-2
+copy-requires-2 c κs = search needs
 
 same-length-3 : tie.Need-same-length-3
 same-length-3 c = search needs
 
 returns-6 : tie.Need-returns-6
 returns-6 c =
-    let a = c .before .before .before .before .before .before .before .before .before .before .before .before .before .args in
-    let s = c .before .field in
-    final-read (c .before .before .before .before .before .before .before .before .before .before .before .before .before .args .frame .now) (c .before .before .before .before .before .before .before .before .before .before .before .before .before .args .coefficients .now) (c .before .before .before .before .before .before .before .before .before .before .before .before .before .args .vendor .now)
-    (simp (eq-eqb _ _ (c .before .before .before .before .before .before .before .before .before .before .if1 .left), eq-eqb _ _ (c .before .before .before .before .before .before .before .before .before .if2 .left), eq-eqb _ _ (c .before .before .before .before .before .before .before .before .if3 .left)) (sym (c .before .before .before .before .before .before .before .wrong .ensures) ∙ c .before .before .before .before .before .before .if4 .left))
-    (c .before .before .before .before .copy .last .0) (training-not (bitsOf (a .frame .now)) (s .result) (s .ensures) (c .if5 .left))
-    (vendor-read (a .frame .now) (a .vendor .now) (c .before .before .before .before .copy .last .0) (c .before .before .before .before .before .before .before .before .before .before .if1 .left) (c .before .before .before .before .before .before .before .before .if3 .left) (c .before .before .before .before .copy .ensures))
+    let a = c .before .before .before .before .before .before .before .before .before .before .before .before .before .before .args in
+    let s = c .before .before .before .before .before .before .single in
+    let y = c .before .before .copy2 in
+    final-read (a .frame .now) (a .coefficients .now) (a .vendor .now)
+    (simp (eq-eqb _ _ (c .before .before .before .before .before .before .before .before .before .before .before .if1 .left), eq-eqb _ _ (c .before .before .before .before .before .before .before .before .before .before .if2 .left), eq-eqb _ _ (c .before .before .before .before .before .before .before .before .before .if3 .left)) (sym (c .before .before .before .before .before .before .before .before .wrong .ensures) ∙ c .before .before .before .before .before .before .before .if4 .left))
+    (y .last .0) (training-not (a .frame .now) (s .result) (s .ensures) (c .before .before .before .before .if5 .left))
+    (vendor-read (a .frame .now) (a .vendor .now) (y .last .0) 4016 (c .before .before .before .before .before .before .before .before .before .before .before .if1 .left) (c .before .before .before .before .before .before .before .before .before .if3 .left) refl (y .ensures))
 
 pub read-spec : {M : Type 1} → statement M
 read-spec =
@@ -93,13 +101,13 @@ read-spec =
     wrong-requires
     refused-requires-4
     returns-4
+    single-requires
+    fill-signed-requires
+    pair-requires
     copy-requires
-    field-requires
-    get-coefficients-requires
-    field-requires-2
-    field-requires-3
     same-length
     same-length-2
     returns-5
+    copy-requires-2
     same-length-3
     returns-6)

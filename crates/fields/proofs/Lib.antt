@@ -1,0 +1,6 @@
+pub mod Laws
+pub mod Lent
+pub mod Makes
+pub mod One
+pub mod Take
+pub mod Takes
