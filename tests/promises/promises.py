@@ -20,7 +20,7 @@ def declared(crate, name, folder):
 def promised(path, predicate):
     """Whether the function's contract names the predicate."""
     crate, *_, function = path.split("::")
-    found = re.search(rf"fn {function}\((.*?)\n\s*\{{\n", text(crate, "src", "rt"), re.S)
+    found = re.search(rf"fn {function}(?:<[^>]*>)?\((.*?)\n\s*\{{\n", text(crate, "src", "rt"), re.S)
     if function.startswith("sdsl_"):
         found = re.search(rf"fn {function}\((.*?)\n\{{\n", text(crate, "src", "rt"), re.S)
     return found and re.search(rf"\b{predicate}\b", found.group(1))

@@ -1,19 +1,22 @@
 -- What a call to which no check applies was handed. Assumes nothing.
 use mathlib.Core.Path.{_≡_, refl, sym, ap, _∙_}
-use mathlib.Core.Bool.{Bool, true, false, not, _||_, true≢false}
+use mathlib.Core.Bool.{Bool, true, false, not, _&&_, _||_, true≢false}
 use mathlib.Core.Logic.{_⊎_, inl, inr}
 use mathlib.Core.List.{List}
-use Prim.Native.Nat.{ℕ, zero, suc, _≤_}
+use Prim.Native.Nat.{ℕ, zero, suc, _/_, _≤_}
 use native.Mathlib.Omega.{arith}
-use borrow.Author.Tests.{eq-eqb, eqb-true, ltb-false, not-false}
+use borrow.Author.Tests.{eq-eqb, eqb-true, leb-true, ltb-false, not-false}
 use lib.Dec.{eqb, ltb}
 use lib.IntN.{ℤ}
 use lib.ListN.{length, drop, take}
 use Rattle.answer.specs.Answer.{answer}
 use Rattle.answer.proofs.Laws.{none, passed}
 use Rattle.octets.specs.Bits.{bitsOf}
-use Rattle.layout.specs.Refusals.{allInRange, bitRefusals, writeRefusals}
+use Rattle.layout.specs.Refusals.{bitRefusals, writeRefusals}
+use Rattle.ranges.specs.Ranges.{isCoefficient, isWord, every}
+use Rattle.ranges.proofs.Laws.{both}
 use Rattle.numbers.specs.Promises.{numbersOf}
+use Rattle.numbers.proofs.Laws.{numbers-many}
 use Rattle.host.specs.Frames.{frameReadRefusals}
 use Rattle.demands.specs.Library.{WriteCall, ReadCall}
 use Rattle.demands.specs.One.{writeChecks, readChecks}
@@ -23,13 +26,17 @@ neither : (s t : Bool) → (s || t) ≡ false → (s ≡ false) × (t ≡ false)
 neither true t e = absurd (true≢false e)
 neither false t e = (refl, e)
 
+-- 720 octets are 180 numbers
+pub many : (os : List ℕ) → length os ≡ 720 → length (numbersOf os) ≡ 180
+many os l = numbers-many os ∙ ap (λ (n : ℕ). n / 4) l
+
 -- a training frame to write
 pub record Fit (c : WriteCall) : Type 0 where
   pub coefficients : length (c .coefficients) ≡ 720
   pub vendor : length (c .vendor) ≡ 16
   pub frame : length (c .frame) ≡ 529
   pub count : c .count ≤ 180
-  pub range : allInRange (take (c .count) (numbersOf (c .coefficients))) ≡ true
+  pub range : every isCoefficient (take (c .count) (numbersOf (c .coefficients))) ≡ true
   pub a : c .a ≤ 2097151
   pub b : c .b ≤ 2097151
 
@@ -53,17 +60,17 @@ module _ (c : WriteCall) (h : Right (writeChecks c)) where
       ap (λ (k : ℕ). answer (drop 3 (writeRefusals k (c .count) (numbersOf (c .coefficients)) (c .a) (c .b) (c .vendor) (c .frame)))) (sym e) ∙ l .3 in
       let four = none 1 (ltb 1 0) (drop 4 L) z in
       let five = none 2 (ltb (c .count) 128 || ltb 180 (c .count)) (drop 5 L) (four .1) in
-      let six = none 3 (not (allInRange (take (c .count) (numbersOf (c .coefficients))))) (drop 6 L) (five .1) in
-      let seven = none 3 (ltb 2097151 (c .a) || ltb 2097151 (c .b)) (drop 7 L) (six .1) in
-      let words = neither (ltb 2097151 (c .a)) (ltb 2097151 (c .b)) (seven .0) in
+      let six = none 3 (not (every isCoefficient (take (c .count) (numbersOf (c .coefficients))))) (drop 6 L) (five .1) in
+      let seven = none 3 (not (isWord (c .a) && isWord (c .b))) (drop 7 L) (six .1) in
+      let words = both (isWord (c .a)) (isWord (c .b)) (not-false _ (seven .0)) in
       record {
         coefficients = l .0;
         vendor = l .1;
         frame = l .2;
         count = ltb-false 180 (c .count) (neither (ltb (c .count) 128) (ltb 180 (c .count)) (five .0) .1);
         range = not-false _ (six .0);
-        a = ltb-false 2097151 (c .a) (words .0);
-        b = ltb-false 2097151 (c .b) (words .1);
+        a = leb-true (c .a) 2097151 (words .0);
+        b = leb-true (c .b) 2097151 (words .1);
       }
 
   -- a frame is a training frame or a final one

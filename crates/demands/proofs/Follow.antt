@@ -1,6 +1,6 @@
 -- What follows from the demands, for a library of any make that meets them. Assumes nothing.
 use mathlib.Core.Path.{_≡_, refl, sym, ap, ap₂, _∙_, subst}
-use mathlib.Core.Bool.{Bool, true, false, not, _||_}
+use mathlib.Core.Bool.{Bool, true, false, not, _&&_}
 use mathlib.Core.Logic.{_⊎_}
 use mathlib.Core.List.{List, [], _∷_}
 use Prim.Native.Nat.{ℕ, zero, suc, _*_, _^_, _≤_, _<_}
@@ -16,26 +16,29 @@ use lib.Signed.{mag}
 use Rattle.answer.specs.Answer.{answer}
 use Rattle.answer.proofs.Laws.{none, passed}
 use Rattle.octets.specs.Bits.{valueOf, bitsOf, octetsOf, part}
-use Rattle.octets.specs.Signed.{signedOf, numberBits, numbersIn}
+use Rattle.octets.specs.Signed.{signedOf, numbersIn}
+use Rattle.ranges.specs.Ranges.{isCoefficient, every}
+use Rattle.ranges.proofs.Laws.{mag-range, mag-at}
 use Rattle.octets.proofs.Complement.{signed-range}
 use Rattle.octets.proofs.Digits.{Bits, drop-bits, value-part}
 use Rattle.octets.proofs.Laws.{octets-length, bits-length, bits-bits, bits-octets, octets-bits}
-use Rattle.octets.proofs.Numbers.{number-length, number-bits, numbers-length, numbers-back}
+use Rattle.octets.proofs.Numbers.{numbers-length}
 use Rattle.remainder.specs.Errors.{flipped}
 use Rattle.layout.specs.Places.{coefficients, wordA, wordB, vendor}
 use Rattle.layout.specs.Frame.{trainingSync, finalSync, used, trainingBits, frameBits, fieldOf, coefficientsOf}
-use Rattle.layout.specs.Refusals.{inRange, allInRange, bitRefusals, hasSync, writeRefusals, checkRefusals}
-use Rattle.layout.proofs.RoundTrip.{training-laid, a-back, b-back, used-back, vendor-back, range-mag, sound, field-length, field-bits, final-free, laid-in, training-again}
+use Rattle.layout.specs.Refusals.{bitRefusals, hasSync, writeRefusals, checkRefusals}
+use Rattle.layout.proofs.RoundTrip.{training-laid, a-back, b-back, used-back, vendor-back, sound, field-length, field-bits, final-free, laid-in, training-again}
 use Rattle.layout.proofs.Laws.{final-length, final-bits}
 use Rattle.layout.proofs.OneBit.{one-bit}
 use Rattle.distance.specs.Errors.{Few, Burst}
 use Rattle.distance.proofs.Frames.{changed-checked}
-use Rattle.numbers.specs.Promises.{numbersOf}
+use Rattle.numbers.specs.Promises.{numbersOf, numberOctets}
+use Rattle.numbers.proofs.Laws.{octets-many, numbers-kept}
 use Rattle.demands.specs.Library.{Outcome, None, WriteCall, ReadCall, Fields, Rooms, Library}
 use Rattle.demands.specs.One.{One, writeChecks, readChecks}
-use Rattle.demands.specs.Two.{Right, Octets, inOctets, Two}
+use Rattle.demands.specs.Two.{Right, Octets, Two}
 use Rattle.demands.specs.Follow.{SameFields}
-use Rattle.demands.proofs.Fit.{training-fit, read-fit}
+use Rattle.demands.proofs.Fit.{many, training-fit, read-fit}
 
 module _ (x : Library) (two : Two x) where
   -- the bits of a training frame that was written
@@ -43,7 +46,7 @@ module _ (x : Library) (two : Two x) where
   bits-of c e h =
       let f = training-fit c h e in
       ap (λ (o : Outcome None (List ℕ)). bitsOf (o .memory)) (two .exact .frames .training c e h)
-      ∙ training-laid (c .count) (numbersOf (c .coefficients)) (c .a) (c .b) (c .vendor) (f .count) (numbers-length 32 180 (bitsOf (c .coefficients))) (f .vendor)
+      ∙ training-laid (c .count) (numbersOf (c .coefficients)) (c .a) (c .b) (c .vendor) (f .count) (many (c .coefficients) (f .coefficients)) (f .vendor)
 
   -- nothing is lost: two writes that leave the same frame were given the same fields
   pub nothing-lost : (c d : WriteCall) → c .kind ≡ 0 → d .kind ≡ 0 → Right (writeChecks c) → Right (writeChecks d) → Octets (c .vendor) → Octets (d .vendor)
@@ -51,8 +54,8 @@ module _ (x : Library) (two : Two x) where
   nothing-lost c d ec ed hc hd oc od e =
       let f = training-fit c hc ec in
       let g = training-fit d hd ed in
-      let l = numbers-length 32 180 (bitsOf (c .coefficients)) in
-      let m = numbers-length 32 180 (bitsOf (d .coefficients)) in
+      let l = many (c .coefficients) (f .coefficients) in
+      let m = many (d .coefficients) (g .coefficients) in
       let p = numbersOf (c .coefficients) in
       let q = numbersOf (d .coefficients) in
       let t : trainingBits (c .count) p (c .a) (c .b) (c .vendor) ≡ trainingBits (d .count) q (d .a) (d .b) (d .vendor) = sym (bits-of c ec hc) ∙ ap bitsOf e ∙ bits-of d ed hd in
@@ -70,21 +73,10 @@ module _ (x : Library) (two : Two x) where
 -- ---- a frame that was read is written again
 
 -- 22 bits of two's complement are in range
-mag-range : (z : ℤ) → mag z < 2 ^ 21 → inRange z ≡ true
-unfolding inRange
-mag-range (pos n) h = le-leb n 2097151 (omega (arith, h))
-mag-range (negsuc n) h = le-leb n 2097151 (omega (arith, h))
-
-numbers-range : (n : ℕ) (bits : List ℕ) → Bits bits → allInRange (numbersIn 22 n bits) ≡ true
-unfolding numbersIn allInRange
+numbers-range : (n : ℕ) (bits : List ℕ) → Bits bits → every isCoefficient (numbersIn 22 n bits) ≡ true
+unfolding numbersIn every
 numbers-range zero bits h = refl
-numbers-range (suc n) bits h = rw (mag-range (signedOf 22 (valueOf (take 22 bits))) (signed-range 22 (valueOf (take 22 bits)) (lit≤ tt) (value-part 22 bits h))) (numbers-range n (drop 22 bits) (drop-bits 22 bits h))
-
--- 180 numbers in 720 octets, read again
-octets-numbers : (cs : List ℤ) → length cs ≡ 180 → ((i : ℕ) → mag (getD cs i (pos 0)) < 2 ^ 21) → numbersOf (inOctets cs) ≡ cs
-octets-numbers cs l h =
-    ap (numbersIn 32 180) (bits-octets 720 (numberBits 32 cs) (number-length 32 cs ∙ ap (λ (k : ℕ). 32 * k) l) (number-bits 32 cs))
-    ∙ ap (λ (k : ℕ). numbersIn 32 k (numberBits 32 cs)) (sym l) ∙ numbers-back 32 (lit≤ tt) cs (λ i. omega (arith, h i))
+numbers-range (suc n) bits h = rw (mag-range 2097151 (signedOf 22 (valueOf (take 22 bits))) (omega (arith, signed-range 22 (valueOf (take 22 bits)) (lit≤ tt) (value-part 22 bits h)))) (numbers-range n (drop 22 bits) (drop-bits 22 bits h))
 
 module _ (x : Library) (two : Two x) (c : ReadCall) (room : List ℕ) (o : Octets (c .frame)) (h : Right (readChecks c))
     (t : hasSync trainingSync (bitsOf (c .frame)) ≡ true) (lr : length room ≡ 529) where
@@ -102,18 +94,18 @@ module _ (x : Library) (two : Two x) (c : ReadCall) (room : List ℕ) (o : Octet
       let hB = bits-bits (c .frame) in
       let cs = coefficientsOf B in
       let l : length cs ≡ 180 = numbers-length 22 180 (fieldOf coefficients B) in
-      let all : allInRange cs ≡ true = numbers-range 180 (fieldOf coefficients B) (field-bits B L hB 14 3960) in
-      let w : WriteCall = record { kind = 0; count = 180; coefficients = inOctets cs; a = valueOf (fieldOf wordA B); b = valueOf (fieldOf wordB B); vendor = octetsOf 16 (fieldOf vendor B); frame = room } in
-      let n : numbersOf (inOctets cs) ≡ cs = octets-numbers cs l (range-mag cs all) in
-      let R = writeRefusals 0 180 (numbersOf (inOctets cs)) (w .a) (w .b) (w .vendor) room in
+      let all : every isCoefficient cs ≡ true = numbers-range 180 (fieldOf coefficients B) (field-bits B L hB 14 3960) in
+      let w : WriteCall = record { kind = 0; count = 180; coefficients = numberOctets cs; a = valueOf (fieldOf wordA B); b = valueOf (fieldOf wordB B); vendor = octetsOf 16 (fieldOf vendor B); frame = room } in
+      let n : numbersOf (numberOctets cs) ≡ cs = numbers-kept cs (λ i. omega (arith, mag-at 2097151 cs i all)) in
+      let R = writeRefusals 0 180 (numbersOf (numberOctets cs)) (w .a) (w .b) (w .vendor) room in
       let word : (at : ℕ) → valueOf (part at 21 B) ≤ 2097151 = λ at. omega (arith, value-part 21 (drop at B) (drop-bits at B hB)) in
       let right : Right (writeChecks w) =
-      passed 1 R (ap not (eq-eqb _ _ (octets-length 720 (numberBits 32 cs))))
-      ∙ passed 1 (drop 1 R) (ap not (eq-eqb _ _ (numbers-length 32 180 (bitsOf (inOctets cs)))))
+      passed 1 R (ap not (eq-eqb _ _ (octets-many cs ∙ ap (λ (k : ℕ). 4 * k) l)))
+      ∙ passed 1 (drop 1 R) (ap not (eq-eqb _ _ (ap length n ∙ l)))
       ∙ passed 1 (drop 2 R) (ap not (eq-eqb _ _ (octets-length 16 (fieldOf vendor B))))
       ∙ passed 1 (drop 3 R) (ap not (eq-eqb _ _ lr))
-      ∙ passed 4 (drop 6 R) (ap (λ (zs : List ℤ). not (allInRange (take 180 zs))) n ∙ ap (λ (zs : List ℤ). not (allInRange zs)) (take-all 180 cs (omega arith)) ∙ ap not all)
-      ∙ passed 4 [] (ap₂ _||_ (le-ltb 2097151 (w .a) (word 3974)) (le-ltb 2097151 (w .b) (word 3995))) in
+      ∙ passed 4 (drop 6 R) (ap (λ (zs : List ℤ). not (every isCoefficient (take 180 zs))) n ∙ ap (λ (zs : List ℤ). not (every isCoefficient zs)) (take-all 180 cs (omega arith)) ∙ ap not all)
+      ∙ passed 4 [] (ap not (ap₂ _&&_ (le-leb (w .a) 2097151 (word 3974)) (le-leb (w .b) 2097151 (word 3995)))) in
       ap (λ (r : Outcome Fields Rooms). x .write (call r) .memory) (two .exact .frames .read-training c h t)
       ∙ ap (λ (m : Outcome None (List ℕ)). m .memory) (two .exact .frames .training w refl right)
       ∙ ap (λ (zs : List ℤ). octetsOf 529 (trainingBits 180 zs (w .a) (w .b) (w .vendor))) n

@@ -19,7 +19,7 @@ use Rattle.layout.specs.Places.{wordA, wordB, vendor, pad}
 use Rattle.layout.specs.Frame.{used, trainingBits, finalBits, fieldOf, coefficientsOf}
 use Rattle.layout.specs.Refusals.{bitRefusals, hasSync}
 use Rattle.layout.proofs.RoundTrip.{training-laid, training-answers, a-back, b-back, used-back, vendor-back, final-laid, final-answers, final-vendor}
-use Rattle.numbers.specs.Promises.{numbersOf}
+use Rattle.numbers.specs.Promises.{numbersOf, numberOctets}
 use Rattle.scrambler.specs.Line.{tapOf, Scrambles, Descrambles, newest}
 use Rattle.scrambler.specs.Run.{scramble, descramble, runOf}
 use Rattle.scrambler.specs.Promises.{runRefusals, frameRefusals, frameOut}
@@ -27,18 +27,18 @@ use Rattle.scrambler.specs.declared.Scrambler.{Scrambler}
 use Rattle.scrambler.proofs.Laws.{tap-range, run-bits, run-length, run-sound, frame-sound}
 use Rattle.scrambler.proofs.Exactly.{scrambles-run, descrambles-run, back as comes-back}
 use Rattle.scrambler.proofs.Frames.{received, pad-out, frame-back}
-use Rattle.signal.specs.Signal.{isSignal, every, pastAfter}
-use Rattle.signal.proofs.Range.{and-true}
-use Rattle.precoder.specs.Octets.{valuesOf, octetsOf as wordsOf}
+use Rattle.ranges.specs.Ranges.{every}
+use Rattle.signal.specs.Signal.{isSignal, pastAfter}
+use Rattle.ranges.proofs.Laws.{both}
 use Rattle.precoder.specs.Runs.{SendsAll, outputsOf, inputsOf, pastAfterAll, PrecodesRun, DecodesRun}
 use Rattle.precoder.proofs.Signals.{input-is}
-use Rattle.precoder.proofs.Back.{outputs-sent, sent-unique, outputs-length, octets-values, run-done, run-back as run-back-of}
-use Rattle.precoder.proofs.Quads.{octets-length as words-length}
+use Rattle.precoder.proofs.Back.{outputs-sent, sent-unique, outputs-length, run-done, run-back as run-back-of}
 use Rattle.precoder.proofs.Turns.{lengths-are}
+use Rattle.numbers.proofs.Laws.{octets-many, octets-kept}
 use Rattle.demands.specs.Library.{Outcome, None, none, WriteCall, ReadCall, Fields, Rooms, RunCall, FrameCall, Line, PrecodeCall, Signal, Library}
 use Rattle.demands.specs.One.{writeChecks, readChecks, runChecks, frameChecks, precodeChecks}
-use Rattle.demands.specs.Two.{Right, Octets, inOctets, done, given, clocked, around, Frames, Scrambling, Precoding, Exact, Back}
-use Rattle.demands.proofs.Fit.{lengths-fit, training-fit, read-right}
+use Rattle.demands.specs.Two.{Right, Octets, done, given, clocked, around, Frames, Scrambling, Precoding, Exact, Back}
+use Rattle.demands.proofs.Fit.{many, lengths-fit, training-fit, read-right}
 
 -- ---- frames
 
@@ -47,11 +47,11 @@ module _ (x y : Library) (ex : Frames x) (ey : Frames y) (c : WriteCall) (room v
   call frame = record { frame = frame; coefficients = room; vendor = v }
 
   training-back : c .kind ≡ 0 → y .read (call (x .write c .memory))
-      ≡ done (record { kind = 0; a = c .a; b = c .b }) (record { coefficients = inOctets (used (c .count) (numbersOf (c .coefficients))); vendor = c .vendor })
+      ≡ done (record { kind = 0; a = c .a; b = c .b }) (record { coefficients = numberOctets (used (c .count) (numbersOf (c .coefficients))); vendor = c .vendor })
   training-back e =
       let f = training-fit c h e in
       let cs = numbersOf (c .coefficients) in
-      let n = numbers-length 32 180 (bitsOf (c .coefficients)) in
+      let n = many (c .coefficients) (f .coefficients) in
       let T = trainingBits (c .count) cs (c .a) (c .b) (c .vendor) in
       let F = octetsOf 529 T in
       let B : bitsOf F ≡ T = training-laid (c .count) cs (c .a) (c .b) (c .vendor) (f .count) n (f .vendor) in
@@ -59,10 +59,10 @@ module _ (x y : Library) (ex : Frames x) (ey : Frames y) (c : WriteCall) (room v
       let r : Right (readChecks (call F)) = read-right (call F) lr (octets-length 529 T) lv (ap (λ (b : List ℕ). answer (bitRefusals b)) B ∙ t .0) in
       ap (λ (m : Outcome None (List ℕ)). y .read (call (m .memory))) (ex .training c e h)
       ∙ ey .read-training (call F) r (ap (hasSync _) B ∙ t .1)
-      ∙ ap (λ (b : List ℕ). done (record { kind = 0; a = valueOf (fieldOf wordA b); b = valueOf (fieldOf wordB b) }) (record { coefficients = inOctets (coefficientsOf b); vendor = octetsOf 16 (fieldOf vendor b) })) B
-      ∙ ap₂ (λ (p q : ℕ). done (record { kind = 0; a = p; b = q }) (record { coefficients = inOctets (coefficientsOf T); vendor = octetsOf 16 (fieldOf vendor T) }))
+      ∙ ap (λ (b : List ℕ). done (record { kind = 0; a = valueOf (fieldOf wordA b); b = valueOf (fieldOf wordB b) }) (record { coefficients = numberOctets (coefficientsOf b); vendor = octetsOf 16 (fieldOf vendor b) })) B
+      ∙ ap₂ (λ (p q : ℕ). done (record { kind = 0; a = p; b = q }) (record { coefficients = numberOctets (coefficientsOf T); vendor = octetsOf 16 (fieldOf vendor T) }))
       (a-back (c .count) cs (c .a) (c .b) (c .vendor) (f .count) n (f .vendor) (f .a)) (b-back (c .count) cs (c .a) (c .b) (c .vendor) (f .count) n (f .vendor) (f .b))
-      ∙ ap₂ (λ (p : List ℤ) (q : List ℕ). done (record { kind = 0; a = c .a; b = c .b }) (record { coefficients = inOctets p; vendor = q }))
+      ∙ ap₂ (λ (p : List ℤ) (q : List ℕ). done (record { kind = 0; a = c .a; b = c .b }) (record { coefficients = numberOctets p; vendor = q }))
       (used-back (c .count) cs (c .a) (c .b) (c .vendor) (f .count) n (f .vendor) (f .range)) (vendor-back (c .count) cs (c .a) (c .b) (c .vendor) (f .count) n (f .vendor) o)
 
   final-back : c .kind ≡ 1 → y .read (call (x .write c .memory)) ≡ done (record { kind = 1; a = 0; b = 0 }) (record { coefficients = room; vendor = c .vendor })
@@ -169,7 +169,7 @@ inputs-are coefficients past [] [] s h = refl
 inputs-are coefficients past [] (y ∷ ys) s h = absurd s
 inputs-are coefficients past (x ∷ xs) [] s h = absurd s
 inputs-are coefficients past (x ∷ xs) (y ∷ ys) s h =
-    let p = and-true (isSignal x) (every isSignal xs) h in
+    let p = both (isSignal x) (every isSignal xs) h in
     ap₂ (λ (a : ℤ) (l : List ℤ). a ∷ l) (input-is coefficients past y x (record { signal = p .0; sends = s .0 })) (inputs-are coefficients (pastAfter past y) xs ys (s .1) (p .1))
 
 module _ (x y : Library) (ex : Precoding x) (ey : Precoding y) where
@@ -177,29 +177,29 @@ module _ (x y : Library) (ex : Precoding x) (ey : Precoding y) where
       → y .decode (record { coefficients = c .coefficients; history = c .history; symbols = x .precode c .memory .room; room = room })
       ≡ done none (record { history = x .precode c .memory .history; room = c .symbols })
   precoded-back c room h o l =
-      let cs = valuesOf (c .coefficients) in
-      let past = valuesOf (c .history) in
-      let xs = valuesOf (c .symbols) in
+      let cs = numbersOf (c .coefficients) in
+      let past = numbersOf (c .history) in
+      let xs = numbersOf (c .symbols) in
       let ys = outputsOf cs past xs in
       let w = ex .precoded c h in
       let is : w .0 ≡ ys = sent-unique cs past xs (w .0) ys (w .1) (outputs-sent cs past xs) in
       let call : List ℕ → PrecodeCall = λ s. record { coefficients = c .coefficients; history = c .history; symbols = s; room = room } in
-      let Y = wordsOf ys in
+      let Y = numberOctets ys in
       let n = answer (precodeChecks (call Y)) in
-      let p : PrecodesRun (c .coefficients) (c .history) (c .symbols) (c .room) 0 (wordsOf (pastAfterAll past ys)) Y = record { answered = sym h; written = refl; past = refl } in
-      let q : DecodesRun (c .coefficients) (c .history) Y room n (held n (c .history) (wordsOf (pastAfterAll past (valuesOf Y)))) (held n room (wordsOf (inputsOf cs past (valuesOf Y)))) =
+      let p : PrecodesRun (c .coefficients) (c .history) (c .symbols) (c .room) 0 (numberOctets (pastAfterAll past ys)) Y = record { answered = sym h; written = refl; past = refl } in
+      let q : DecodesRun (c .coefficients) (c .history) Y room n (held n (c .history) (numberOctets (pastAfterAll past (numbersOf Y)))) (held n room (numberOctets (inputsOf cs past (numbersOf Y)))) =
       record { answered = refl; written = refl; past = refl } in
       let d = run-done (c .coefficients) (c .history) (c .symbols) (c .room) h in
-      let again : wordsOf xs ≡ c .symbols = octets-values (c .symbols) o (lengths-are (c .coefficients) (c .history) (c .symbols) (c .room) (d .0) .2) in
-      let m : length room ≡ length Y = omega (arith, l, ap length again, words-length xs, words-length ys, outputs-length cs past xs) in
+      let again : numberOctets xs ≡ c .symbols = octets-kept (c .symbols) o (lengths-are (c .coefficients) (c .history) (c .symbols) (c .room) (d .0) .2) in
+      let m : length room ≡ length Y = omega (arith, l, ap length again, octets-many xs, octets-many ys, outputs-length cs past xs) in
       let b = run-back-of (c .coefficients) (c .history) (c .symbols) (c .room) room 0 n _ Y _ _ o p refl q m in
       let v = ey .decoded (call Y) (b .0) in
-      let f : v .0 ≡ inputsOf cs past (valuesOf Y) = inputs-are cs past (v .0) (valuesOf Y) (v .1) (v .2) in
-      let room-is : wordsOf (v .0) ≡ c .symbols = ap wordsOf f ∙ sym (held-given n room (wordsOf (inputsOf cs past (valuesOf Y))) (b .0)) ∙ b .1 in
-      let past-is : wordsOf (pastAfterAll past (valuesOf Y)) ≡ wordsOf (pastAfterAll past ys) = sym (held-given n (c .history) (wordsOf (pastAfterAll past (valuesOf Y))) (b .0)) ∙ b .2 in
-      ap (λ (m : Outcome None Signal). y .decode (call (m .memory .room))) (w .2) ∙ ap (λ (z : List ℤ). y .decode (call (wordsOf z))) is ∙ v .3
+      let f : v .0 ≡ inputsOf cs past (numbersOf Y) = inputs-are cs past (v .0) (numbersOf Y) (v .1) (v .2) in
+      let room-is : numberOctets (v .0) ≡ c .symbols = ap numberOctets f ∙ sym (held-given n room (numberOctets (inputsOf cs past (numbersOf Y))) (b .0)) ∙ b .1 in
+      let past-is : numberOctets (pastAfterAll past (numbersOf Y)) ≡ numberOctets (pastAfterAll past ys) = sym (held-given n (c .history) (numberOctets (pastAfterAll past (numbersOf Y))) (b .0)) ∙ b .2 in
+      ap (λ (m : Outcome None Signal). y .decode (call (m .memory .room))) (w .2) ∙ ap (λ (z : List ℤ). y .decode (call (numberOctets z))) is ∙ v .3
       ∙ ap₂ (λ (a b : List ℕ). done none (record { history = a; room = b })) past-is room-is
-      ∙ ap (λ (z : List ℤ). done none (record { history = wordsOf (pastAfterAll past z); room = c .symbols })) (sym is)
+      ∙ ap (λ (z : List ℤ). done none (record { history = numberOctets (pastAfterAll past z); room = c .symbols })) (sym is)
       ∙ ap (λ (m : Outcome None Signal). done none (record { history = m .memory .history; room = c .symbols })) (sym (w .2))
 
 -- ---- the two sentences

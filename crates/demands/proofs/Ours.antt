@@ -10,7 +10,7 @@ use Rattle.answer.specs.Answer.{answer, held}
 use Rattle.answer.proofs.Laws.{none as none-applies}
 use Rattle.octets.specs.Bits.{bitsOf, laid}
 use Rattle.layout.specs.Refusals.{checkRefusals}
-use Rattle.numbers.specs.Promises.{numbersOf}
+use Rattle.numbers.specs.Promises.{numbersOf, numberOctets}
 use Rattle.writer.specs.Promises.{frameOctets}
 use Rattle.reader.specs.Promises.{foundOf, vendorOctets}
 use Rattle.scrambler.specs.Line.{tapOf}
@@ -20,7 +20,6 @@ use Rattle.symbol.specs.Encoder.{codeOf, codesOf, x1, sentAfter, heldIn, regist
 use Rattle.signal.specs.Signal.{isSignal}
 use Rattle.signal.specs.Shaper.{Exactly, shaperTests}
 use Rattle.signal.proofs.Exact.{signal-abs, exact, exact-zero}
-use Rattle.precoder.specs.Octets.{valuesOf, octetsOf as wordsOf}
 use Rattle.precoder.specs.Runs.{outputsOf, inputsOf, pastAfterAll}
 use Rattle.startup.specs.Step.{startOf, stepOf}
 use Rattle.startup.specs.Run.{runOf as codesRun}
@@ -101,17 +100,17 @@ ours = record {
       };
   precode = λ c.
       let n = answer (precodeChecks c) in
-      let ys = outputsOf (valuesOf (c .coefficients)) (valuesOf (c .history)) (valuesOf (c .symbols)) in
-      record { answer = n; numbers = none; memory = record { history = held n (c .history) (wordsOf (pastAfterAll (valuesOf (c .history)) ys)); room = held n (c .room) (wordsOf ys) } };
+      let ys = outputsOf (numbersOf (c .coefficients)) (numbersOf (c .history)) (numbersOf (c .symbols)) in
+      record { answer = n; numbers = none; memory = record { history = held n (c .history) (numberOctets (pastAfterAll (numbersOf (c .history)) ys)); room = held n (c .room) (numberOctets ys) } };
   decode = λ c.
       let n = answer (precodeChecks c) in
-      let ys = valuesOf (c .symbols) in
+      let ys = numbersOf (c .symbols) in
       record {
         answer = n;
         numbers = none;
         memory = record {
-          history = held n (c .history) (wordsOf (pastAfterAll (valuesOf (c .history)) ys));
-          room = held n (c .room) (wordsOf (inputsOf (valuesOf (c .coefficients)) (valuesOf (c .history)) ys));
+          history = held n (c .history) (numberOctets (pastAfterAll (numbersOf (c .history)) ys));
+          room = held n (c .room) (numberOctets (inputsOf (numbersOf (c .coefficients)) (numbersOf (c .history)) ys));
         };
       };
   shape = λ y. record { answer = answer (shaperTests y); numbers = sample y; memory = none };

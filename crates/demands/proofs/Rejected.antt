@@ -11,30 +11,30 @@ use lib.ListN.{length, drop, getD, replicate}
 use Rattle.answer.specs.Answer.{answer}
 use Rattle.answer.proofs.Laws.{passed}
 use Rattle.octets.specs.Bits.{digitsOf, valueOf, bitsOf, octetsOf, part, laid}
-use Rattle.octets.specs.Signed.{signedOf, numbersIn}
+use Rattle.octets.specs.Signed.{signedOf, twosOf, numberBits, numbersIn}
 use Rattle.octets.proofs.Numbers.{numbers-length}
 use Rattle.octets.proofs.Digits.{take-bits}
 use Rattle.octets.proofs.Laws.{bits-bits, octets-length}
 use Rattle.layout.specs.Places.{wordA, wordB}
 use Rattle.layout.specs.Frame.{trainingSync, used, trainingBits, finalBits, fieldOf}
-use Rattle.layout.specs.Refusals.{inRange, allInRange, writeRefusals, bitRefusals, checkRefusals}
+use Rattle.layout.specs.Refusals.{writeRefusals, bitRefusals, checkRefusals}
 use Rattle.layout.proofs.Laws.{used-length, training-length}
 use Rattle.layout.proofs.Fields.{a-field, b-field}
 use Rattle.layout.proofs.RoundTrip.{training-laid, final-laid, final-answers}
-use Rattle.numbers.specs.Promises.{numbersOf}
+use Rattle.numbers.specs.Promises.{numbersOf, numberOctets}
 use Rattle.scrambler.specs.Run.{Way, scramble, descramble, runOf}
 use Rattle.scrambler.proofs.Exactly.{scrambles-run, descrambles-run}
-use Rattle.signal.specs.Signal.{every}
+use Rattle.ranges.specs.Ranges.{every, between}
 use Rattle.symbol.specs.Levels.{placeIn}
 use Rattle.symbol.specs.Encoder.{symbolsIn}
 use Rattle.host.specs.declared.supervisor.Supervisor.{Supervisor}
-use Rattle.precoder.specs.Octets.{valuesOf, octetsOf as wordsOf}
 use Rattle.precoder.specs.Precoder.{exactSum}
 use Rattle.precoder.specs.Runs.{outputsOf}
 use Rattle.precoder.proofs.Back.{sent-unique, outputs-sent}
 use Rattle.demands.specs.Library.{Outcome, None, none, WriteCall, ReadCall, Fields, Rooms, RunCall, FrameCall, Line, EncodeCall, EncodeRunCall, PrecodeCall, StartCall, StepCall, CodesCall, Signal, Library}
 use Rattle.demands.specs.One.{One, writeChecks, runChecks, frameChecks, precodeChecks}
-use Rattle.demands.specs.Two.{Right, Octets, inOctets, done, Two}
+use Rattle.demands.specs.Two.{Right, Octets, done, Two}
+use Rattle.demands.proofs.Fit.{many}
 use Rattle.demands.specs.Wrong.{Refuses, NoneRefuses, OneFrame, WriterIdle, ReaderIdle, ScramblerIdle, PrecoderIdle, CopiesTheRest, TurnsA, TurnsB}
 
 -- ---- calls to which no check applies
@@ -49,7 +49,7 @@ final v f = record { kind = 1; count = 0; coefficients = zeros 720; a = 0; b = 0
 final-right : (v f : List ℕ) → length v ≡ 16 → length f ≡ 529 → Right (writeChecks (final v f))
 final-right v f l m =
     let L = writeRefusals 1 0 (numbersOf (zeros 720)) 0 0 v f in
-    passed 1 (drop 1 L) (ap not (eq-eqb _ _ (numbers-length 32 180 (bitsOf (zeros 720)))))
+    passed 1 (drop 1 L) (ap not (eq-eqb _ _ (many (zeros 720) refl)))
     ∙ passed 1 (drop 2 L) (ap not (eq-eqb _ _ l)) ∙ passed 1 (drop 3 L) (ap not (eq-eqb _ _ m))
 
 -- two vendor data that differ
@@ -73,7 +73,7 @@ abbrev training : WriteCall
 training = record { kind = 0; count = 128; coefficients = zeros 720; a = 1; b = 1; vendor = zeros 16; frame = zeros 529 }
 
 training-right : Right (writeChecks training)
-unfolding numbersIn signedOf bitsOf digitsOf valueOf allInRange inRange
+unfolding numbersOf numbersIn signedOf bitsOf digitsOf valueOf every
 training-right = refl
 
 -- six ones from the LTU's starting state
@@ -111,7 +111,7 @@ abbrev one-symbol : PrecodeCall
 one-symbol = record { coefficients = zeros 720; history = zeros 720; symbols = 1 ∷ 0 ∷ 0 ∷ 0 ∷ []; room = 0 ∷ 0 ∷ 0 ∷ 0 ∷ [] }
 
 symbol-right : Right (precodeChecks one-symbol)
-unfolding valuesOf every
+unfolding numbersOf numbersIn signedOf bitsOf digitsOf valueOf every
 symbol-right = refl
 
 module _ (x : Library) (two : Two x) where
@@ -152,7 +152,7 @@ module _ (x : Library) (two : Two x) where
   trained : ReadCall
   trained = record { frame = x .write training .memory; coefficients = zeros 720; vendor = zeros 16 }
 
-  read-trained : x .read trained ≡ done (record { kind = 0; a = 1; b = 1 }) (record { coefficients = inOctets (used 128 (numbersOf (zeros 720))); vendor = zeros 16 })
+  read-trained : x .read trained ≡ done (record { kind = 0; a = 1; b = 1 }) (record { coefficients = numberOctets (used 128 (numbersOf (zeros 720))); vendor = zeros 16 })
   unfolding trained
   read-trained = two .back .training training (zeros 720) (zeros 16) refl training-right (zeros-small 16) refl refl
 
@@ -160,9 +160,9 @@ module _ (x : Library) (two : Two x) where
   unfolding trained trainingBits digitsOf
   words-are =
       let cs = numbersOf (zeros 720) in
-      let U = used-length 128 cs (lit≤ tt) (numbers-length 32 180 (bitsOf (zeros 720))) in
+      let U = used-length 128 cs (lit≤ tt) (many (zeros 720) refl) in
       let e = ap (λ (o : Outcome None (List ℕ)). bitsOf (o .memory)) (two .exact .frames .training training refl training-right)
-      ∙ training-laid 128 cs 1 1 (zeros 16) (lit≤ tt) (numbers-length 32 180 (bitsOf (zeros 720))) refl in (
+      ∙ training-laid 128 cs 1 1 (zeros 16) (lit≤ tt) (many (zeros 720) refl) refl in (
         ap (fieldOf wordA) e ∙ a-field (used 128 cs) 1 1 (zeros 16) (zeros 67) U refl refl trainingSync training-length,
         ap (fieldOf wordB) e ∙ b-field (used 128 cs) 1 1 (zeros 16) (zeros 67) U refl refl trainingSync training-length,
       )
@@ -197,12 +197,12 @@ module _ (x : Library) (two : Two x) where
   copies-refuted w = omega (arith, sym (ap (λ (l : List ℕ). getD (bitsOf l) 5 0) (scrambled scramble .1)) ∙ w six-ones 5 (lit≤ tt) (lit≤ tt))
 
   precoded : (x .precode one-symbol .answer ≡ 0) × (x .precode one-symbol .memory .room ≡ 1 ∷ 0 ∷ 0 ∷ 0 ∷ [])
-  unfolding valuesOf wordsOf outputsOf exactSum
+  unfolding numbersOf numbersIn signedOf bitsOf digitsOf valueOf numberOctets numberBits twosOf octetsOf outputsOf exactSum
   precoded =
       let w = two .exact .precoding .precoded one-symbol symbol-right in
-      let cs = valuesOf (zeros 720) in
+      let cs = numbersOf (zeros 720) in
       let s = sent-unique cs cs (pos 1 ∷ []) (w .0) (outputsOf cs cs (pos 1 ∷ [])) (w .1) (outputs-sent cs cs (pos 1 ∷ [])) in
-      (ap (λ (r : Outcome None Signal). r .answer) (w .2), ap (λ (r : Outcome None Signal). r .memory .room) (w .2) ∙ ap wordsOf s)
+      (ap (λ (r : Outcome None Signal). r .answer) (w .2), ap (λ (r : Outcome None Signal). r .memory .room) (w .2) ∙ ap numberOctets s)
 
   pub precoder-idle-refuted : PrecoderIdle x → ⊥
   precoder-idle-refuted w = omega (arith, ap (λ (l : List ℕ). getD l 0 0) (sym (w one-symbol) ∙ precoded .1))

@@ -11,7 +11,6 @@ use lib.ListN.{length, drop}
 use Rattle.answer.specs.Answer.{answer, held}
 use Rattle.answer.proofs.Laws.{given as held-given, passed}
 use Rattle.octets.specs.Bits.{valueOf, bitsOf, octetsOf, part, laid}
-use Rattle.octets.specs.Signed.{numberBits}
 use Rattle.octets.proofs.Digits.{Bits, take-bits, drop-bits}
 use Rattle.octets.proofs.Laws.{bits-bits, bits-length}
 use Rattle.octets.proofs.Numbers.{numbers-length}
@@ -22,7 +21,7 @@ use Rattle.layout.specs.Places.{wordA, wordB, check}
 use Rattle.layout.specs.Frame.{trainingBits, finalBits, fieldOf, messageOf, coefficientsOf}
 use Rattle.layout.specs.Refusals.{bitRefusals}
 use Rattle.layout.proofs.RoundTrip.{training-laid, training-answers, final-laid, final-answers, sound}
-use Rattle.numbers.specs.Promises.{numbersOf}
+use Rattle.numbers.specs.Promises.{numbersOf, numberOctets}
 use Rattle.scrambler.specs.Line.{tapOf, Scrambles, Descrambles, newest}
 use Rattle.scrambler.specs.Run.{Way, scramble, descramble, runOf, afterOf}
 use Rattle.scrambler.specs.declared.Ran.{Ran}
@@ -32,10 +31,10 @@ use Rattle.scrambler.proofs.Exactly.{run-scrambles, run-descrambles, scrambled-
 use Rattle.symbol.specs.declared.Encoder.{Encoder}
 use Rattle.symbol.specs.Levels.{dataLevels, levelAt}
 use Rattle.symbol.proofs.Levels.{code-of-level}
-use Rattle.signal.specs.Signal.{isSignal, every, pastAfter}
+use Rattle.ranges.specs.Ranges.{every}
+use Rattle.signal.specs.Signal.{isSignal, pastAfter}
 use Rattle.signal.specs.Shaper.{Exactly}
-use Rattle.signal.proofs.Range.{and-true}
-use Rattle.precoder.specs.Octets.{valuesOf}
+use Rattle.ranges.proofs.Laws.{both}
 use Rattle.precoder.specs.Runs.{SendsAll, outputsOf, inputsOf}
 use Rattle.precoder.proofs.Signals.{receives-input}
 use Rattle.precoder.proofs.Back.{outputs-sent, run-done}
@@ -50,7 +49,7 @@ use Rattle.demands.specs.Contracts.{Keeps}
 use Rattle.demands.specs.One.{writeChecks, readChecks, runChecks, frameChecks}
 use Rattle.demands.specs.Two.{Right, done, given, clocked, around, Frames, Scrambling, Symbols, Precoding, Exact}
 use Rattle.demands.proofs.One.{only, found-answer}
-use Rattle.demands.proofs.Fit.{lengths-fit, training-fit, kind-fit, Fit}
+use Rattle.demands.proofs.Fit.{many, lengths-fit, training-fit, kind-fit, Fit}
 
 -- an outcome that is done
 pub same : {N M : Type 0} {o : Outcome N M} {n : N} {m : M} → o .answer ≡ 0 → o .numbers ≡ n → o .memory ≡ m → o ≡ done n m
@@ -69,7 +68,7 @@ abbrev readAs : Bool → List ℕ → List ℕ → Outcome Fields Rooms
 readAs s bits old =
     let f : Found = cond s (record { answer = 0; kind = 0; a = valueOf (fieldOf wordA bits); b = valueOf (fieldOf wordB bits) }) (record { answer = 0; kind = 1; a = 0; b = 0 }) in
     done (record { kind = f .kind; a = f .a; b = f .b })
-    (record { coefficients = cond s (octetsOf 720 (numberBits 32 (coefficientsOf bits))) old; vendor = vendorOctets bits })
+    (record { coefficients = cond s (numberOctets (coefficientsOf bits)) old; vendor = vendorOctets bits })
 
 -- bits of octets
 part-of-bits : (s : List ℕ) (at n : ℕ) → Bits (part at n (bitsOf s))
@@ -80,7 +79,7 @@ inputs-sent : (coefficients past ys : List ℤ) → every isSignal ys ≡ true �
 unfolding SendsAll inputsOf every
 inputs-sent coefficients past [] h = (tt, refl)
 inputs-sent coefficients past (y ∷ ys) h =
-    let p = and-true (isSignal y) (every isSignal ys) h in
+    let p = both (isSignal y) (every isSignal ys) h in
     let g = receives-input coefficients past y (p .0) in
     let r = inputs-sent coefficients (pastAfter past y) ys (p .1) in
     ((g .sends, r .0), rw (g .signal) (r .1))
@@ -110,7 +109,7 @@ module _ (x : Library) (k : Keeps x) where
       pick : (c .kind ≡ 0) ⊎ (c .kind ≡ 1) → answer (bitRefusals (bitsOf (x .write c .memory))) ≡ 0
       pick (inl e) =
           let f = training-fit c h e in
-          let l = numbers-length 32 180 (bitsOf (c .coefficients)) in
+          let l = many (c .coefficients) (f .coefficients) in
           bits _ (ap (λ (o : Outcome None (List ℕ)). bitsOf (o .memory)) (write-training c e h) ∙ training-laid (c .count) (numbersOf (c .coefficients)) (c .a) (c .b) (c .vendor) (f .count) l (f .vendor))
           (training-answers (c .count) (numbersOf (c .coefficients)) (c .a) (c .b) (c .vendor) (f .count) l (f .vendor) .0)
       pick (inr e) =
@@ -221,17 +220,17 @@ module _ (x : Library) (k : Keeps x) where
         let z = k .precode c .answered ∙ h in
         let m = k .precode c .past ∙ held-given _ _ _ z in
         let w = k .precode c .written ∙ held-given _ _ _ z in (
-          outputsOf (valuesOf (c .coefficients)) (valuesOf (c .history)) (valuesOf (c .symbols)),
-          outputs-sent (valuesOf (c .coefficients)) (valuesOf (c .history)) (valuesOf (c .symbols)),
+          outputsOf (numbersOf (c .coefficients)) (numbersOf (c .history)) (numbersOf (c .symbols)),
+          outputs-sent (numbersOf (c .coefficients)) (numbersOf (c .history)) (numbersOf (c .symbols)),
           same z (only _) (λ i. record { history = m i; room = w i }),
         );
     decoded = λ c h.
         let z = k .decode c .answered ∙ h in
         let m = k .decode c .past ∙ held-given _ _ _ z in
         let w = k .decode c .written ∙ held-given _ _ _ z in
-        let r = ranges-are (valuesOf (c .coefficients)) (valuesOf (c .history)) (valuesOf (c .symbols)) (run-done (c .coefficients) (c .history) (c .symbols) (c .room) h .1) in
-        let s = inputs-sent (valuesOf (c .coefficients)) (valuesOf (c .history)) (valuesOf (c .symbols)) (r .2) in
-        (inputsOf (valuesOf (c .coefficients)) (valuesOf (c .history)) (valuesOf (c .symbols)), s .0, s .1, same z (only _) (λ i. record { history = m i; room = w i }));
+        let r = ranges-are (numbersOf (c .coefficients)) (numbersOf (c .history)) (numbersOf (c .symbols)) (run-done (c .coefficients) (c .history) (c .symbols) (c .room) h .1) in
+        let s = inputs-sent (numbersOf (c .coefficients)) (numbersOf (c .history)) (numbersOf (c .symbols)) (r .2) in
+        (inputsOf (numbersOf (c .coefficients)) (numbersOf (c .history)) (numbersOf (c .symbols)), s .0, s .1, same z (only _) (λ i. record { history = m i; room = w i }));
     shaped = λ y h. let z = k .shape y .answered ∙ h in (z, subst (Exactly (x .shape y .numbers)) (held-given _ _ _ z) (k .shape y .value));
   }
 

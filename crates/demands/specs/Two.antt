@@ -8,19 +8,18 @@ use lib.IntN.{ℤ}
 use lib.ListN.{length, getD, replicate}
 use Rattle.answer.specs.Answer.{Refusal, answer}
 use Rattle.octets.specs.Bits.{valueOf, bitsOf, octetsOf, part, laid}
-use Rattle.octets.specs.Signed.{numberBits}
 use Rattle.remainder.specs.Division.{Remainder, generator, polynomial}
 use Rattle.layout.specs.Places.{wordA, wordB, vendor, check}
 use Rattle.layout.specs.Frame.{trainingSync, used, trainingBits, finalBits, fieldOf, messageOf, coefficientsOf}
 use Rattle.layout.specs.Refusals.{hasSync}
-use Rattle.numbers.specs.Promises.{numbersOf}
+use Rattle.numbers.specs.Promises.{numbersOf, numberOctets}
 use Rattle.scrambler.specs.Line.{tapOf, Scrambles, Descrambles, newest}
 use Rattle.scrambler.specs.Run.{Way, scramble, descramble}
 use Rattle.symbol.specs.Levels.{activationLevels, dataLevels, levelAt, activationTests, dataTests, backTests}
 use Rattle.symbol.specs.Encoder.{codeOf, codesOf, x1, sentAfter, heldIn, registerOf}
-use Rattle.signal.specs.Signal.{isSignal, every}
+use Rattle.ranges.specs.Ranges.{every}
+use Rattle.signal.specs.Signal.{isSignal}
 use Rattle.signal.specs.Shaper.{Exactly, shaperTests}
-use Rattle.precoder.specs.Octets.{valuesOf, octetsOf as wordsOf}
 use Rattle.precoder.specs.Runs.{SendsAll, pastAfterAll}
 use Rattle.demands.specs.Library.{Outcome, None, none, WriteCall, ReadCall, Fields, Rooms, RunCall, FrameCall, Line, EncodeCall, Symbol, EncodeRunCall, Codes, PrecodeCall, Signal, Library}
 use Rattle.demands.specs.One.{writeChecks, readChecks, runChecks, frameChecks, encodeChecks, encodeRunChecks, precodeChecks}
@@ -32,10 +31,6 @@ Right checks = answer checks ≡ 0
 -- a list that a lent buffer can hold
 abbrev pub Octets : List ℕ → Type 0
 Octets s = (i : ℕ) → getD s i 0 < 256
-
--- the 720 octets of coefficients: "four each, low octet first"
-abbrev pub inOctets : List ℤ → List ℕ
-inOctets cs = octetsOf 720 (numberBits 32 cs)
 
 -- what is done: 0, these numbers, this memory
 abbrev pub done : {N M : Type 0} → N → M → Outcome N M
@@ -54,7 +49,7 @@ pub record Frames (x : Library) : Type 0 where
   -- "Reading a training frame gives 180 coefficients, A, B and vendor data."
   pub read-training : (c : ReadCall) → Right (readChecks c) → hasSync trainingSync (bitsOf (c .frame)) ≡ true
       → x .read c ≡ done (record { kind = 0; a = valueOf (fieldOf wordA (bitsOf (c .frame))); b = valueOf (fieldOf wordB (bitsOf (c .frame))) })
-      (record { coefficients = inOctets (coefficientsOf (bitsOf (c .frame))); vendor = octetsOf 16 (fieldOf vendor (bitsOf (c .frame))) })
+      (record { coefficients = numberOctets (coefficientsOf (bitsOf (c .frame))); vendor = octetsOf 16 (fieldOf vendor (bitsOf (c .frame))) })
   -- "Reading a final frame .. gives its kind and vendor data, and touches no coefficient buffer"
   pub read-final : (c : ReadCall) → Right (readChecks c) → hasSync trainingSync (bitsOf (c .frame)) ≡ false
       → x .read c ≡ done (record { kind = 1; a = 0; b = 0 }) (record { coefficients = c .coefficients; vendor = octetsOf 16 (fieldOf vendor (bitsOf (c .frame))) })
@@ -103,12 +98,12 @@ pub record Symbols (x : Library) : Type 0 where
 pub record Precoding (x : Library) : Type 0 where
   -- "S is the exact sum of C(k) times y(m-k). v is S/131,072 rounded to the nearest whole number, halves upward .. u = x - v; y = u + 262,144 d, with the one d that puts y from -131,072 to 131,071." "It remembers the last 180 outputs"
   pub precoded : (c : PrecodeCall) → Right (precodeChecks c)
-      → (ys : List ℤ) × SendsAll (valuesOf (c .coefficients)) (valuesOf (c .history)) (valuesOf (c .symbols)) ys
-      × (x .precode c ≡ done none (record { history = wordsOf (pastAfterAll (valuesOf (c .history)) ys); room = wordsOf ys }))
+      → (ys : List ℤ) × SendsAll (numbersOf (c .coefficients)) (numbersOf (c .history)) (numbersOf (c .symbols)) ys
+      × (x .precode c ≡ done none (record { history = numberOctets (pastAfterAll (numbersOf (c .history)) ys); room = numberOctets ys }))
   -- "The receiving end, given y, the same coefficients and the same past, gets x back": the xs in range that go out as these ys
   pub decoded : (c : PrecodeCall) → Right (precodeChecks c)
-      → (xs : List ℤ) × SendsAll (valuesOf (c .coefficients)) (valuesOf (c .history)) xs (valuesOf (c .symbols)) × (every isSignal xs ≡ true)
-      × (x .decode c ≡ done none (record { history = wordsOf (pastAfterAll (valuesOf (c .history)) (valuesOf (c .symbols))); room = wordsOf xs }))
+      → (xs : List ℤ) × SendsAll (numbersOf (c .coefficients)) (numbersOf (c .history)) xs (numbersOf (c .symbols)) × (every isSignal xs ≡ true)
+      × (x .decode c ≡ done none (record { history = numberOctets (pastAfterAll (numbersOf (c .history)) (numbersOf (c .symbols))); room = numberOctets xs }))
   -- "The shaper is handed y as a 32-bit float that is exactly y / 131,072."
   pub shaped : (y : ℤ) → Right (shaperTests y) → (x .shape y .answer ≡ 0) × Exactly (x .shape y .numbers) y
 
@@ -117,7 +112,7 @@ pub record Back (x y : Library) : Type 0 where
   -- a training frame: its kind, A and B; all 180 coefficients, zero beyond the count; vendor data
   pub training : (c : WriteCall) (room vendor : List ℕ) → c .kind ≡ 0 → Right (writeChecks c) → Octets (c .vendor) → length room ≡ 720 → length vendor ≡ 16
       → y .read (record { frame = x .write c .memory; coefficients = room; vendor = vendor })
-      ≡ done (record { kind = 0; a = c .a; b = c .b }) (record { coefficients = inOctets (used (c .count) (numbersOf (c .coefficients))); vendor = c .vendor })
+      ≡ done (record { kind = 0; a = c .a; b = c .b }) (record { coefficients = numberOctets (used (c .count) (numbersOf (c .coefficients))); vendor = c .vendor })
   -- a final frame: its kind and vendor data
   pub final : (c : WriteCall) (room vendor : List ℕ) → c .kind ≡ 1 → Right (writeChecks c) → Octets (c .vendor) → length room ≡ 720 → length vendor ≡ 16
       → y .read (record { frame = x .write c .memory; coefficients = room; vendor = vendor }) ≡ done (record { kind = 1; a = 0; b = 0 }) (record { coefficients = room; vendor = c .vendor })

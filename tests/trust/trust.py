@@ -1,0 +1,27 @@
+"""docs/TRUST.md against the tree: its table of specs/ names every crate that has definitions, with their number of files and lines."""
+import pathlib
+import re
+import sys
+
+ROOT = pathlib.Path(__file__).resolve().parents[2]
+
+
+def counted(crate):
+    """How many files of definitions a crate has, and how many lines that define: no comments, no `use`, nothing blank."""
+    files = [f for f in sorted((ROOT / "crates" / crate / "specs").glob("*.antt")) if f.name != "Lib.antt"]
+    lines = [line.strip() for f in files for line in f.read_text().splitlines()]
+    return len(files), sum(1 for line in lines if line and not line.startswith(("--", "use ")))
+
+
+names = [line.split(":")[0] for line in (ROOT / "crates.txt").read_text().splitlines() if ":" in line and not line.startswith("#")]
+true = {n: counted(n) for n in names if counted(n)[0]}
+said = {m[1]: (int(m[2]), int(m[3])) for m in re.finditer(r"^\| (\w+) \| (\d+) \| (\d+) \|", (ROOT / "docs/TRUST.md").read_text(), re.M)}
+wrong = [f"{n}: said {said.get(n)}, is {true.get(n)}" for n in sorted(set(said) | set(true)) if said.get(n) != true.get(n)]
+if "--write" in sys.argv:
+    for n in true:
+        print(f"| {n} | {true[n][0]} | {true[n][1]} |")
+    sys.exit()
+for w in wrong:
+    print("  " + w)
+print(("FAIL" if wrong else "pass") + f": docs/TRUST.md counts the definitions of {len(true)} crates, {sum(n for _, n in true.values())} lines")
+sys.exit(bool(wrong))
