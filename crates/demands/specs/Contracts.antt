@@ -12,6 +12,7 @@ use Rattle.host.specs.Symbols.{ActivationLevelGiven, DataLevelGiven, CodeGiven,
 use Rattle.host.specs.Supervisor.{Started, StateStepped, CodesRun}
 use Rattle.demands.specs.Library.{Library, WriteCall, ReadCall, RunCall, FrameCall, EncodeCall, EncodeRunCall, PrecodeCall, StartCall, StepCall, CodesCall}
 
+-- each function keeps the contract of the exported one
 pub record Keeps (x : Library) : Type 0 where
   pub write : (c : WriteCall) → FrameWritten (c .kind) (c .count) (c .coefficients) (c .a) (c .b) (c .vendor) (c .frame) (x .write c .answer) (x .write c .memory)
   pub check : (frame : List ℕ) → Checked frame (x .check frame .answer)

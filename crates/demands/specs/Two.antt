@@ -77,6 +77,7 @@ pub record Scrambling (x : Library) : Type 0 where
   -- the same for whole frames
   pub frame-scrambled : (c : FrameCall) → Right (frameChecks c)
       → (s : List ℕ) × Scrambles (tapOf (c .end)) (c .state) (clocked c) s × (x .frame scramble c ≡ done none (record { state = newest (c .state) s; output = around c s }))
+  -- and back
   pub frame-descrambled : (c : FrameCall) → Right (frameChecks c)
       → (f : List ℕ) × Descrambles (tapOf (c .end)) (c .state) (clocked c) f × (x .frame descramble c ≡ done none (record { state = newest (c .state) (clocked c); output = around c f }))
 
@@ -84,13 +85,15 @@ pub record Scrambling (x : Library) : Type 0 where
 pub record Symbols (x : Library) : Type 0 where
   -- "Activation: 0 gives -9/16, 1 gives +9/16."
   pub activation : (bit : ℕ) → Right (activationTests bit) → x .activation bit ≡ done (levelAt activationLevels bit) none
-  -- the table of sixteen levels, and "Going back"
+  -- the table of sixteen levels
   pub level : (code : ℕ) → Right (dataTests code) → x .level code ≡ done (levelAt dataLevels code) none
+  -- "Going back"
   pub code : (code : ℕ) → code ≤ 15 → x .code (levelAt dataLevels code) ≡ done code none
   -- "Y3 = X3, Y2 = X2. Y1 is 1 when an odd number of ones is left after A masks the current and twenty earlier X1; Y0 likewise with B."
   pub encode : (c : EncodeCall) → Right (encodeChecks c)
       → x .encode c ≡ done (record { code = codeOf (c .a) (c .b) (heldIn (c .register)) (c .symbol); sixteenths = levelAt dataLevels (codeOf (c .a) (c .b) (heldIn (c .register)) (c .symbol)) })
       (registerOf (x1 (c .symbol) ∷ heldIn (c .register)))
+  -- a run of symbols, one after the other
   pub encode-run : (c : EncodeRunCall) → Right (encodeRunChecks c)
       → x .encode-run c ≡ done none (record { register = registerOf (sentAfter (heldIn (c .register)) (c .symbols)); codes = codesOf (c .a) (c .b) (heldIn (c .register)) (c .symbols) })
 
@@ -120,6 +123,7 @@ pub record Back (x y : Library) : Type 0 where
   pub run : (c : RunCall) (room : List ℕ) → Right (runChecks c) → length room ≡ length (c .output)
       → y .run descramble (record { end = c .end; state = c .state; input = x .run scramble c .memory .output; bits = c .bits; output = room })
       ≡ done none (record { state = x .run scramble c .memory .state; output = laid room 0 (given c) })
+  -- and a whole frame
   pub frame : (c : FrameCall) (room : List ℕ) → Right (frameChecks c) → Octets (c .frame) → length room ≡ 529
       → y .frame descramble (record { end = c .end; state = c .state; frame = x .frame scramble c .memory .output; output = room })
       ≡ done none (record { state = x .frame scramble c .memory .state; output = c .frame })
