@@ -69,26 +69,36 @@ module _ {M : Type 1} (𝓤 : URA M) (H : Heap 𝓤) (A : Atoms 𝓤) (W : Given
   unfolding partOf
   lends h =
       qed W (‵ (Cell h) ∷ ‵ (Own h) ∷ ‵ (flft κ q) ∷ []) ∵ updating ! $
-      use1 W (‵ (cellAt fullShare (R .mir) (T′.lowered h ∷ []) l 0)) (W .laws .at-raw fullShare (T′.mir erased) l 0 (T′.lowered h)) $ fjoin ! $
+      use1 W (‵ (cellAt fullShare (R .mir) (T′.lowered h ∷ []) l 0)) (W .laws .at-raw fullShare (T′.mir erased) l 0 (T′.lowered h)) $
+      fjoin ! $
       fpack ! (List Val) (λ vs. fsep (cellAt fullShare (R .mir) vs l 0) (R .own h vs)) (T′.lowered h ∷ []) $
       lft-new ! tt (λ ν. move ! (1 ∷ []) $
-      use1 W (later (some (λ (γ : GName). ‵ (Ref ν γ h) ⊛ ‵ (flent (ν ∷ κ) (Body (mem R) l 0 γ))))) (lends-ref 𝓤 H A W R (named 0) (ν ∷ κ) h l 0) $ await ! tt $ pick ! (λ γ. split ! $
+      use1 W (later (some (λ (γ : GName). ‵ (Ref ν γ h) ⊛ ‵ (flent (ν ∷ κ) (Body (mem R) l 0 γ))))) (lends-ref 𝓤 H A W R (named 0) (ν ∷ κ) h l 0) $
+      await ! tt $ pick ! (λ γ. split ! $
       -- [the `&mut`; the lender's part; ν's token; 'a's]
-      move ! (2 ∷ []) $ use1 W (‵ (flft (ν ∷ []) (PosShare·left q)) ⊛ ‵ (fwand (flft (ν ∷ []) (PosShare·left q)) (flft (ν ∷ []) fullShare))) (W .lfts .lft-carve ν (PosShare·left q)) $ split ! $
+      move ! (2 ∷ []) $
+      use1 W (‵ (flft (ν ∷ []) (PosShare·left q)) ⊛ ‵ (fwand (flft (ν ∷ []) (PosShare·left q)) (flft (ν ∷ []) fullShare))) (W .lfts .lft-carve ν (PosShare·left q)) $
+      split ! $
       move ! (4 ∷ []) $ use1 W (‵ (flft κ (PosShare·left q)) ⊛ ‵ (flft κ (PosShare·right q))) (W .lfts .lft-split κ q) $ split ! $
       move ! (2 ∷ 0 ∷ []) $ use2 W (‵ (flft (ν ∷ κ) (PosShare·left q))) (W .lfts .lft-meet (ν ∷ []) κ (PosShare·left q)) $
       -- [the loan's token; 'a's; the way back to ν's; the `&mut`; the lender's part]
-      at-once ! $ show ! (Lent h) (ν, γ) $ nothing ! $ move ! (2 ∷ 0 ∷ []) $ join ! $ move ! (1 ∷ 0 ∷ []) $ join ! $ frame ! $ move ! (1 ∷ 2 ∷ 0 ∷ []) $ frame ! $ fjoin ! $ done !))
+      at-once ! $ show ! (Lent h) (ν, γ) $ nothing ! $ move ! (2 ∷ 0 ∷ []) $ join ! $ move ! (1 ∷ 0 ∷ []) $ join ! $ frame ! $
+      move ! (1 ∷ 2 ∷ 0 ∷ []) $ frame ! $ fjoin ! $ done !))
 
   pub back : (ν : ℕ) (γ : GName) (h : FieldReader) → ent 𝓤 (sep 𝓤 (Toks ν) (sep 𝓤 (sem 𝓤 H A (Kept ν γ)) (A .res γ (R .coded .code h)))) (H .⇛ (sep 𝓤 (sem 𝓤 H A (Cell h)) (sep 𝓤 (sem 𝓤 H A (Own h)) (A .lft κ q))))
   unfolding partOf
   back ν γ h =
       qed W ((‵ (flft (ν ∷ κ) (PosShare·left q)) ⊛ ‵ (flft κ (PosShare·right q)) ⊛ ‵ ftrue) ∷ ‵ (Kept ν γ) ∷ ‵ (fres γ (R .coded .code h)) ∷ []) ∵ updating ! $
-      split ! $ use1 W (‵ (flft (ν ∷ []) (PosShare·left q)) ⊛ ‵ (flft κ (PosShare·left q))) (W .lfts .lft-unmeet (ν ∷ []) κ (PosShare·left q)) $ split ! $ move ! (2 ∷ []) $ split ! $
+      split ! $
+      use1 W (‵ (flft (ν ∷ []) (PosShare·left q)) ⊛ ‵ (flft κ (PosShare·left q))) (W .lfts .lft-unmeet (ν ∷ []) κ (PosShare·left q)) $
+      split ! $ move ! (2 ∷ []) $ split ! $
       -- ['a's right half; true; ν's left; 'a's left; what is kept; the last value]
       move ! (3 ∷ 0 ∷ []) $ use2 W (‵ (flft κ q)) (W .lfts .lft-join κ q) $ move ! (3 ∷ []) $ fsplit ! $
-      move ! (4 ∷ 1 ∷ []) $ use2 W (‵ (flft (ν ∷ []) fullShare)) (apply∗ 𝓤 (A .lft (ν ∷ []) (PosShare·left q)) (A .lft (ν ∷ []) fullShare)) $ lft-end ! tt $ use1 W (‵ (fdead (ν ∷ κ))) (W .lfts .dead-incl (ν ∷ κ) (ν ∷ []) (meet-⊑-left (ν ∷ []) κ)) $
+      move ! (4 ∷ 1 ∷ []) $
+      use2 W (‵ (flft (ν ∷ []) fullShare)) (apply∗ 𝓤 (A .lft (ν ∷ []) (PosShare·left q)) (A .lft (ν ∷ []) fullShare)) $ lft-end ! tt $
+      use1 W (‵ (fdead (ν ∷ κ))) (W .lfts .dead-incl (ν ∷ κ) (ν ∷ []) (meet-⊑-left (ν ∷ []) κ)) $
       -- [the loan's end; the lender's part; 'a's token; true; the last value]
       move ! (0 ∷ 1 ∷ 4 ∷ []) $ use3 W (later (‵ (mem R .lies h l 0))) (ref-back 𝓤 H A W R (ν ∷ κ) γ h l 0) $ await ! tt $
-      fpick ! (λ vs. fsplit ! $ spelt ! R (Is R) (shows 𝓤 H A R) (LL.vals (T.the-type α) (T′.the-laws α)) (LL.tells (T.the-type α) (T′.the-laws α)) fullShare h vs l 0 $
+      fpick ! (λ vs. fsplit ! $
+      spelt ! R (Is R) (shows 𝓤 H A R) (LL.vals (T.the-type α) (T′.the-laws α)) (LL.tells (T.the-type α) (T′.the-laws α)) fullShare h vs l 0 $
       use1 W (‵ (Cell h)) (W .laws .raw-at fullShare (T′.mir erased) l 0 (T′.lowered h)) $ at-once ! $ keep ! (0 ∷ 1 ∷ 2 ∷ []) $ done !)

@@ -41,7 +41,8 @@ abbrev pub Typed : Val → Type 0
 Typed u = Holds (hasTy (T′.mir erased) u) × WT u
 
 -- what whoever owns a reader knows of its machine value
-module _ {M : Type 1} (𝓤 : URA M) (H : Heap 𝓤) (A : Atoms 𝓤) (W : Given 𝓤 H A) (κ : Lft) (r : FieldReader) (u : Val) (is : Is (T.the-row (record { mir = erased; lft = κ })) r (u ∷ [])) where
+module _ {M : Type 1} (𝓤 : URA M) (H : Heap 𝓤) (A : Atoms 𝓤) (W : Given 𝓤 H A) (κ : Lft) (r : FieldReader) (u : Val)
+    (is : Is (T.the-row (record { mir = erased; lft = κ })) r (u ∷ [])) where
   told : u ≡ T′.lowered r
   told = ap only (LL.tells (T.the-type (record { mir = erased; lft = κ })) (T′.the-laws (record { mir = erased; lft = κ })) r _ is)
 
@@ -72,7 +73,8 @@ module _ {M : Type 1} (𝓤 : URA M) (H : Heap 𝓤) (A : Atoms 𝓤) (at-mem : 
 
     pub goes : ent 𝓤 (sep 𝓤 (A .lft κ q) (sem 𝓤 H A Frame)) (sep 𝓤 (Reader .pre to) (sem 𝓤 H A Frame))
     goes =
-        qed W (‵ (flft κ q) ∷ ‵ Frame ∷ []) ∵ move ! (1 ∷ []) $ use1 W (‵ Frame ⊛ ‵ Frame) (shr-slice-copy 𝓤 H A W (named 0) κ u8 .twice s (v ∷ [])) $ split ! $
+        qed W (‵ (flft κ q) ∷ ‵ Frame ∷ []) ∵ move ! (1 ∷ []) $
+        use1 W (‵ Frame ⊛ ‵ Frame) (shr-slice-copy 𝓤 H A W (named 0) κ u8 .twice s (v ∷ [])) $ split ! $
         nothing ! $ owned ! usize (Is usize) (uint-makes 𝓤 H A W w64) n _ (refl, n-fits) $ fjoin ! $ move ! (1 ∷ 0 ∷ []) $ fjoin ! $
         -- [what `reader` is passed owns; what the frame owns; the token]
         nothing ! $ move ! (3 ∷ 0 ∷ []) $ join ! $ join ! $ use1 W (raw (Reader .pre to)) (∗emp 𝓤 _) $ done !
@@ -86,7 +88,10 @@ module _ {M : Type 1} (𝓤 : URA M) (H : Heap 𝓤) (A : Atoms 𝓤) (at-mem : 
     pub comes : (u : Val) → ent 𝓤 (Reader .post to u) (H .⇛ (Came u))
     comes u =
         qed W (raw (Reader .post to u) ∷ []) ∵ updating ! $
-        use1 W (later (some (λ (r : FieldReader). ((‵ (flft κ q) ⊛ ‵ ftrue) ⊛ ‵ (R .own r (u ∷ []))) ⊛ raw (ensured 𝓤 H A reader.ended (reader.clauses 𝓤 H A at-mem run) (κ, tt) (s, (n, tt)) tt r)))) (id⊢ 𝓤 _) $ await ! tt $ pick ! (λ r.
-        split ! $ move ! (1 ∷ []) $ use1 W (raw (fact 𝓤 (Made s n r))) (said r) $ heard ! (Made s n r) (λ e. split ! $ split ! $ move ! (1 ∷ []) $ drop ! $ move ! (1 ∷ []) $
+        use1 W (later (some (λ (r : FieldReader). ((‵ (flft κ q) ⊛ ‵ ftrue) ⊛ ‵ (R .own r (u ∷ []))) ⊛ raw (ensured 𝓤 H A reader.ended (reader.clauses 𝓤 H A at-mem run) (κ, tt) (s, (n, tt)) tt r)))) (id⊢ 𝓤 _) $
+        await ! tt $ pick ! (λ r.
+        split ! $ move ! (1 ∷ []) $ use1 W (raw (fact 𝓤 (Made s n r))) (said r) $ heard ! (Made s n r) (λ e. split ! $ split ! $
+        move ! (1 ∷ []) $ drop ! $ move ! (1 ∷ []) $
         rewrite ! 0 (λ (x : FieldReader). ‵ (R .own x (u ∷ []))) e refl $ peeks ! R (Is R) (shows 𝓤 H A R) h (u ∷ []) (λ is.
-        rewrite ! 0 (λ (x : Val). ‵ (R .own h (x ∷ []))) (told 𝓤 H A W κ h u is) refl $ at-once ! $ check ! (told 𝓤 H A W κ h u is, typed 𝓤 H A W κ h u is) $ done !)))
+        rewrite ! 0 (λ (x : Val). ‵ (R .own h (x ∷ []))) (told 𝓤 H A W κ h u is) refl $ at-once ! $
+        check ! (told 𝓤 H A W κ h u is, typed 𝓤 H A W κ h u is) $ done !)))

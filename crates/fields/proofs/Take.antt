@@ -106,7 +106,11 @@ behind-ref = plain (λ κs. T.the-row (namedLft 2 1 tt κs))
 abbrev stayed : (X : RattleType) (P : List ℕ → ℕ → ℕ → X .Denot → Type 0) → Stays (take.ended X P .signature .params) (take.ended X P .kept)
 stayed X P = (stay-ref (0 ∷ []) tt behind-ref, (stay-none (λ _. u32) yes, tt))
 
-module _ (X : RattleType) (P : List ℕ → ℕ → ℕ → X .Denot → Type 0) (typed : (v : X .Denot) (u : Val) → Is X v (u ∷ []) → Holds (hasTy (tyInt w32) u) × WT u) (read : Name) {M : Type 1} (𝓤 : URA M) (H : Heap 𝓤) (A : Atoms 𝓤) (W : Given 𝓤 H A) (at-mem : Memory → SProp 𝓤) (run : Routine → Fun 𝓤) (κ κ′ : Lft) (q q′ : Share) (bounds : AllOutlive 2 (take.signature X P .outlives) (κ, (κ′, tt))) (b o : ℕ) (γ : GName) (h : FieldReader) (w : ℕ) (w-fits : w < 2 ^ 32) where
+module _ (X : RattleType) (P : List ℕ → ℕ → ℕ → X .Denot → Type 0)
+    (typed : (v : X .Denot) (u : Val) → Is X v (u ∷ []) → Holds (hasTy (tyInt w32) u) × WT u) (read : Name) {M : Type 1} (𝓤 : URA M)
+    (H : Heap 𝓤) (A : Atoms 𝓤) (W : Given 𝓤 H A) (at-mem : Memory → SProp 𝓤) (run : Routine → Fun 𝓤) (κ κ′ : Lft) (q q′ : Share)
+    (bounds : AllOutlive 2 (take.signature X P .outlives) (κ, (κ′, tt))) (b o : ℕ) (γ : GName) (h : FieldReader) (w : ℕ)
+    (w-fits : w < 2 ^ 32) where
   -- 'a, and the struct's type and laws at it
   abbrev α : NamedLft
   α = record { mir = named 1; lft = κ′ }
@@ -156,9 +160,12 @@ module _ (X : RattleType) (P : List ℕ → ℕ → ℕ → X .Denot → Type 0)
   apart fits =
       qed W (‵ Own ∷ (‵ (flft κ′ q′) ⊛ ‵ ftrue) ∷ []) ∵
       use1 W (‵ Own ⊛ ‵ Own) (LL.copy D (T′.the-copy α) 𝓤 H A W .twice h (mach ∷ [])) $ split ! $
-      use1 W (given (mach ∷ [] ≡ mach ∷ []) (‵ (all-own (D .parts) L vh))) (own-open 𝓤 H A W D L vh mach) $ learn ! (λ _. use1 W (‵ (ownAt (D .parts) L 0 (h .frame)) ⊛ ‵ (rest (D .parts) L 0 vh)) (own-out 𝓤 H A W (D .parts) L 0 vh) $ split ! $
+      use1 W (given (mach ∷ [] ≡ mach ∷ []) (‵ (all-own (D .parts) L vh))) (own-open 𝓤 H A W D L vh mach) $
+      learn ! (λ _. use1 W (‵ (ownAt (D .parts) L 0 (h .frame)) ⊛ ‵ (rest (D .parts) L 0 vh)) (own-out 𝓤 H A W (D .parts) L 0 vh) $
+      split ! $
       -- [what the frame owns; what the place owns; what the struct owns; the token]
-      move ! (1 ∷ []) $ drop ! $ nothing ! $ owned ! u32 (Is u32) (uint-makes 𝓤 H A W w32) w _ (refl, w-fits) $ fjoin ! $ owned ! usize (Is usize) (uint-makes 𝓤 H A W w64) (h .at) _ (refl, fits) $ fjoin ! $ move ! (1 ∷ 0 ∷ []) $ fjoin ! $
+      move ! (1 ∷ []) $ drop ! $ nothing ! $ owned ! u32 (Is u32) (uint-makes 𝓤 H A W w32) w _ (refl, w-fits) $ fjoin ! $
+      owned ! usize (Is usize) (uint-makes 𝓤 H A W w64) (h .at) _ (refl, fits) $ fjoin ! $ move ! (1 ∷ 0 ∷ []) $ fjoin ! $
       move ! (2 ∷ 0 ∷ []) $ use2 W (raw (Reading X P 𝓤 H A .pre to-read)) asked $ frame ! $ done !)
 
   read-said : (v : X .Denot) → ent 𝓤 (ensured 𝓤 H A (readEnded X P) (readClauses X P 𝓤) (κ′, tt) (h .frame, (h .at, (w, tt))) tt v) (fact 𝓤 (P (now (h .frame)) (h .at) w v))
@@ -170,7 +177,8 @@ module _ (X : RattleType) (P : List ℕ → ℕ → ℕ → X .Denot → Type 0)
 
   goes-behind : h .at < 2 ^ 64 → ent 𝓤 (emp 𝓤) (Past 𝓤 H A at-mem run .pre to-behind)
   goes-behind fits =
-      qed W [] ∵ nothing ! $ owned ! u32 (Is u32) (uint-makes 𝓤 H A W w32) w _ (refl, w-fits) $ fjoin ! $ owned ! usize (Is usize) (uint-makes 𝓤 H A W w64) (h .at) _ (refl, fits) $ fjoin ! $
+      qed W [] ∵ nothing ! $ owned ! u32 (Is u32) (uint-makes 𝓤 H A W w32) w _ (refl, w-fits) $ fjoin ! $
+      owned ! usize (Is usize) (uint-makes 𝓤 H A W w64) (h .at) _ (refl, fits) $ fjoin ! $
       nothing ! $ join ! $ nothing ! $ move ! (1 ∷ 0 ∷ []) $ join ! $ done !
 
   behind-said : (n : ℕ) → ent 𝓤 (ensured 𝓤 H A behind.ended (behind.clauses 𝓤 H A at-mem run) tt (h .at, (w, tt)) tt n) (fact 𝓤 (Behind (h .at) w n))
@@ -184,15 +192,19 @@ module _ (X : RattleType) (P : List ℕ → ℕ → ℕ → X .Denot → Type 0)
       → ent 𝓤 (⋆ 𝓤 H A (‵ (fobs γ (R .coded .code (moved n))) ∷ ‵ (fbor κ (Body (mem R) b o γ)) ∷ ‵ (flft κ q) ∷ (‵ (flft κ′ q′) ⊛ ‵ ftrue) ∷ ‵ (X .own v (u ∷ [])) ∷ [])) (Post u)
   exits v n u e e′ =
       qed W (‵ (fobs γ (R .coded .code (moved n))) ∷ ‵ (fbor κ (Body (mem R) b o γ)) ∷ ‵ (flft κ q) ∷ (‵ (flft κ′ q′) ⊛ ‵ ftrue) ∷ ‵ (X .own v (u ∷ [])) ∷ []) ∵
-      suffices ! _ (ends-at 𝓤 H A (take.ended X P) (stayed X P) (take.clauses X P 𝓤) W (((κ, (κ′, tt)), (q, (q′, tt)), bounds, a, vals), tt) u v (moved n, (tt, tt)) (tt, (tt, tt))) $ says ! (e, ap moved e′) $
+      suffices ! _ (ends-at 𝓤 H A (take.ended X P) (stayed X P) (take.clauses X P 𝓤) W (((κ, (κ′, tt)), (q, (q′, tt)), bounds, a, vals), tt) u v (moved n, (tt, tt)) (tt, (tt, tt))) $
+      says ! (e, ap moved e′) $
       move ! (2 ∷ 3 ∷ []) $ join ! $ frame ! $ feqI ! (List Val) (vptr b o ∷ []) (vptr b o ∷ []) refl $ fjoin3 ! $
-      nothing ! $ owned ! u32 (Is u32) (uint-makes 𝓤 H A W w32) w _ (refl, w-fits) $ fjoin ! $ move ! (1 ∷ 0 ∷ []) $ fjoin ! $ frame ! $ done !
+      nothing ! $ owned ! u32 (Is u32) (uint-makes 𝓤 H A W w32) w _ (refl, w-fits) $ fjoin ! $ move ! (1 ∷ 0 ∷ []) $ fjoin ! $ frame ! $
+      done !
 
-  module _ (C : Calls 𝓤 H) (Λ : Loops 𝓤 H) (fm : FmC 𝓤 H (W .laws) C) (known-read : Triple 𝓤 (C read) (Reading X P 𝓤 H A)) (known-behind : Triple 𝓤 (C #octets·behind) (Past 𝓤 H A at-mem run)) where
+  module _ (C : Calls 𝓤 H) (Λ : Loops 𝓤 H) (fm : FmC 𝓤 H (W .laws) C) (known-read : Triple 𝓤 (C read) (Reading X P 𝓤 H A))
+      (known-behind : Triple 𝓤 (C #octets·behind) (Past 𝓤 H A at-mem run)) where
     walk : ent 𝓤 (onEntry 𝓤 H A (take.signature X P) (κ, (κ′, tt)) (q, (q′, tt)) a vals) (WpFn 𝓤 H C Λ (function read) (vptr b o ∷ vint w32 w ∷ []) Post)
     walk =
         qed W ((‵ (flft κ q) ⊛ ‵ (flft κ′ q′) ⊛ ‵ ftrue) ∷ ‵ (owns (MutRef (named 0) κ R ∷ u32 ∷ []) a vals) ∷ []) ∵ enter ! C Λ (function read) (vptr b o ∷ vint w32 w ∷ []) _ $
-        alloc1 ! (λ l₀. alloc1 ! (λ l₁. alloc1 ! (λ l₂. alloc1 ! (λ l₃. alloc1 ! (λ l₄. alloc1 ! (λ l₅. alloc1 ! (λ l₆. alloc0 ! $ params1 ! $ pass1 ! (init ! 10 refl (tt, tt)) $ pass1 ! (init ! 8 refl (tt, record { fits = w-fits })) $ pass0 ! $
+        alloc1 ! (λ l₀. alloc1 ! (λ l₁. alloc1 ! (λ l₂. alloc1 ! (λ l₃. alloc1 ! (λ l₄. alloc1 ! (λ l₅. alloc1 ! (λ l₆. alloc0 ! $
+        params1 ! $ pass1 ! (init ! 10 refl (tt, tt)) $ pass1 ! (init ! 8 refl (tt, record { fits = w-fits })) $ pass0 ! $
         move ! (15 ∷ []) $ fsplit ! $ fsplit3 ! $ drop ! $ move ! (17 ∷ []) $ split ! $ move ! (2 ∷ 3 ∷ 0 ∷ []) $
         opens ! tt R {h = h} b o (λ vs. spelt ! R (Is R) (shows 𝓤 H A R) (LL.vals D L) (LL.tells D L) fullShare h vs b o $
         use1 W (‵ (fat fullShare (T′.mir erased) b o mach)) (W .laws .raw-at fullShare (T′.mir erased) b o mach) $
@@ -203,33 +215,44 @@ module _ (X : RattleType) (P : List ℕ → ℕ → ℕ → X .Denot → Type 0)
         -- the function called
         move ! (1 ∷ 5 ∷ []) $ use2 W (raw (Reading X P 𝓤 H A .pre to-read) ⊛ ‵ Own) (apart (wt was .1 .1 .0 .fits)) $ split ! $
         calls-at ! fm (Reading X P 𝓤 H A) known-read to-read (and-then ! (load ! (from ! (stop !)) (look ! 11 refl)) (and-then ! (load ! (from ! (stop !)) (look ! 9 refl)) (and-then ! (load ! (from ! (stop !)) (look ! 15 refl)) (no-more !)))) (λ u.
-        use1 W (later (some (λ (v : X .Denot). ((‵ (flft κ′ q′) ⊛ ‵ ftrue) ⊛ ‵ (X .own v (u ∷ []))) ⊛ raw (ensured 𝓤 H A (readEnded X P) (readClauses X P 𝓤) (κ′, tt) (h .frame, (h .at, (w, tt))) tt v)))) (id⊢ 𝓤 _) $ await ! tt $ pick ! (λ v.
-        split ! $ move ! (1 ∷ []) $ use1 W (raw (fact 𝓤 (P (now (h .frame)) (h .at) w v))) (read-said v) $ heard ! (P (now (h .frame)) (h .at) w v) (λ e. split ! $ move ! (1 ∷ []) $
+        use1 W (later (some (λ (v : X .Denot). ((‵ (flft κ′ q′) ⊛ ‵ ftrue) ⊛ ‵ (X .own v (u ∷ []))) ⊛ raw (ensured 𝓤 H A (readEnded X P) (readClauses X P 𝓤) (κ′, tt) (h .frame, (h .at, (w, tt))) tt v)))) (id⊢ 𝓤 _) $
+        await ! tt $ pick ! (λ v.
+        split ! $ move ! (1 ∷ []) $ use1 W (raw (fact 𝓤 (P (now (h .frame)) (h .at) w v))) (read-said v) $
+        heard ! (P (now (h .frame)) (h .at) w v) (λ e. split ! $ move ! (1 ∷ []) $
         -- [the value; 'a's token; what the struct owns; its cell; the open borrow; obs; auth; w's; _6; …; room for _0; …]
         peeks ! X (Is X) (shows 𝓤 H A X) v (u ∷ []) (λ is. land ! (from ! (stop !)) (init ! 14 refl (typed v u is)) $
         assigns ! (of-opd ! (load ! (from ! (hop ! (look ! 18 refl) (fld ! refl (stop !)))) (look-in ! 3 (sub ! 1 refl (whole !))))) (from ! (stop !)) (init ! 8 refl (tt, wt was .1 .1 .0)) $
         -- `octets::behind`
         use0 W (raw (Past 𝓤 H A at-mem run .pre to-behind)) (goes-behind (wt was .1 .1 .0 .fits)) $
         calls-at ! fm (Past 𝓤 H A at-mem run) known-behind to-behind (and-then ! (load ! (from ! (stop !)) (look ! 9 refl)) (and-then ! (load ! (from ! (stop !)) (look ! 17 refl)) (no-more !))) (λ u′.
-        use1 W (later (some (λ (n : ℕ). (‵ ftrue ⊛ ‵ (usize .own n (u′ ∷ []))) ⊛ raw (ensured 𝓤 H A behind.ended (behind.clauses 𝓤 H A at-mem run) tt (h .at, (w, tt)) tt n)))) (id⊢ 𝓤 _) $ await ! tt $ pick ! (λ n.
-        split ! $ move ! (1 ∷ []) $ use1 W (raw (fact 𝓤 (Behind (h .at) w n))) (behind-said n) $ heard ! (Behind (h .at) w n) (λ e′. split ! $ drop ! $
+        use1 W (later (some (λ (n : ℕ). (‵ ftrue ⊛ ‵ (usize .own n (u′ ∷ []))) ⊛ raw (ensured 𝓤 H A behind.ended (behind.clauses 𝓤 H A at-mem run) tt (h .at, (w, tt)) tt n)))) (id⊢ 𝓤 _) $
+        await ! tt $ pick ! (λ n.
+        split ! $ move ! (1 ∷ []) $ use1 W (raw (fact 𝓤 (Behind (h .at) w n))) (behind-said n) $
+        heard ! (Behind (h .at) w n) (λ e′. split ! $ drop ! $
         -- [the place behind; the value; 'a's token; what the struct owns; its cell; the open borrow; obs; auth; w's; _6; …; room for _0; …]
-        peeks ! usize (Is usize) (shows 𝓤 H A usize) n (u′ ∷ []) (λ is′. land ! (from ! (stop !)) (store ! 11 refl (uint-lawful 𝓤 H A W w64 .typed n _ is′ .0)) $ rewrite ! 11 (λ (x : Val). ‵ (fat fullShare (tyInt w64) l₅ 0 x)) (ap only (is′ .0)) refl $
+        peeks ! usize (Is usize) (shows 𝓤 H A usize) n (u′ ∷ []) (λ is′. land ! (from ! (stop !)) (store ! 11 refl (uint-lawful 𝓤 H A W w64 .typed n _ is′ .0)) $
+        rewrite ! 11 (λ (x : Val). ‵ (fat fullShare (tyInt w64) l₅ 0 x)) (ap only (is′ .0)) refl $
         assigns ! (of-opd ! (load ! (from ! (stop !)) (look ! 11 refl))) (from ! (hop ! (look ! 19 refl) (fld ! refl (stop !)))) (store-in ! 4 (sub ! 1 refl (whole !)) (tt, record { fits = is′ .1 })) $
         assigns ! (of-opd ! (load ! (from ! (stop !)) (look ! 15 refl))) (from ! (stop !)) (init ! 21 refl (typed v u is)) $
         -- the borrow is closed at the reader with the place behind
         move ! (3 ∷ []) $ use1 W (‵ (R .own (moved n) (T′.lowered (moved n) ∷ []))) (again n (is′ .1)) $
-        move ! (4 ∷ []) $ use1 W (‵ (cellAt fullShare (R .mir) (T′.lowered (moved n) ∷ []) b o)) (W .laws .at-raw fullShare (T′.mir erased) b o (T′.lowered (moved n))) $ move ! (0 ∷ 1 ∷ 5 ∷ 6 ∷ 7 ∷ []) $ closes ! tt R (moved n) (T′.lowered (moved n) ∷ []) b o $
+        move ! (4 ∷ []) $
+        use1 W (‵ (cellAt fullShare (R .mir) (T′.lowered (moved n) ∷ []) b o)) (W .laws .at-raw fullShare (T′.mir erased) b o (T′.lowered (moved n))) $
+        move ! (0 ∷ 1 ∷ 5 ∷ 6 ∷ 7 ∷ []) $ closes ! tt R (moved n) (T′.lowered (moved n) ∷ []) b o $
         -- [obs; the borrow; its token; the place behind; the value; 'a's token; w's; _6; …; _0; …]
-        returns ! (look ! 19 refl) $ forget ! 7 refl $ forget ! 9 refl $ forget ! 11 refl $ forget ! 13 refl $ forget ! 15 refl $ forget ! 17 refl $ forget ! 19 refl $
-        move ! (19 ∷ 20 ∷ []) $ free1 ! $ move ! (17 ∷ 18 ∷ []) $ free1 ! $ move ! (15 ∷ 16 ∷ []) $ free1 ! $ move ! (13 ∷ 14 ∷ []) $ free1 ! $ move ! (11 ∷ 12 ∷ []) $ free1 ! $ move ! (9 ∷ 10 ∷ []) $ free1 ! $ move ! (7 ∷ 8 ∷ []) $ free1 ! $ free0 ! $
+        returns ! (look ! 19 refl) $ forget ! 7 refl $ forget ! 9 refl $ forget ! 11 refl $ forget ! 13 refl $ forget ! 15 refl $
+        forget ! 17 refl $ forget ! 19 refl $
+        move ! (19 ∷ 20 ∷ []) $ free1 ! $ move ! (17 ∷ 18 ∷ []) $ free1 ! $ move ! (15 ∷ 16 ∷ []) $ free1 ! $ move ! (13 ∷ 14 ∷ []) $
+        free1 ! $ move ! (11 ∷ 12 ∷ []) $ free1 ! $ move ! (9 ∷ 10 ∷ []) $ free1 ! $ move ! (7 ∷ 8 ∷ []) $ free1 ! $ free0 ! $
         keep ! (0 ∷ 1 ∷ 2 ∷ 5 ∷ 4 ∷ []) $ by ! (exits v n u e e′))))))))))))))))))
       where
         -- what whoever holds the struct knows of its machine value
         wt : Is R h (mach ∷ []) → Holds (hasTy (T′.mir (named 1)) mach) × WT mach
         wt was = LL.lawful D L 𝓤 H A W .typed h _ was .0
 
-module _ (X : RattleType) (P : List ℕ → ℕ → ℕ → X .Denot → Type 0) (typed : (v : X .Denot) (u : Val) → Is X v (u ∷ []) → Holds (hasTy (tyInt w32) u) × WT u) (read : Name) {M : Type 1} (𝓤 : URA M) (H : Heap 𝓤) (A : Atoms 𝓤) (W : Given 𝓤 H A) (mem : Memory → SProp 𝓤) (run : Routine → Fun 𝓤) where
+module _ (X : RattleType) (P : List ℕ → ℕ → ℕ → X .Denot → Type 0)
+    (typed : (v : X .Denot) (u : Val) → Is X v (u ∷ []) → Holds (hasTy (tyInt w32) u) × WT u) (read : Name) {M : Type 1} (𝓤 : URA M)
+    (H : Heap 𝓤) (A : Atoms 𝓤) (W : Given 𝓤 H A) (mem : Memory → SProp 𝓤) (run : Routine → Fun 𝓤) where
   walks : (C : Calls 𝓤 H) (Λ : Loops 𝓤 H) → FmC 𝓤 H (W .laws) C → Triple 𝓤 (C read) (Reading X P 𝓤 H A) → Triple 𝓤 (C #octets·behind) (Past 𝓤 H A mem run)
       → Walks 𝓤 H A (take.ended X P) (stayed X P) (WpFn 𝓤 H C Λ (function read)) (take.clauses X P 𝓤)
   walks C Λ fm known-read known-behind =

@@ -77,9 +77,11 @@ module _ (X : RattleType) (P : List ℕ → ℕ → ℕ → X .Denot → Type 0)
       pub goes : ent 𝓤 (sep 𝓤 (sem 𝓤 H A (C h)) (sep 𝓤 (sem 𝓤 H A (O h)) (A .lft κ q))) (H .⇛ (ex 𝓤 Asked))
       goes =
           qed W (‵ (C h) ∷ ‵ (O h) ∷ ‵ (flft κ q) ∷ []) ∵ updating ! $
-          use3 W (later (some (λ (p : ℕ × GName). raw (Toks 𝓤 H A W κ q l (p .0)) ⊛ ‵ (Ref 𝓤 H A W κ q l (p .0) (p .1) h) ⊛ ‵ (K p)))) (lends 𝓤 H A W κ q l h) $ await ! tt $ pick ! (λ p. split3 ! $
+          use3 W (later (some (λ (p : ℕ × GName). raw (Toks 𝓤 H A W κ q l (p .0)) ⊛ ‵ (Ref 𝓤 H A W κ q l (p .0) (p .1) h) ⊛ ‵ (K p)))) (lends 𝓤 H A W κ q l h) $
+          await ! tt $ pick ! (λ p. split3 ! $
           -- [the tokens; the `&mut`; what is kept]
-          nothing ! $ owned ! u32 (Is u32) (uint-makes 𝓤 H A W w32) w _ (refl, w-fits) $ fjoin ! $ move ! (2 ∷ 0 ∷ []) $ fjoin ! $ move ! (1 ∷ 0 ∷ []) $ join ! $
+          nothing ! $ owned ! u32 (Is u32) (uint-makes 𝓤 H A W w32) w _ (refl, w-fits) $ fjoin ! $ move ! (2 ∷ 0 ∷ []) $ fjoin ! $
+          move ! (1 ∷ 0 ∷ []) $ join ! $
           use1 W (raw (Taking .pre (to p))) (∗emp 𝓤 _) $ at-once ! $ show ! Asked p $ done !)
 
       abbrev pub Came : Val → X .Denot → SProp 𝓤
@@ -88,10 +90,15 @@ module _ (X : RattleType) (P : List ℕ → ℕ → ℕ → X .Denot → Type 0)
       pub comes : (p : ℕ × GName) (u : Val) → ent 𝓤 (sep 𝓤 (Taking .post (to p) u) (sem 𝓤 H A (K p))) (H .⇛ (ex 𝓤 (Came u)))
       comes p u =
           qed W (raw (Taking .post (to p) u) ∷ ‵ (K p) ∷ []) ∵ updating ! $
-          use1 W (later (some (λ (v : X .Denot). (raw (Toks 𝓤 H A W κ q l (p .0)) ⊛ ‵ (X .own v (u ∷ []))) ⊛ raw (ensured 𝓤 H A ended (clauses 𝓤) (p .0 ∷ κ, (κ, tt)) (ref 𝓤 H A W κ q l (p .1) h, (w, tt)) tt v)))) (id⊢ 𝓤 _) $ await ! tt $ pick ! (λ v.
-          split ! $ move ! (1 ∷ []) $ use1 W (some (λ (zs : FieldReader × (Unit {0} × Unit {0})). ‵ (lasts ended (p .0 ∷ κ, (κ, tt)) (ref 𝓤 H A W κ q l (p .1) h, (w, tt)) zs) ⊛ raw (fact 𝓤 (Said h w v (zs .0))))) (id⊢ 𝓤 _) $ pick ! (λ zs.
+          use1 W (later (some (λ (v : X .Denot). (raw (Toks 𝓤 H A W κ q l (p .0)) ⊛ ‵ (X .own v (u ∷ []))) ⊛ raw (ensured 𝓤 H A ended (clauses 𝓤) (p .0 ∷ κ, (κ, tt)) (ref 𝓤 H A W κ q l (p .1) h, (w, tt)) tt v)))) (id⊢ 𝓤 _) $
+          await ! tt $ pick ! (λ v.
+          split ! $ move ! (1 ∷ []) $
+          use1 W (some (λ (zs : FieldReader × (Unit {0} × Unit {0})). ‵ (lasts ended (p .0 ∷ κ, (κ, tt)) (ref 𝓤 H A W κ q l (p .1) h, (w, tt)) zs) ⊛ raw (fact 𝓤 (Said h w v (zs .0))))) (id⊢ 𝓤 _) $
+          pick ! (λ zs.
           split ! $ move ! (1 ∷ []) $ heard ! (Said h w v (zs .0)) (λ e. fsplit ! $
           -- [the last value; …; the tokens and the value; what is kept]
-          rewrite ! 0 (λ (x : FieldReader). ‵ (fres (p .1) (T.the-row (record { mir = named 1; lft = κ }) .coded .code x))) (e .1) refl $ move ! (2 ∷ []) $ split ! $
-          move ! (0 ∷ 4 ∷ 2 ∷ []) $ use3 W (later (‵ (C (past h w)) ⊛ ‵ (O (past h w)) ⊛ ‵ (flft κ q))) (back 𝓤 H A W κ q l (p .0) (p .1) (past h w)) $ await ! tt $
+          rewrite ! 0 (λ (x : FieldReader). ‵ (fres (p .1) (T.the-row (record { mir = named 1; lft = κ }) .coded .code x))) (e .1) refl $
+          move ! (2 ∷ []) $ split ! $
+          move ! (0 ∷ 4 ∷ 2 ∷ []) $
+          use3 W (later (‵ (C (past h w)) ⊛ ‵ (O (past h w)) ⊛ ‵ (flft κ q))) (back 𝓤 H A W κ q l (p .0) (p .1) (past h w)) $ await ! tt $
           at-once ! $ show ! (Came u) v $ check ! (e .0) $ keep ! (1 ∷ 0 ∷ []) $ done !)))

@@ -117,14 +117,19 @@ module _ {M : Type 1} (𝓤 : URA M) (H : Heap 𝓤) (A : Atoms 𝓤) (W : Given
       → ent 𝓤 (⋆ 𝓤 H A (‵ (fobs γ (codedHoleys i32 .code (heres i32 ys))) ∷ ‵ (fbor κ′ (Held i32 (length ys) b o γ)) ∷ ‵ (flft κ′ q′) ∷ ‵ (flft κ q) ∷ ‵ Frame ∷ [])) (Post (vint w64 p))
   exits ys p l e fits =
       qed W (‵ (fobs γ (codedHoleys i32 .code (heres i32 ys))) ∷ ‵ (fbor κ′ (Held i32 (length ys) b o γ)) ∷ ‵ (flft κ′ q′) ∷ ‵ (flft κ q) ∷ ‵ Frame ∷ []) ∵
-      suffices ! _ (ends-at 𝓤 H A fill.ended stayed (fill.clauses 𝓤 H A at-mem run) W (((κ, (κ′, tt)), (q, (q′, tt)), tt, a, at), tt) (vint w64 p) p (tt, (tt, (tt, (ys, tt)))) (tt, (tt, (tt, (l, tt))))) $ says ! e $
+      suffices ! _ (ends-at 𝓤 H A fill.ended stayed (fill.clauses 𝓤 H A at-mem run) W (((κ, (κ′, tt)), (q, (q′, tt)), tt, a, at), tt) (vint w64 p) p (tt, (tt, (tt, (ys, tt)))) (tt, (tt, (tt, (l, tt))))) $
+      says ! e $
       nothing ! $ move ! (3 ∷ 0 ∷ []) $ join ! $ move ! (3 ∷ 0 ∷ []) $ join ! $ frame ! $
       -- [obs; the borrow; what the frame owns]: with the fact on the machine value the first two are what the room owns
-      fjoin ! $ pureI ! (at-slice i32 (x ys) (v′ ∷ [])) (tt, (tt, tt)) (ap (λ (m : ℕ). sliceVal (b, o) m ∷ []) (sym l), subst (Room i32) (sym l) room) $ fjoin ! $ nothing ! $ move ! (1 ∷ 0 ∷ []) $ fjoin ! $
-      owned ! u32 (Is u32) (uint-makes 𝓤 H A W w32) w _ (refl, w-fits) $ fjoin ! $ owned ! usize (Is usize) (uint-makes 𝓤 H A W w64) p₀ _ (refl, p₀-fits) $ fjoin ! $ move ! (1 ∷ 0 ∷ []) $ fjoin ! $ frame ! $
+      fjoin ! $
+      pureI ! (at-slice i32 (x ys) (v′ ∷ [])) (tt, (tt, tt)) (ap (λ (m : ℕ). sliceVal (b, o) m ∷ []) (sym l), subst (Room i32) (sym l) room) $
+      fjoin ! $ nothing ! $ move ! (1 ∷ 0 ∷ []) $ fjoin ! $
+      owned ! u32 (Is u32) (uint-makes 𝓤 H A W w32) w _ (refl, w-fits) $ fjoin ! $
+      owned ! usize (Is usize) (uint-makes 𝓤 H A W w64) p₀ _ (refl, p₀-fits) $ fjoin ! $ move ! (1 ∷ 0 ∷ []) $ fjoin ! $ frame ! $
       owned ! usize (Is usize) (uint-makes 𝓤 H A W w64) p _ (refl, fits) $ done !
 
-  module _ (𝓣 : Tables 𝓤 H) (known-reader : Triple 𝓤 (𝓣 .C #fields·reader) (Reader 𝓤 H A at-mem run)) (known-take : Triple 𝓤 (𝓣 .C #fields·FieldReader·take-signed) (Takes.Taking i32 SignedRead 𝓤 H A)) where
+  module _ (𝓣 : Tables 𝓤 H) (known-reader : Triple 𝓤 (𝓣 .C #fields·reader) (Reader 𝓤 H A at-mem run))
+      (known-take : Triple 𝓤 (𝓣 .C #fields·FieldReader·take-signed) (Takes.Taking i32 SignedRead 𝓤 H A)) where
     abbrev C : Calls 𝓤 H
     C = 𝓣 .C
 
@@ -184,20 +189,26 @@ module _ {M : Type 1} (𝓤 : URA M) (H : Heap 𝓤) (A : Atoms 𝓤) (W : Given
           qed W (At k ys p) ∵ exec ! C Λ En code-mir.turn-1 (anyQ (afterTurn 𝓤 H X Left)) $
           assigns ! (of-opd ! (load ! (from ! (fld ! refl (stop !))) (look-in ! 13 (sub ! 1 refl (whole !))))) (from ! (stop !)) (init ! 5 refl (tt, record { fits = room .0 })) $
           assigns ! (bin ! (load ! (from ! (stop !)) (look ! 4 refl)) (load ! (from ! (stop !)) (look ! 5 refl)) tt) (from ! (stop !)) (init ! 6 refl (tt, tt)) $
-          rewrite ! 6 (λ (t : Bool). ‵ (fat fullShare tyBool l₉ 0 (vbool t))) (lt-ltb k n small) refl $ stays ! (load ! (from ! (stop !)) (look ! 6 refl)) $
+          rewrite ! 6 (λ (t : Bool). ‵ (fat fullShare tyBool l₉ 0 (vbool t))) (lt-ltb k n small) refl $
+          stays ! (load ! (from ! (stop !)) (look ! 6 refl)) $
           -- `take_signed`
           assigns ! (addr ! (from ! (stop !))) (from ! (stop !)) (init ! 8 refl (tt, tt)) $ move ! (1 ∷ 2 ∷ 3 ∷ []) $
-          use3 W (later (some (λ (y : ℕ × GName). raw (Takes.Taking i32 SignedRead 𝓤 H A .pre (Takes.to i32 SignedRead 𝓤 H A W κ q l₅ (h p) w w-fits y)) ⊛ ‵ (Kept 𝓤 H A W κ q l₅ (y .0) (y .1))))) (Takes.goes i32 SignedRead 𝓤 H A W κ q l₅ (h p) w w-fits) $ await ! tt $ pick ! (λ y. split ! $
+          use3 W (later (some (λ (y : ℕ × GName). raw (Takes.Taking i32 SignedRead 𝓤 H A .pre (Takes.to i32 SignedRead 𝓤 H A W κ q l₅ (h p) w w-fits y)) ⊛ ‵ (Kept 𝓤 H A W κ q l₅ (y .0) (y .1))))) (Takes.goes i32 SignedRead 𝓤 H A W κ q l₅ (h p) w w-fits) $
+          await ! tt $ pick ! (λ y. split ! $
           calls-at ! (fmOf 𝓤 H (W .laws) 𝓣) (Takes.Taking i32 SignedRead 𝓤 H A) known-take (Takes.to i32 SignedRead 𝓤 H A W κ q l₅ (h p) w w-fits y) (and-then ! (load ! (from ! (stop !)) (look ! 7 refl)) (and-then ! (load ! (from ! (stop !)) (look ! 11 refl)) (no-more !))) (λ u.
-          use2 W (later (some (λ (z : ℤ). given (SignedRead (now s) p w z) (‵ (i32 .own z (u ∷ [])) ⊛ ‵ (Cell 𝓤 H A W κ q l₅ (h (behindOf p w))) ⊛ ‵ (Own 𝓤 H A W κ q l₅ (h (behindOf p w))) ⊛ ‵ (flft κ q))))) (Takes.comes i32 SignedRead 𝓤 H A W κ q l₅ (h p) w w-fits y u) $ await ! tt $ pick ! (λ z. learn ! (λ e. split ! $
-          peeks ! i32 (Is i32) (shows 𝓤 H A i32) z (u ∷ []) (λ is. drop ! $ split3 ! $ land ! (from ! (stop !)) (init ! 7 refl (sint-lawful 𝓤 H A W w32 .typed z _ is .0)) $ rewrite ! 7 (λ (y : Val). ‵ (fat fullShare (tyInt w32) l₁₀ 0 y)) (ap only (is .0)) refl $
+          use2 W (later (some (λ (z : ℤ). given (SignedRead (now s) p w z) (‵ (i32 .own z (u ∷ [])) ⊛ ‵ (Cell 𝓤 H A W κ q l₅ (h (behindOf p w))) ⊛ ‵ (Own 𝓤 H A W κ q l₅ (h (behindOf p w))) ⊛ ‵ (flft κ q))))) (Takes.comes i32 SignedRead 𝓤 H A W κ q l₅ (h p) w w-fits y u) $
+          await ! tt $ pick ! (λ z. learn ! (λ e. split ! $
+          peeks ! i32 (Is i32) (shows 𝓤 H A i32) z (u ∷ []) (λ is. drop ! $ split3 ! $
+          land ! (from ! (stop !)) (init ! 7 refl (sint-lawful 𝓤 H A W w32 .typed z _ is .0)) $
+          rewrite ! 7 (λ (y : Val). ‵ (fat fullShare (tyInt w32) l₁₀ 0 y)) (ap only (is .0)) refl $
           -- [the reader's cell; what it owns; the token; the room; k; …]: the place in the room is found, and stored to
           assigns ! (bin ! (load ! (from ! (stop !)) (look ! 4 refl)) (lit ! tt) (record { fits = bytes })) (from ! (stop !)) (store ! 5 refl (tt, record { fits = bytes })) $
           assigns ! (bin ! (load ! (from ! (fld ! refl (stop !))) (look-in ! 13 (sub ! 0 refl (whole !)))) (load ! (from ! (stop !)) (look ! 5 refl)) tt) (from ! (stop !)) (init ! 9 refl (tt, tt)) $
           rewrite ! 9 (λ (y : ℕ). ‵ (fat fullShare tyPtr l₁₂ 0 (vptr b y))) (sym (place-is 4 o k)) refl $ move ! (3 ∷ []) $
           elem-out ! i32 (Is i32) (shows 𝓤 H A i32) (sint-vals w32) (sint-tells w32) fullShare ys k (pos 0) b o within (λ _.
           assigns ! (of-opd ! (load ! (from ! (stop !)) (look ! 9 refl))) (from ! (hop ! (look ! 11 refl) (stop !))) (store ! 0 refl (sint-lawful 𝓤 H A W w32 .typed z _ (refl, is .1) .0)) $
-          move ! (1 ∷ []) $ drop ! $ owned ! i32 (Is i32) (sint-makes 𝓤 H A W w32) z _ (refl, is .1) $ move ! (1 ∷ 0 ∷ []) $ elem-put ! i32 fullShare ys k z (vint w32 (ofZ w32 z) ∷ []) b o within $
+          move ! (1 ∷ []) $ drop ! $ owned ! i32 (Is i32) (sint-makes 𝓤 H A W w32) z _ (refl, is .1) $ move ! (1 ∷ 0 ∷ []) $
+          elem-put ! i32 fullShare ys k z (vint w32 (ofZ w32 z) ∷ []) b o within $
           -- [the room; the reader's cell; what it owns; the token; k; …]
           assigns-last ! (bin ! (load ! (from ! (stop !)) (look ! 4 refl)) (lit ! tt) (record { fits = next })) (from ! (stop !)) (store ! 4 refl (tt, record { fits = next })) $
           forget ! 5 refl $ forget ! 6 refl $ forget ! 7 refl $ forget ! 8 refl $ forget ! 9 refl $ by ! (go z e)))))))
@@ -224,9 +235,11 @@ module _ {M : Type 1} (𝓤 : URA M) (H : Heap 𝓤) (A : Atoms 𝓤) (W : Given
           assigns ! (of-opd ! (load ! (from ! (fld ! refl (stop !))) (look-in ! 1 (sub ! 1 refl (whole !))))) (from ! (stop !)) (init ! 15 refl (tt, typed 𝓤 H A W κ (h p) _ is .1 .1 .0)) $
           move ! (0 ∷ 16 ∷ 17 ∷ 18 ∷ []) $ closes-slice ! tt i32 xs ys l b o $
           -- [obs; the borrow; its token; _5; what the reader owns; the token; _6; _8; _9; _10; _11; _12; _1; _2; _3; _4; _7; _0; what the frame owns; and that each local dies]
-          returns ! (look ! 17 refl) $ forget ! 3 refl $ forget ! 6 refl $ forget ! 7 refl $ forget ! 8 refl $ forget ! 12 refl $ forget ! 13 refl $ forget ! 14 refl $ forget ! 15 refl $ forget ! 16 refl $ forget ! 17 refl $
+          returns ! (look ! 17 refl) $ forget ! 3 refl $ forget ! 6 refl $ forget ! 7 refl $ forget ! 8 refl $ forget ! 12 refl $
+          forget ! 13 refl $ forget ! 14 refl $ forget ! 15 refl $ forget ! 16 refl $ forget ! 17 refl $
           move ! (17 ∷ 19 ∷ 12 ∷ 20 ∷ 13 ∷ 21 ∷ 14 ∷ 22 ∷ 15 ∷ 23 ∷ 3 ∷ 24 ∷ 6 ∷ 25 ∷ 16 ∷ 26 ∷ 7 ∷ 27 ∷ 8 ∷ 28 ∷ 9 ∷ 29 ∷ 10 ∷ 30 ∷ 11 ∷ 31 ∷ []) $
-          free1 ! $ free1 ! $ free1 ! $ free1 ! $ free1 ! $ free1 ! $ free1 ! $ free1 ! $ free1 ! $ free1 ! $ free1 ! $ free1 ! $ free1 ! $ free0 ! $
+          free1 ! $ free1 ! $ free1 ! $ free1 ! $ free1 ! $ free1 ! $ free1 ! $ free1 ! $ free1 ! $ free1 ! $ free1 ! $ free1 ! $ free1 ! $
+          free0 ! $
           keep ! (0 ∷ 1 ∷ 2 ∷ 4 ∷ 5 ∷ []) $ by ! (exits ys p l e (typed 𝓤 H A W κ (h p) _ is .1 .1 .0 .fits)))
 
       -- the state that the turn leaves, with one field less
@@ -267,17 +280,26 @@ module _ {M : Type 1} (𝓤 : URA M) (H : Heap 𝓤) (A : Atoms 𝓤) (W : Given
     walk : Is (ShrSlice (named 0) κ u8) s (v ∷ []) → ent 𝓤 (onEntry 𝓤 H A fill.signature (κ, (κ′, tt)) (q, (q′, tt)) a at) (WpFn 𝓤 H C Λ code.function (v ∷ vint w64 p₀ ∷ vint w32 w ∷ v′ ∷ []) Post)
     walk is =
         qed W ((‵ (flft κ q) ⊛ ‵ (flft κ′ q′) ⊛ ‵ ftrue) ∷ ‵ (owns (ShrSlice (named 0) κ u8 ∷ usize ∷ u32 ∷ MutSlice (named 1) κ′ i32 ∷ []) a at) ∷ []) ∵ enter ! C Λ code.function (v ∷ vint w64 p₀ ∷ vint w32 w ∷ v′ ∷ []) _ $
-        alloc1 ! (λ l₀. alloc1 ! (λ l₁. alloc1 ! (λ l₂. alloc1 ! (λ l₃. alloc1 ! (λ l₄. alloc1 ! (λ l₅. alloc1 ! (λ l₆. alloc1 ! (λ l₇. alloc1 ! (λ l₈. alloc1 ! (λ l₉. alloc1 ! (λ l₁₀. alloc1 ! (λ l₁₁. alloc1 ! (λ l₁₂. alloc0 ! $ params1 ! $
-        pass1 ! (init ! 22 refl (shr-slice-lawful 𝓤 H A W (named 0) κ u8 .typed s (v ∷ []) is .0)) $ pass1 ! (init ! 20 refl (tt, record { fits = p₀-fits })) $ pass1 ! (init ! 18 refl (tt, record { fits = w-fits })) $ pass1 ! (init ! 16 refl (tt, (tt, (record { fits = room .0 }, tt)))) $ pass0 ! $
+        alloc1 ! (λ l₀. alloc1 ! (λ l₁. alloc1 ! (λ l₂. alloc1 ! (λ l₃. alloc1 ! (λ l₄. alloc1 ! (λ l₅. alloc1 ! (λ l₆. alloc1 ! (λ l₇. alloc1 ! (λ l₈. alloc1 ! (λ l₉. alloc1 ! (λ l₁₀. alloc1 ! (λ l₁₁. alloc1 ! (λ l₁₂. alloc0 ! $
+        params1 ! $
+        pass1 ! (init ! 22 refl (shr-slice-lawful 𝓤 H A W (named 0) κ u8 .typed s (v ∷ []) is .0)) $
+        pass1 ! (init ! 20 refl (tt, record { fits = p₀-fits })) $ pass1 ! (init ! 18 refl (tt, record { fits = w-fits })) $
+        pass1 ! (init ! 16 refl (tt, (tt, (record { fits = room .0 }, tt)))) $ pass0 ! $
         -- [_12; …; _11; …; _10; …; _9; …; _8; …; _7; …; _6; …; _5; …; _4; …; _3; …; _2; …; _1; …; room for _0; …; the tokens; what the parameters own]
-        move ! (27 ∷ []) $ fsplit ! $ move ! (1 ∷ []) $ fsplit ! $ drop ! $ fsplit ! $ drop ! $ fsplit ! $ move ! (1 ∷ []) $ drop ! $ fsplit ! $ drop ! $ fsplit ! $
-        move ! (29 ∷ []) $ split ! $ move ! (1 ∷ []) $ split ! $ move ! (1 ∷ []) $ drop ! $ move ! (2 ∷ 3 ∷ 0 ∷ []) $ opens-slice ! tt i32 xs b o $
+        move ! (27 ∷ []) $ fsplit ! $ move ! (1 ∷ []) $ fsplit ! $ drop ! $ fsplit ! $ drop ! $ fsplit ! $ move ! (1 ∷ []) $ drop ! $
+        fsplit ! $ drop ! $ fsplit ! $
+        move ! (29 ∷ []) $ split ! $ move ! (1 ∷ []) $ split ! $ move ! (1 ∷ []) $ drop ! $ move ! (2 ∷ 3 ∷ 0 ∷ []) $
+        opens-slice ! tt i32 xs b o $
         -- [the room; the open borrow; obs; auth; the token; what the frame owns; _12; …]
-        move ! (4 ∷ 5 ∷ []) $ use2 W (raw (Reader 𝓤 H A at-mem run .pre (Makes.to 𝓤 H A at-mem run W κ q s p₀ p₀-fits)) ⊛ ‵ Frame) (Makes.goes 𝓤 H A at-mem run W κ q s p₀ p₀-fits) $ split ! $
+        move ! (4 ∷ 5 ∷ []) $
+        use2 W (raw (Reader 𝓤 H A at-mem run .pre (Makes.to 𝓤 H A at-mem run W κ q s p₀ p₀-fits)) ⊛ ‵ Frame) (Makes.goes 𝓤 H A at-mem run W κ q s p₀ p₀-fits) $
+        split ! $
         calls-at ! (fmOf 𝓤 H (W .laws) 𝓣) (Reader 𝓤 H A at-mem run) known-reader (Makes.to 𝓤 H A at-mem run W κ q s p₀ p₀-fits) (and-then ! (load ! (from ! (stop !)) (look ! 28 refl)) (and-then ! (load ! (from ! (stop !)) (look ! 26 refl)) (no-more !))) (λ u.
-        use1 W (later (given ((u ≡ T′.lowered (h p₀)) × Typed u) (‵ (Own 𝓤 H A W κ q l₅ (h p₀)) ⊛ ‵ (flft κ q)))) (Makes.comes 𝓤 H A at-mem run W κ q s p₀ p₀-fits u) $ await ! tt $ learn ! (λ e. split ! $
+        use1 W (later (given ((u ≡ T′.lowered (h p₀)) × Typed u) (‵ (Own 𝓤 H A W κ q l₅ (h p₀)) ⊛ ‵ (flft κ q)))) (Makes.comes 𝓤 H A at-mem run W κ q s p₀ p₀-fits u) $
+        await ! tt $ learn ! (λ e. split ! $
         -- [what the reader owns; the token; what the frame owns; the room; the open borrow; obs; auth; _12; …]
-        land ! (from ! (stop !)) (init ! 17 refl (e .1)) $ rewrite ! 17 (λ (y : Val). ‵ (fat fullShare (T′.mir erased) l₇ 0 y)) (e .0) refl $
+        land ! (from ! (stop !)) (init ! 17 refl (e .1)) $
+        rewrite ! 17 (λ (y : Val). ‵ (fat fullShare (T′.mir erased) l₇ 0 y)) (e .0) refl $
         assigns ! (of-opd ! (load ! (from ! (stop !)) (look ! 17 refl))) (from ! (stop !)) (init ! 21 refl (subst Typed (e .0) (e .1))) $
         assigns ! (of-opd ! (lit ! tt)) (from ! (stop !)) (init ! 19 refl (tt, record { fits = lit< tt })) $
         keep ! (3 ∷ 21 ∷ 0 ∷ 1 ∷ 19 ∷ 15 ∷ 13 ∷ 11 ∷ 9 ∷ 7 ∷ 29 ∷ 27 ∷ 25 ∷ 23 ∷ 17 ∷ 31 ∷ 4 ∷ 5 ∷ 6 ∷ 2 ∷ 32 ∷ 30 ∷ 28 ∷ 26 ∷ 24 ∷ 22 ∷ 20 ∷ 18 ∷ 16 ∷ 14 ∷ 12 ∷ 10 ∷ 8 ∷ []) $
