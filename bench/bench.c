@@ -154,7 +154,7 @@ static void print_processor(void)
 static void print_heading(int rounds, double milliseconds)
 {
     print_processor();
-    printf("Compilers: plain C by gcc %s -O2; ours by Rattle (%s). Other libraries: %s.\n", __VERSION__, RATTLE, others_found);
+    printf("Compilers: plain C by gcc %s -O2; ours by Rattle (%s). Beside them: %s.\n", __VERSION__, RATTLE, others_found);
     printf("Best of %d rounds of %g ms of processor time a side, sides in turn. Nanoseconds; a ratio over 1 is ours the faster.\n\n",
            rounds, milliseconds);
 }
@@ -184,7 +184,7 @@ static void print_table(void)
         }
     }
     for (size_t r = 0; r < row_count; r++) {
-        if (sides[r][2].other != NULL) {
+        if (sides[r][3].other != NULL) {
             printf("\n| Other ways: %s | Theirs | Ratio |\n|---|---:|---:|\n", rows[r].operation);
             for (size_t s = 2; s < SIDES && sides[r][s].other != NULL; s++) {
                 printf("| %s |", sides[r][s].other->name);

@@ -3,7 +3,8 @@
  *
  *   bench.c     rounds, the clock, the table
  *   rows.c      what is measured: inputs, and a pass over them for each operation
- *   others.c    other ways to the check bits: a bit-serial register in plain C, and libosmocore where it was found
+ *   others.c    other ways: a bit-serial register in plain C, and where they were found libosmocore and GNU Radio
+ *   radio.cpp   GNU Radio's scrambler
  *
  * A pass does an operation once over all its inputs, always from the same start, and leaves everything it found in `results`. So the
  * results of two sides can be compared after any number of passes.
@@ -70,7 +71,11 @@ void make_inputs(void);
 extern uint8_t batch[BATCH][SDSL_FRAME_OCTETS]; /* frames with good sync, pad and reserved bits; three with bad check bits */
 extern uint8_t cards[CARDS][SDSL_FRAME_OCTETS]; /* training and final frames, 40 of them refused for one thing or another */
 
+extern uint8_t training[BATCH][SDSL_FRAME_OCTETS];
+extern uint8_t line[2][BATCH][SDSL_FRAME_OCTETS]; /* `training`, scrambled by each end from its start, one after the other */
+
 extern const struct other check_others[];
+extern const struct other scramble_ltu_others[], scramble_ntu_others[], descramble_ltu_others[], descramble_ntu_others[];
 void prepare_others(void);
 extern const char others_found[]; /* which libraries the program was compiled with */
 

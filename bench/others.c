@@ -1,5 +1,5 @@
 /*
- * others.c: other ways to a frame's check bits; see bench.h. Each answers 0 or SDSL_BAD_CHECK for the frames of `batch`, as
+ * others.c: other ways to what the library does; see bench.h. Each way to a frame's check bits answers 0 or SDSL_BAD_CHECK for the frames of `batch`, as
  * sdsl_frame_check does there.
  *
  * The frame's bits lie least bit first in their octets and the first on the line is the highest power, so an octet's turn through a
@@ -47,8 +47,6 @@ static void register_by_bit(void)
 
 #ifdef OSMOCORE
 
-const char others_found[] = "libosmocore " OSMOCORE;
-
 static const struct osmo_crc16gen_code code = {.bits = 16, .poly = 0x1021, .init = 0, .remainder = 0};
 static ubit_t unpacked[BATCH][SDSL_FRAME_BITS];
 
@@ -94,7 +92,6 @@ static void osmo_table(void)
 
 #else
 
-const char others_found[] = "none";
 #define osmo_gen NULL
 #define osmo_gen_unpacked NULL
 #define osmo_table NULL
@@ -112,3 +109,26 @@ const struct other check_others[] = {
     {"bit-serial register, plain C", register_by_bit},
     {NULL, NULL},
 };
+
+/* Defined where GNU Radio's header was found, with its version; its passes are in radio.cpp. */
+#ifdef RADIO
+void radio_scramble_ltu(void), radio_scramble_ntu(void), radio_descramble_ltu(void), radio_descramble_ntu(void);
+#else
+#define radio_scramble_ltu NULL
+#define radio_scramble_ntu NULL
+#define radio_descramble_ltu NULL
+#define radio_descramble_ntu NULL
+#endif
+
+const struct other scramble_ltu_others[] = {{"GNU Radio's lfsr", radio_scramble_ltu}, {NULL, NULL}};
+const struct other scramble_ntu_others[] = {{"GNU Radio's lfsr", radio_scramble_ntu}, {NULL, NULL}};
+const struct other descramble_ltu_others[] = {{"GNU Radio's lfsr", radio_descramble_ltu}, {NULL, NULL}};
+const struct other descramble_ntu_others[] = {{"GNU Radio's lfsr", radio_descramble_ntu}, {NULL, NULL}};
+
+#ifndef OSMOCORE
+#define OSMOCORE "not here"
+#endif
+#ifndef RADIO
+#define RADIO "not here"
+#endif
+const char others_found[] = "libosmocore " OSMOCORE ", GNU Radio " RADIO;

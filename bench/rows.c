@@ -20,6 +20,8 @@ const struct library plain = {
 struct results results;
 uint8_t batch[BATCH][SDSL_FRAME_OCTETS];
 uint8_t cards[CARDS][SDSL_FRAME_OCTETS];
+uint8_t training[BATCH][SDSL_FRAME_OCTETS];
+uint8_t line[2][BATCH][SDSL_FRAME_OCTETS];
 
 /* ---- Inputs ---- */
 
@@ -28,9 +30,7 @@ static struct {
     uint8_t vendor[SDSL_VENDOR_OCTETS];
     uint32_t a, b;
 } written[BATCH];
-static uint8_t good[BATCH][SDSL_FRAME_OCTETS];     /* training frames */
 static uint8_t finals[BATCH][SDSL_FRAME_OCTETS];
-static uint8_t line[2][BATCH][SDSL_FRAME_OCTETS];  /* `good`, scrambled by each end from its start, one after the other */
 static uint32_t word_a, word_b;
 static uint8_t symbols[RUN];
 static uint8_t taps[SDSL_COEFFICIENT_OCTETS];
@@ -63,7 +63,7 @@ static void make_frames(void)
         random_octets(written[i].vendor, SDSL_VENDOR_OCTETS);
         written[i].a = chance_word();
         written[i].b = chance_word();
-        make_frame(SDSL_TRAINING, good[i]);
+        make_frame(SDSL_TRAINING, training[i]);
         make_frame(SDSL_FINAL, finals[i]);
         make_frame(SDSL_TRAINING, batch[i]);
         if (i % 7 == 3) {
@@ -83,7 +83,7 @@ static void make_frames(void)
     for (uint32_t end = SDSL_LTU; end <= SDSL_NTU; end++) {
         uint32_t state = SDSL_SCRAMBLER_START;
         for (size_t i = 0; i < BATCH; i++) {
-            state = ref_scramble_frame(end, state, good[i], SDSL_FRAME_OCTETS, line[end][i], SDSL_FRAME_OCTETS).state;
+            state = ref_scramble_frame(end, state, training[i], SDSL_FRAME_OCTETS, line[end][i], SDSL_FRAME_OCTETS).state;
         }
     }
 }
@@ -166,7 +166,7 @@ static void read_frames(const struct library *library, uint8_t (*frames)[SDSL_FR
 
 static void read_training(const struct library *library)
 {
-    read_frames(library, good, BATCH);
+    read_frames(library, training, BATCH);
 }
 
 static void read_final(const struct library *library)
@@ -183,7 +183,7 @@ static void scramble(const struct library *library, uint32_t end)
 {
     struct sdsl_scrambled next = {0, SDSL_SCRAMBLER_START};
     for (size_t i = 0; i < BATCH; i++) {
-        next = library->scramble_frame(end, next.state, good[i], SDSL_FRAME_OCTETS, results.octets + i * SDSL_FRAME_OCTETS,
+        next = library->scramble_frame(end, next.state, training[i], SDSL_FRAME_OCTETS, results.octets + i * SDSL_FRAME_OCTETS,
                                        SDSL_FRAME_OCTETS);
         results.numbers[2 * i] = next.answer;
         results.numbers[2 * i + 1] = next.state;
@@ -279,10 +279,10 @@ const struct row rows[] = {
     {"check a frame", "frame", BATCH, check, check_others},
     {"read a training frame", "frame", BATCH, read_training, NULL},
     {"read a final frame", "frame", BATCH, read_final, NULL},
-    {"scramble a frame, LTU", "frame", BATCH, scramble_ltu, NULL},
-    {"scramble a frame, NTU", "frame", BATCH, scramble_ntu, NULL},
-    {"descramble a frame, LTU", "frame", BATCH, descramble_ltu, NULL},
-    {"descramble a frame, NTU", "frame", BATCH, descramble_ntu, NULL},
+    {"scramble a frame, LTU", "frame", BATCH, scramble_ltu, scramble_ltu_others},
+    {"scramble a frame, NTU", "frame", BATCH, scramble_ntu, scramble_ntu_others},
+    {"descramble a frame, LTU", "frame", BATCH, descramble_ltu, descramble_ltu_others},
+    {"descramble a frame, NTU", "frame", BATCH, descramble_ntu, descramble_ntu_others},
     {"encoder, in a run", "symbol", RUN, encode_run, NULL},
     {"encoder, a call each", "symbol", RUN, encode_each, NULL},
     {"precoder, in a run", "symbol", RUN, precode, NULL},
