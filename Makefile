@@ -49,7 +49,7 @@ build/pair: $(wildcard $(PAIR)/*.c $(PAIR)/*.h) include/sdsl.h build/libsdsl.a
 bench: build/bench
 	bash bench/run
 
-build/bench: $(wildcard bench/*.c bench/*.h bench/*.cpp) bench/compile include/sdsl.h tests/second/reference.c tests/second/harness.c build/libsdsl.a
+build/bench: $(wildcard bench/*.c bench/*.h bench/*.cpp bench/*.S) bench/compile include/sdsl.h tests/second/reference.c tests/second/harness.c build/libsdsl.a
 	bash bench/compile
 
 test:

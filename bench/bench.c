@@ -1,11 +1,11 @@
 /*
  * bench.c: measures every operation of the library beside plain C and what else there is; see bench.h and docs/PERFORMANCE.md.
  *
- *   bench [rounds [milliseconds]]   the table; in each round each side of each row has so many milliseconds (21 and 5)
- *   bench --frames DIR              writes the sorter's 340 frames to DIR/001 .. DIR/340
+ *   bench [ROUNDS [MILLISECONDS [FILE]]]   the table; in each round each side of each row has so many milliseconds (8 and 5)
+ *   bench --frames DIR                     writes the sorter's 340 frames to DIR/001 .. DIR/340
  *
- * Sides take turns, and of all rounds the best counts. The clock is the processor time of this thread. After each turn the side's
- * results are compared with ours: the status is 1 where any differ.
+ * Sides take turns, and of all rounds the best counts. FILE carries the best of one run on to the next (bench/run). The clock is the
+ * processor time of this thread. After each turn the side's results are compared with ours: the status is 1 where any differ.
  */
 #define _POSIX_C_SOURCE 200809L
 #include "bench.h"
@@ -113,6 +113,43 @@ static void set_up(double nanoseconds)
     }
 }
 
+/* ---- The best so far, in a file ---- */
+
+static int load_best(const char *name)
+{
+    int rounds = 0;
+    size_t r, s;
+    double best;
+    FILE *file = fopen(name, "r");
+    if (file == NULL) {
+        return 0;
+    }
+    if (fscanf(file, "%d", &rounds) != 1) {
+        rounds = 0;
+    }
+    while (fscanf(file, "%zu %zu %lf", &r, &s, &best) == 3 && r < ROWS && s < SIDES) {
+        sides[r][s].best = best;
+    }
+    fclose(file);
+    return rounds;
+}
+
+static void store_best(const char *name, int rounds)
+{
+    FILE *file = fopen(name, "w");
+    if (file == NULL) {
+        perror(name);
+        exit(2);
+    }
+    fprintf(file, "%d\n", rounds);
+    for (size_t r = 0; r < row_count; r++) {
+        for (size_t s = 0; s < SIDES; s++) {
+            fprintf(file, "%zu %zu %.3f\n", r, s, sides[r][s].best);
+        }
+    }
+    fclose(file);
+}
+
 /* ---- Where it runs ---- */
 
 /* Whether the processor is QEMU's translator: it says so in the leaf for hypervisors. */
@@ -170,12 +207,14 @@ static void print_other(const struct side *side, double own)
 
 static void print_table(void)
 {
-    printf("| Operation | Unit | Plain C | Ours | Ratio | Outside | Theirs | Ratio |\n|---|---|---:|---:|---:|---|---:|---:|\n");
+    printf("| Operation | Unit | Plain C | Ours | Ratio | Target | Outside | Theirs | Ratio |\n"
+           "|---|---|---:|---:|---:|---|---|---:|---:|\n");
     for (size_t r = 0; r < row_count; r++) {
         const struct side *side = sides[r];
         int digits = side[0].best < 100 ? 1 : 0;
-        printf("| %s | %s | %.*f | %.*f | %.2f |", rows[r].operation, rows[r].unit, digits, side[1].best, digits, side[0].best,
-               side[1].best / side[0].best);
+        double ratio = side[1].best / side[0].best;
+        printf("| %s | %s | %.*f | %.*f | %.2f | %d, %s |", rows[r].operation, rows[r].unit, digits, side[1].best, digits, side[0].best,
+               ratio, rows[r].target, ratio >= rows[r].target ? "met" : "not met");
         if (side[2].other == NULL) {
             printf(" | | |\n");
         } else {
@@ -223,19 +262,24 @@ int main(int count, char **words)
     if (count == 3 && strcmp(words[1], "--frames") == 0) {
         return write_frames_to(words[2]);
     }
-    int rounds = count > 1 ? atoi(words[1]) : 21;
+    int rounds = count > 1 ? atoi(words[1]) : 8;
     double milliseconds = count > 2 ? atof(words[2]) : 5;
-    if (count > 3 || rounds < 1 || milliseconds <= 0 || row_count > ROWS) {
-        fprintf(stderr, "usage: bench [rounds [milliseconds]] | bench --frames DIR\n");
+    const char *carried = count > 3 ? words[3] : NULL;
+    if (count > 4 || rounds < 1 || milliseconds <= 0 || row_count > ROWS) {
+        fprintf(stderr, "usage: bench [ROUNDS [MILLISECONDS [FILE]]] | bench --frames DIR\n");
         return 2;
     }
     prepare_others();
+    int before = carried != NULL ? load_best(carried) : 0;
     set_up(1e6 * milliseconds);
-    print_heading(rounds, milliseconds);
+    print_heading(before + rounds, milliseconds);
     for (int round = 0; round < rounds; round++) {
         for (size_t r = 0; r < row_count; r++) {
             measure(&rows[r], sides[r]);
         }
+    }
+    if (carried != NULL) {
+        store_best(carried, before + rounds);
     }
     print_table();
     printf("\n");

@@ -5,6 +5,7 @@
  *   rows.c      what is measured: inputs, and a pass over them for each operation
  *   others.c    other ways: a bit-serial register in plain C, and where they were found libosmocore and GNU Radio
  *   radio.cpp   GNU Radio's scrambler
+ *   shift.S     where the two libraries lie in memory
  *
  * A pass does an operation once over all its inputs, always from the same start, and leaves everything it found in `results`. So the
  * results of two sides can be compared after any number of passes.
@@ -59,6 +60,7 @@ struct row {
     const char *operation;
     const char *unit; /* what the nanoseconds are for */
     size_t units;     /* in a pass */
+    int target;       /* how many times as fast as plain C it has to be */
     void (*pass)(const struct library *library);
     const struct other *others; /* other ways, the first one in the main table; the last has no name */
 };

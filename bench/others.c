@@ -1,6 +1,6 @@
 /*
- * others.c: other ways to what the library does; see bench.h. Each way to a frame's check bits answers 0 or SDSL_BAD_CHECK for the frames of `batch`, as
- * sdsl_frame_check does there.
+ * others.c: other ways to what the library does; see bench.h. Each way to the check bits answers 0 or SDSL_BAD_CHECK for the frames of
+ * `batch`, as sdsl_frame_check does there.
  *
  * The frame's bits lie least bit first in their octets and the first on the line is the highest power, so an octet's turn through a
  * reflected register (0x8408 for D^16 + D^12 + D^5 + 1, starting at 0) has the order of the line, and what stands in it at the end is
