@@ -3,7 +3,8 @@
  *
  *   bench.c     rounds, the clock, the table
  *   rows.c      what is measured: inputs, and a pass over them for each operation
- *   others.c    other ways: a bit-serial register in plain C, and where they were found libosmocore and GNU Radio
+ *   others.c    other ways: a bit-serial register in plain C, and where they were found libosmocore, libcrcutil and GNU Radio
+ *   crcutil.cpp libcrcutil
  *   radio.cpp   GNU Radio's scrambler
  *   shift.S     where the two libraries lie in memory
  *

@@ -45,6 +45,19 @@ static void register_by_bit(void)
     }
 }
 
+/* For ways that take whole octets: the message's first two bits end octet 1 and its last three begin octet 526; these go by the bit. */
+typedef uint32_t octets_way(uint32_t rest, const uint8_t *octets, size_t count);
+
+__attribute__((unused)) static void by_octets(octets_way *way)
+{
+    for (size_t i = 0; i < BATCH; i++) {
+        uint32_t rest = by_bit(0, batch[i], SDSL_COEFFICIENT_BIT, 16);
+        rest = way(rest, batch[i] + 2, 524);
+        rest = by_bit(rest, batch[i], 8 * 526 + 1, SDSL_CHECK_BIT - 1);
+        results.numbers[i] = rest == received(batch[i]) ? SDSL_DONE : SDSL_BAD_CHECK;
+    }
+}
+
 #ifdef OSMOCORE
 
 static const struct osmo_crc16gen_code code = {.bits = 16, .poly = 0x1021, .init = 0, .remainder = 0};
@@ -79,15 +92,15 @@ static void osmo_gen_unpacked(void)
     }
 }
 
-/* By the octet, with a table of 256: from the rest of octet 1 through octet 525, then three bits by hand. */
+/* With a table of 256. */
+static uint32_t osmo_octets(uint32_t rest, const uint8_t *octets, size_t count)
+{
+    return osmo_crc16_ccitt((uint16_t)rest, octets, count);
+}
+
 static void osmo_table(void)
 {
-    for (size_t i = 0; i < BATCH; i++) {
-        uint32_t rest = osmo_crc16_ccitt_byte(0, batch[i][1] & 0xC0);
-        rest = osmo_crc16_ccitt((uint16_t)rest, batch[i] + 2, 524);
-        rest = by_bit(rest, batch[i], 8 * 526 + 1, SDSL_CHECK_BIT - 1);
-        results.numbers[i] = rest == received(batch[i]) ? SDSL_DONE : SDSL_BAD_CHECK;
-    }
+    by_octets(osmo_octets);
 }
 
 #else
@@ -102,10 +115,23 @@ void prepare_others(void)
 
 #endif
 
+/* Defined where libcrcutil was found, with its version; crcutil.cpp calls it. */
+#ifdef CRCUTIL
+octets_way crcutil_octets;
+
+static void crcutil_words(void)
+{
+    by_octets(crcutil_octets);
+}
+#else
+#define crcutil_words NULL
+#endif
+
 const struct other check_others[] = {
     {"osmo_crc16gen", osmo_gen},
     {"osmo_crc16gen, bits unpacked beforehand", osmo_gen_unpacked},
     {"osmo_crc16_ccitt, by the octet", osmo_table},
+    {"libcrcutil, by the word", crcutil_words},
     {"bit-serial register, plain C", register_by_bit},
     {NULL, NULL},
 };
@@ -128,7 +154,10 @@ const struct other descramble_ntu_others[] = {{"GNU Radio's lfsr", radio_descram
 #ifndef OSMOCORE
 #define OSMOCORE "not here"
 #endif
+#ifndef CRCUTIL
+#define CRCUTIL "not here"
+#endif
 #ifndef RADIO
 #define RADIO "not here"
 #endif
-const char others_found[] = "libosmocore " OSMOCORE ", GNU Radio " RADIO;
+const char others_found[] = "libosmocore " OSMOCORE ", libcrcutil " CRCUTIL ", GNU Radio " RADIO;
