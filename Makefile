@@ -1,11 +1,12 @@
 # make                      builds the static library for a card's host software, build/libsdsl.a, and the programs, build/lister
 # make test                 proves every crate, then runs every test; the last line is 'N passed, 0 failed'
 # make pair                 builds the example host, build/pair, which trains two cards in memory (examples/pair)
+# make bench                measures every operation against plain C and what else there is (docs/PERFORMANCE.md)
 # make install PREFIX=..    header, library, sdsl.pc, the programs as sdsl-NAME, their man pages; DESTDIR is respected
 # make uninstall PREFIX=..  takes the same files away again
 # make clean                removes what was built
 # make help                 prints this
-.PHONY: all test pair install uninstall clean help
+.PHONY: all test pair bench install uninstall clean help
 
 VERSION = 0.1.0
 PROGRAMS = lister
@@ -44,6 +45,12 @@ pair: build/pair
 
 build/pair: $(wildcard $(PAIR)/*.c $(PAIR)/*.h) include/sdsl.h build/libsdsl.a
 	$(SDSL_CC) $(STRICT) $(CFLAGS) -I include -o $@ $(filter %.c,$^) build/libsdsl.a
+
+bench: build/bench
+	bash bench/run
+
+build/bench: $(wildcard bench/*.c bench/*.h bench/*.cpp bench/*.S) bench/compile include/sdsl.h tests/second/reference.c tests/second/harness.c build/libsdsl.a
+	bash bench/compile
 
 test:
 	bash tests/run

@@ -1,0 +1,290 @@
+/*
+ * bench.c: measures every operation of the library beside plain C and what else there is; see bench.h and docs/PERFORMANCE.md.
+ *
+ *   bench [ROUNDS [MILLISECONDS [FILE]]]   the table; in each round each side of each row has so many milliseconds (8 and 5)
+ *   bench --frames DIR                     writes the sorter's 340 frames to DIR/001 .. DIR/340
+ *
+ * Sides take turns, and of all rounds the best counts. FILE carries the best of one run on to the next (bench/run). The clock is the
+ * processor time of this thread. After each turn the side's results are compared with ours: the status is 1 where any differ.
+ */
+#define _POSIX_C_SOURCE 200809L
+#include "bench.h"
+
+#include <cpuid.h>
+#include <stdbool.h>
+#include <stdio.h>
+#include <stdlib.h>
+#include <string.h>
+#include <time.h>
+
+#define SIDES 8 /* ours, plain C, and up to six others */
+#define ROWS 32
+
+/* One side of a row. */
+struct side {
+    const struct library *library; /* NULL for another way */
+    const struct other *other;
+    size_t passes; /* in a turn; 0 where the side is not here */
+    double best;   /* nanoseconds a unit */
+};
+
+static struct side sides[ROWS][SIDES];
+static volatile uint8_t sink;
+static size_t differing;
+
+static double now(void)
+{
+    struct timespec time;
+    if (clock_gettime(CLOCK_THREAD_CPUTIME_ID, &time) != 0) {
+        abort();
+    }
+    return 1e9 * (double)time.tv_sec + (double)time.tv_nsec;
+}
+
+static void pass(const struct row *row, const struct side *side)
+{
+    if (side->library != NULL) {
+        row->pass(side->library);
+    } else {
+        side->other->pass();
+    }
+    sink ^= (uint8_t)(results.octets[7] ^ results.numbers[1]);
+}
+
+/* Nanoseconds for `passes` of them. */
+static double turn(const struct row *row, const struct side *side, size_t passes)
+{
+    double before = now();
+    for (size_t i = 0; i < passes; i++) {
+        pass(row, side);
+    }
+    return now() - before;
+}
+
+/* How many passes fill a turn. */
+static size_t passes_for(const struct row *row, const struct side *side, double nanoseconds)
+{
+    size_t passes = 1;
+    double took = turn(row, side, passes);
+    while (took < nanoseconds / 2) {
+        passes *= 2;
+        took = turn(row, side, passes);
+    }
+    return passes;
+}
+
+/* A turn of each side, one after the other; the first side, ours, is what the others have to agree with. */
+static void measure(const struct row *row, struct side *of_row)
+{
+    static struct results first;
+    for (size_t s = 0; s < SIDES; s++) {
+        struct side *side = &of_row[s];
+        if (side->passes == 0) {
+            continue;
+        }
+        memset(&results, 0, sizeof results);
+        double took = turn(row, side, side->passes) / (double)(side->passes * row->units);
+        if (side->best == 0 || took < side->best) {
+            side->best = took;
+        }
+        if (s == 0) {
+            first = results;
+        } else if (memcmp(&first, &results, sizeof first) != 0) {
+            differing++;
+            printf("DIFFERS: %s: %s\n", row->operation, side->library != NULL ? side->library->name : side->other->name);
+        }
+    }
+}
+
+static void set_up(double nanoseconds)
+{
+    for (size_t r = 0; r < row_count; r++) {
+        sides[r][0].library = &ours;
+        sides[r][1].library = &plain;
+        for (size_t s = 2; s < SIDES && rows[r].others != NULL && rows[r].others[s - 2].name != NULL; s++) {
+            sides[r][s].other = &rows[r].others[s - 2];
+        }
+        for (size_t s = 0; s < SIDES; s++) {
+            struct side *side = &sides[r][s];
+            if (side->library != NULL || (side->other != NULL && side->other->pass != NULL)) {
+                side->passes = passes_for(&rows[r], side, nanoseconds);
+            }
+        }
+    }
+}
+
+/* ---- The best so far, in a file ---- */
+
+static int load_best(const char *name)
+{
+    int rounds = 0;
+    size_t r, s;
+    double best;
+    FILE *file = fopen(name, "r");
+    if (file == NULL) {
+        return 0;
+    }
+    if (fscanf(file, "%d", &rounds) != 1) {
+        rounds = 0;
+    }
+    while (fscanf(file, "%zu %zu %lf", &r, &s, &best) == 3 && r < ROWS && s < SIDES) {
+        sides[r][s].best = best;
+    }
+    fclose(file);
+    return rounds;
+}
+
+static void store_best(const char *name, int rounds)
+{
+    FILE *file = fopen(name, "w");
+    if (file == NULL) {
+        perror(name);
+        exit(2);
+    }
+    fprintf(file, "%d\n", rounds);
+    for (size_t r = 0; r < row_count; r++) {
+        for (size_t s = 0; s < SIDES; s++) {
+            fprintf(file, "%zu %zu %.3f\n", r, s, sides[r][s].best);
+        }
+    }
+    fclose(file);
+}
+
+/* ---- Where it runs ---- */
+
+/* Whether the processor is QEMU's translator: it says so in the leaf for hypervisors. */
+static bool emulated(void)
+{
+    unsigned int a, b, c, d;
+    char signature[13] = {0};
+    __cpuid(0x40000000, a, b, c, d);
+    memcpy(signature, &b, 4);
+    memcpy(signature + 4, &c, 4);
+    memcpy(signature + 8, &d, 4);
+    return a >= 0x40000000 && strcmp(signature, "TCGTCGTCGTCG") == 0;
+}
+
+static void print_processor(void)
+{
+    unsigned int words[12] = {0};
+    char name[49] = "unknown";
+    if (__get_cpuid_max(0x80000000, NULL) >= 0x80000004) {
+        for (unsigned int leaf = 0; leaf < 3; leaf++) {
+            __cpuid(0x80000002 + leaf, words[4 * leaf], words[4 * leaf + 1], words[4 * leaf + 2], words[4 * leaf + 3]);
+        }
+        memcpy(name, words, 48);
+    }
+    const char *host = getenv("BENCH_HOST");
+    if (emulated()) {
+        printf("Processor: %s. EMULATED: %s (all sides alike).\n", host != NULL ? host : "not told", name);
+    } else {
+        printf("Processor: %s. Not emulated.\n", name);
+    }
+}
+
+/* ---- The table ---- */
+
+#ifndef RATTLE
+#define RATTLE "not told"
+#endif
+
+static void print_heading(int rounds, double milliseconds)
+{
+    print_processor();
+    printf("Compilers: plain C by gcc %s -O2; ours by Rattle (%s). Beside them: %s.\n", __VERSION__, RATTLE, others_found);
+    printf("Best of %d rounds of %g ms of processor time a side, sides in turn. Nanoseconds; a ratio over 1 is ours the faster.\n\n",
+           rounds, milliseconds);
+}
+
+static void print_other(const struct side *side, double own)
+{
+    if (side->passes == 0) {
+        printf(" not here | |\n");
+    } else {
+        printf(" %.0f | %.2f |\n", side->best, side->best / own);
+    }
+}
+
+static void print_table(void)
+{
+    printf("| Operation | Unit | Plain C | Ours | Ratio | Target | Outside | Theirs | Ratio |\n"
+           "|---|---|---:|---:|---:|---|---|---:|---:|\n");
+    for (size_t r = 0; r < row_count; r++) {
+        const struct side *side = sides[r];
+        int digits = side[0].best < 100 ? 1 : 0;
+        double ratio = side[1].best / side[0].best;
+        printf("| %s | %s | %.*f | %.*f | %.2f | %d, %s |", rows[r].operation, rows[r].unit, digits, side[1].best, digits, side[0].best,
+               ratio, rows[r].target, ratio >= rows[r].target ? "met" : "not met");
+        if (side[2].other == NULL) {
+            printf(" | | |\n");
+        } else {
+            printf(" %s |", side[2].other->name);
+            print_other(&side[2], side[0].best);
+        }
+    }
+    for (size_t r = 0; r < row_count; r++) {
+        if (sides[r][3].other != NULL) {
+            printf("\n| Other ways: %s | Theirs | Ratio |\n|---|---:|---:|\n", rows[r].operation);
+            for (size_t s = 2; s < SIDES && sides[r][s].other != NULL; s++) {
+                printf("| %s |", sides[r][s].other->name);
+                print_other(&sides[r][s], sides[r][0].best);
+            }
+        }
+    }
+}
+
+/* The paper's highest rate: 2,312 kbit/s and 8 kbit/s of overhead, three bits to a symbol. */
+static void print_to_spare(const struct row *row)
+{
+    double symbol = 3e6 / (2312 + 8);
+    double own = sides[row - rows][0].best;
+    printf("%s: %.1f ns of the %.1f ns that a symbol lasts at the highest rate: one core keeps up %.1f times%s.\n",
+           row->operation, own, symbol, symbol / own, emulated() ? " (EMULATED; says little of a real x86-64)" : "");
+}
+
+static int write_frames_to(const char *folder)
+{
+    for (int i = 0; i < CARDS; i++) {
+        char name[4096];
+        snprintf(name, sizeof name, "%s/%03d", folder, i + 1);
+        FILE *file = fopen(name, "wb");
+        if (file == NULL || fwrite(cards[i], SDSL_FRAME_OCTETS, 1, file) != 1 || fclose(file) != 0) {
+            perror(name);
+            return 1;
+        }
+    }
+    return 0;
+}
+
+int main(int count, char **words)
+{
+    make_inputs();
+    if (count == 3 && strcmp(words[1], "--frames") == 0) {
+        return write_frames_to(words[2]);
+    }
+    int rounds = count > 1 ? atoi(words[1]) : 8;
+    double milliseconds = count > 2 ? atof(words[2]) : 5;
+    const char *carried = count > 3 ? words[3] : NULL;
+    if (count > 4 || rounds < 1 || milliseconds <= 0 || row_count > ROWS) {
+        fprintf(stderr, "usage: bench [ROUNDS [MILLISECONDS [FILE]]] | bench --frames DIR\n");
+        return 2;
+    }
+    prepare_others();
+    int before = carried != NULL ? load_best(carried) : 0;
+    set_up(1e6 * milliseconds);
+    print_heading(before + rounds, milliseconds);
+    for (int round = 0; round < rounds; round++) {
+        for (size_t r = 0; r < row_count; r++) {
+            measure(&rows[r], sides[r]);
+        }
+    }
+    if (carried != NULL) {
+        store_best(carried, before + rounds);
+    }
+    print_table();
+    printf("\n");
+    print_to_spare(encoder_row);
+    print_to_spare(precoder_row);
+    printf("%s\n", differing == 0 ? "All sides agree." : "SIDES DIFFER.");
+    return differing == 0 ? 0 : 1;
+}

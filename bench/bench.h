@@ -1,0 +1,85 @@
+/*
+ * bench.h: what the benchmark's parts share.
+ *
+ *   bench.c     rounds, the clock, the table
+ *   rows.c      what is measured: inputs, and a pass over them for each operation
+ *   others.c    other ways: a bit-serial register in plain C, and where they were found libosmocore, libcrcutil and GNU Radio
+ *   crcutil.cpp libcrcutil
+ *   radio.cpp   GNU Radio's scrambler
+ *   shift.S     where the two libraries lie in memory
+ *
+ * A pass does an operation once over all its inputs, always from the same start, and leaves everything it found in `results`. So the
+ * results of two sides can be compared after any number of passes.
+ */
+#ifndef BENCH_H
+#define BENCH_H
+
+#include "sdsl.h"
+
+#include <stddef.h>
+#include <stdint.h>
+
+#define BATCH 20    /* frames in a pass */
+#define CARDS 340   /* frames for the sorter */
+#define RUN 2048    /* symbols in a run of the encoder or precoder */
+#define CODES 20000 /* codes for the supervisor */
+
+/* A side: the functions of sdsl.h, ours or those of tests/second/reference.c. */
+struct library {
+    const char *name;
+    __typeof__(sdsl_frame_write) *frame_write;
+    __typeof__(sdsl_frame_check) *frame_check;
+    __typeof__(sdsl_frame_read) *frame_read;
+    __typeof__(sdsl_scramble_frame) *scramble_frame;
+    __typeof__(sdsl_descramble_frame) *descramble_frame;
+    __typeof__(sdsl_encode) *encode;
+    __typeof__(sdsl_encode_run) *encode_run;
+    __typeof__(sdsl_precode) *precode;
+    __typeof__(sdsl_decode) *decode;
+    __typeof__(sdsl_start) *start;
+    __typeof__(sdsl_step) *step;
+    __typeof__(sdsl_run_codes) *run_codes;
+};
+extern const struct library ours, plain;
+
+/* What a pass found. One of these is written by all sides in turn, so that all are lent the same memory. */
+struct results {
+    uint32_t numbers[CODES];
+    struct sdsl_supervisor state;
+    uint8_t octets[CARDS * (SDSL_COEFFICIENT_OCTETS + SDSL_VENDOR_OCTETS)];
+};
+extern struct results results;
+
+/* Another way to the same result: a pass, and where the library it needs was not found at compile time none. */
+struct other {
+    const char *name;
+    void (*pass)(void);
+};
+
+/* An operation. */
+struct row {
+    const char *operation;
+    const char *unit; /* what the nanoseconds are for */
+    size_t units;     /* in a pass */
+    int target;       /* how many times as fast as plain C it has to be */
+    void (*pass)(const struct library *library);
+    const struct other *others; /* other ways, the first one in the main table; the last has no name */
+};
+extern const struct row rows[];
+extern const size_t row_count;
+extern const struct row *const encoder_row, *const precoder_row;
+
+/* Inputs, made once from one seed. */
+void make_inputs(void);
+extern uint8_t batch[BATCH][SDSL_FRAME_OCTETS]; /* frames with good sync, pad and reserved bits; three with bad check bits */
+extern uint8_t cards[CARDS][SDSL_FRAME_OCTETS]; /* training and final frames, 36 of them refused with 5 to 8 */
+
+extern uint8_t training[BATCH][SDSL_FRAME_OCTETS];
+extern uint8_t line[2][BATCH][SDSL_FRAME_OCTETS]; /* `training`, scrambled by each end from its start, one after the other */
+
+extern const struct other check_others[];
+extern const struct other scramble_ltu_others[], scramble_ntu_others[], descramble_ltu_others[], descramble_ntu_others[];
+void prepare_others(void);
+extern const char others_found[]; /* which libraries the program was compiled with */
+
+#endif

@@ -1,0 +1,295 @@
+/* rows.c: see bench.h. */
+#include "bench.h"
+
+#include "../tests/second/harness.h"
+#include "../tests/second/reference.h"
+
+#include <string.h>
+
+const struct library ours = {
+    "ours",
+    sdsl_frame_write, sdsl_frame_check, sdsl_frame_read, sdsl_scramble_frame, sdsl_descramble_frame,
+    sdsl_encode, sdsl_encode_run, sdsl_precode, sdsl_decode, sdsl_start, sdsl_step, sdsl_run_codes,
+};
+const struct library plain = {
+    "plain C",
+    ref_frame_write, ref_frame_check, ref_frame_read, ref_scramble_frame, ref_descramble_frame,
+    ref_encode, ref_encode_run, ref_precode, ref_decode, ref_start, ref_step, ref_run_codes,
+};
+
+struct results results;
+uint8_t batch[BATCH][SDSL_FRAME_OCTETS];
+uint8_t cards[CARDS][SDSL_FRAME_OCTETS];
+uint8_t training[BATCH][SDSL_FRAME_OCTETS];
+uint8_t line[2][BATCH][SDSL_FRAME_OCTETS];
+
+/* ---- Inputs ---- */
+
+static struct {
+    uint8_t coefficients[SDSL_COEFFICIENT_OCTETS];
+    uint8_t vendor[SDSL_VENDOR_OCTETS];
+    uint32_t a, b;
+} written[BATCH];
+static uint8_t finals[BATCH][SDSL_FRAME_OCTETS];
+static uint32_t word_a, word_b;
+static uint8_t symbols[RUN];
+static uint8_t taps[SDSL_COEFFICIENT_OCTETS];
+static uint8_t history[SDSL_HISTORY_OCTETS];
+static uint8_t xs[4 * RUN], ys[4 * RUN];
+static uint8_t codes[CODES];
+
+static uint32_t chance_word(void)
+{
+    return (uint32_t)below(SDSL_WORD_MAX + 1u);
+}
+
+static void make_frame(uint32_t kind, uint8_t *frame)
+{
+    uint8_t coefficients[SDSL_COEFFICIENT_OCTETS], vendor[SDSL_VENDOR_OCTETS];
+    for (size_t k = 0; k < SDSL_COEFFICIENTS; k++) {
+        set_number(coefficients, k, between(SDSL_COEFFICIENT_MIN, SDSL_COEFFICIENT_MAX));
+    }
+    random_octets(vendor, sizeof vendor);
+    ref_frame_write(kind, 180, coefficients, sizeof coefficients, chance_word(), chance_word(), vendor, sizeof vendor,
+                    frame, SDSL_FRAME_OCTETS);
+}
+
+static void make_frames(void)
+{
+    for (size_t i = 0; i < BATCH; i++) {
+        for (size_t k = 0; k < SDSL_COEFFICIENTS; k++) {
+            set_number(written[i].coefficients, k, between(SDSL_COEFFICIENT_MIN, SDSL_COEFFICIENT_MAX));
+        }
+        random_octets(written[i].vendor, SDSL_VENDOR_OCTETS);
+        written[i].a = chance_word();
+        written[i].b = chance_word();
+        make_frame(SDSL_TRAINING, training[i]);
+        make_frame(SDSL_FINAL, finals[i]);
+        make_frame(SDSL_TRAINING, batch[i]);
+        if (i % 7 == 3) {
+            flip_bit(batch[i], SDSL_COEFFICIENT_BIT + below(3960));
+        }
+    }
+    for (size_t i = 0; i < CARDS; i++) {
+        make_frame(i % 3 == 2 ? SDSL_FINAL : SDSL_TRAINING, cards[i]);
+        static const size_t spoilt[4] = {SDSL_SYNC_BIT, SDSL_FRAME_BITS + 1, SDSL_A_BIT, SDSL_RESERVED_BIT};
+        if (i % 17 < 2) {
+            flip_bit(cards[i], spoilt[i % 4]);
+        }
+        if (i % 4 == 3 && i % 17 < 2) {
+            ref_put_check_bits(cards[i]);
+        }
+    }
+    for (uint32_t end = SDSL_LTU; end <= SDSL_NTU; end++) {
+        uint32_t state = SDSL_SCRAMBLER_START;
+        for (size_t i = 0; i < BATCH; i++) {
+            state = ref_scramble_frame(end, state, training[i], SDSL_FRAME_OCTETS, line[end][i], SDSL_FRAME_OCTETS).state;
+        }
+    }
+}
+
+/* Coefficients that fall off as those of a line do, so that y is a few foldings away from x and not a thousand. */
+static void make_symbols(void)
+{
+    uint8_t past[SDSL_HISTORY_OCTETS];
+    word_a = chance_word();
+    word_b = chance_word();
+    for (int32_t k = 0; k < SDSL_COEFFICIENTS; k++) {
+        int32_t most = 4 * SDSL_STEPS / (4 + k);
+        set_number(taps, (size_t)k, between(-most, most));
+        set_number(history, (size_t)k, between(SDSL_SAMPLE_MIN, SDSL_SAMPLE_MAX));
+    }
+    for (size_t m = 0; m < RUN; m++) {
+        symbols[m] = (uint8_t)below(8);
+        set_number(xs, m, SDSL_SIXTEENTH * (2 * between(0, 15) - 15));
+    }
+    memcpy(past, history, sizeof past);
+    ref_precode(taps, sizeof taps, past, sizeof past, xs, sizeof xs, ys, sizeof ys);
+}
+
+/* Start-ups of an LTU, one after the other: ticks, now and then the report that the phase awaits, at times a fault. */
+static void make_codes(void)
+{
+    static const uint8_t awaited[14] = {1, 0, 2, 0, 3, 0, 4, 0, 6, 0, 7, 0, 8, 0};
+    struct sdsl_supervisor state = ref_start(SDSL_LTU, SDSL_SILENCE_DEFAULT).state;
+    for (size_t i = 0; i < CODES; i++) {
+        codes[i] = below(64) == 0 ? awaited[state.phase] : below(4096) == 0 ? SDSL_ABNORMAL : SDSL_TICK;
+        state = ref_step(state, codes[i]).state;
+    }
+}
+
+void make_inputs(void)
+{
+    start_chance(0x5d51, 1.0);
+    make_frames();
+    make_symbols();
+    make_codes();
+}
+
+/* ---- A pass of each operation ---- */
+
+static void write_frames(const struct library *library, uint32_t kind)
+{
+    for (size_t i = 0; i < BATCH; i++) {
+        results.numbers[i] = library->frame_write(kind, 180, written[i].coefficients, SDSL_COEFFICIENT_OCTETS, written[i].a, written[i].b,
+                                                  written[i].vendor, SDSL_VENDOR_OCTETS,
+                                                  results.octets + i * SDSL_FRAME_OCTETS, SDSL_FRAME_OCTETS);
+    }
+}
+
+static void write_training(const struct library *library)
+{
+    write_frames(library, SDSL_TRAINING);
+}
+
+static void write_final(const struct library *library)
+{
+    write_frames(library, SDSL_FINAL);
+}
+
+static void check(const struct library *library)
+{
+    for (size_t i = 0; i < BATCH; i++) {
+        results.numbers[i] = library->frame_check(batch[i], SDSL_FRAME_OCTETS);
+    }
+}
+
+static void read_frames(const struct library *library, uint8_t (*frames)[SDSL_FRAME_OCTETS], size_t count)
+{
+    for (size_t i = 0; i < count; i++) {
+        uint8_t *coefficients = results.octets + i * (SDSL_COEFFICIENT_OCTETS + SDSL_VENDOR_OCTETS);
+        struct sdsl_frame_fields fields = library->frame_read(frames[i], SDSL_FRAME_OCTETS, coefficients, SDSL_COEFFICIENT_OCTETS,
+                                                              coefficients + SDSL_COEFFICIENT_OCTETS, SDSL_VENDOR_OCTETS);
+        memcpy(results.numbers + 4 * i, &fields, sizeof fields);
+    }
+}
+
+static void read_training(const struct library *library)
+{
+    read_frames(library, training, BATCH);
+}
+
+static void read_final(const struct library *library)
+{
+    read_frames(library, finals, BATCH);
+}
+
+static void read_cards(const struct library *library)
+{
+    read_frames(library, cards, CARDS);
+}
+
+static void scramble(const struct library *library, uint32_t end)
+{
+    struct sdsl_scrambled next = {0, SDSL_SCRAMBLER_START};
+    for (size_t i = 0; i < BATCH; i++) {
+        next = library->scramble_frame(end, next.state, training[i], SDSL_FRAME_OCTETS, results.octets + i * SDSL_FRAME_OCTETS,
+                                       SDSL_FRAME_OCTETS);
+        results.numbers[2 * i] = next.answer;
+        results.numbers[2 * i + 1] = next.state;
+    }
+}
+
+static void scramble_ltu(const struct library *library)
+{
+    scramble(library, SDSL_LTU);
+}
+
+static void scramble_ntu(const struct library *library)
+{
+    scramble(library, SDSL_NTU);
+}
+
+static void descramble(const struct library *library, uint32_t end)
+{
+    struct sdsl_scrambled next = {0, SDSL_SCRAMBLER_START};
+    for (size_t i = 0; i < BATCH; i++) {
+        next = library->descramble_frame(end, next.state, line[end][i], SDSL_FRAME_OCTETS, results.octets + i * SDSL_FRAME_OCTETS,
+                                         SDSL_FRAME_OCTETS);
+        results.numbers[2 * i] = next.answer;
+        results.numbers[2 * i + 1] = next.state;
+    }
+}
+
+static void descramble_ltu(const struct library *library)
+{
+    descramble(library, SDSL_LTU);
+}
+
+static void descramble_ntu(const struct library *library)
+{
+    descramble(library, SDSL_NTU);
+}
+
+static void encode_run(const struct library *library)
+{
+    struct sdsl_encoded_run run = library->encode_run(word_a, word_b, SDSL_REGISTER_START, symbols, RUN, results.octets, RUN);
+    results.numbers[0] = run.answer;
+    results.numbers[1] = run.reg;
+}
+
+static void encode_each(const struct library *library)
+{
+    uint32_t reg = SDSL_REGISTER_START;
+    for (size_t m = 0; m < RUN; m++) {
+        struct sdsl_encoded one = library->encode(word_a, word_b, reg, symbols[m]);
+        reg = one.reg;
+        memcpy(results.numbers + 4 * m, &one, sizeof one);
+    }
+}
+
+static void precode(const struct library *library)
+{
+    uint8_t *past = results.octets + sizeof xs;
+    memcpy(past, history, sizeof history);
+    results.numbers[0] = library->precode(taps, sizeof taps, past, sizeof history, xs, sizeof xs, results.octets, sizeof xs);
+}
+
+static void decode(const struct library *library)
+{
+    uint8_t *past = results.octets + sizeof ys;
+    memcpy(past, history, sizeof history);
+    results.numbers[0] = library->decode(taps, sizeof taps, past, sizeof history, ys, sizeof ys, results.octets, sizeof ys);
+}
+
+static void step(const struct library *library)
+{
+    struct sdsl_stepped stepped = library->start(SDSL_LTU, SDSL_SILENCE_DEFAULT);
+    for (size_t i = 0; i < CODES; i++) {
+        stepped = library->step(stepped.state, codes[i]);
+        results.numbers[i] = 100000 * stepped.answer + 1000 * stepped.phase + stepped.attempt % 1000;
+    }
+    results.state = stepped.state;
+}
+
+static void run_codes(const struct library *library)
+{
+    struct sdsl_run run = library->run_codes(library->start(SDSL_LTU, SDSL_SILENCE_DEFAULT).state, codes, CODES);
+    results.numbers[0] = run.answer;
+    results.numbers[1] = (uint32_t)run.opened;
+    results.numbers[2] = (uint32_t)run.opened_at;
+    results.numbers[3] = run.ended;
+    results.numbers[4] = (uint32_t)run.ended_at;
+    results.state = run.state;
+}
+
+const struct row rows[] = {
+    {"write a training frame", "frame", BATCH, 4, write_training, NULL},
+    {"write a final frame", "frame", BATCH, 4, write_final, NULL},
+    {"check a frame", "frame", BATCH, 6, check, check_others},
+    {"read a training frame", "frame", BATCH, 4, read_training, NULL},
+    {"read a final frame", "frame", BATCH, 4, read_final, NULL},
+    {"scramble a frame, LTU", "frame", BATCH, 15, scramble_ltu, scramble_ltu_others},
+    {"scramble a frame, NTU", "frame", BATCH, 15, scramble_ntu, scramble_ntu_others},
+    {"descramble a frame, LTU", "frame", BATCH, 25, descramble_ltu, descramble_ltu_others},
+    {"descramble a frame, NTU", "frame", BATCH, 25, descramble_ntu, descramble_ntu_others},
+    {"encoder, in a run", "symbol", RUN, 1, encode_run, NULL},
+    {"encoder, a call each", "symbol", RUN, 1, encode_each, NULL},
+    {"precoder, in a run", "symbol", RUN, 1, precode, NULL},
+    {"precoder's inverse, in a run", "symbol", RUN, 1, decode, NULL},
+    {"supervisor, a call each", "step", CODES, 1, step, NULL},
+    {"supervisor, in a run", "step", CODES, 1, run_codes, NULL},
+    {"sorter's heart: read 340 frames", "340", 1, 1, read_cards, NULL},
+};
+const size_t row_count = ITEMS(rows);
+const struct row *const encoder_row = &rows[9], *const precoder_row = &rows[11];
