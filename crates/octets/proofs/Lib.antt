@@ -1,6 +1,7 @@
 pub mod Xor
 pub mod Digits
 pub mod Laws
+pub mod Words
 pub mod Complement
 pub mod Fields
 pub mod Numbers
