@@ -6,3 +6,5 @@ pub mod Complement
 pub mod Fields
 pub mod Numbers
 pub mod One
+pub mod Turn
+pub mod Shift

@@ -14,7 +14,7 @@ use lib.Bits.{bitAnd, bitOr, and-mask, mask-lt, or-shifted}
 use lib.ListN.{length, getD, take, drop, set, length-append, length-drop, take-append-drop}
 use lib.Seq.{length-take-le, take-nil, take-at, drop-at, take-take, drop-drop, take-add, drop-cons, sets, length-sets, sets-eq}
 use Rattle.octets.specs.Bits.{digitsOf, valueOf, bitsOf, octetsOf, part, laid}
-use Rattle.octets.proofs.Digits.{Bits, drop-bits, digits-length, digits-bits, digits-take, digits-mod-pow, digits-value, shr-suc, value-append, value-digits, value-part}
+use Rattle.octets.proofs.Digits.{Bits, take-bits, drop-bits, digits-length, digits-bits, digits-take, digits-mod-pow, digits-value, shr-suc, value-append, value-digits, value-part}
 use Rattle.octets.proofs.Laws.{Octets, bits-length, bits-bits, octets-are, octets-length, bits-octets, sets-below, sets-append}
 
 -- ---- digits in parts
@@ -299,6 +299,20 @@ module _ (x r n v : ℕ) (hr : r < 8) (hn : n ≤ 32) (hx : x < 2 ^ 40) where
       (ap (digitsOf k) lower-is ∙ digits-join r n k (v % 2 ^ n) (x % 2 ^ r) refl (mod-lt x (pow-pos r))
       ∙ ap₂ (λ (a b : List ℕ). a ++ b) (digits-mod-pow r x ∙ sym (digits-take r 40 x (omega arith))) (digits-mod-pow n v))
       (sym (digits-drop k (40 - k) 40 x q))
+
+-- ---- bits taken n at a time
+
+-- what comes next, behind what was taken
+pub part-more : (B : List ℕ) (at m n k : ℕ) → m + n ≡ k → part at m B ++ part (at + m) n B ≡ part at k B
+part-more B at m n k e =
+    ap (λ (l : List ℕ). part at m B ++ take n l) (sym (drop-drop m at B)) ∙ sym (take-add m n (drop at B)) ∙ ap (λ (i : ℕ). part at i B) e
+
+-- the digits of a field are its bits
+pub field-digits : (s : List ℕ) (at n : ℕ) → at + n ≤ 8 * length s → digitsOf n (valueOf (part at n (bitsOf s))) ≡ part at n (bitsOf s)
+field-digits s at n h =
+    let P = part at n (bitsOf s) in
+    let e : length P ≡ n = length-take-le n (drop at (bitsOf s)) (omega (arith, length-drop at (bitsOf s), bits-length s)) in
+    ap (λ (k : ℕ). digitsOf k (valueOf P)) (sym e) ∙ digits-value P (take-bits n (drop at (bitsOf s)) (drop-bits at (bitsOf s) (bits-bits s)))
 
 -- ---- whether there are five octets from octet i on, as the code asks it
 
