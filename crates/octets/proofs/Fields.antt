@@ -3,16 +3,17 @@ use mathlib.Core.Path.{_≡_, refl, sym, ap, ap₂, _∙_, subst}
 use mathlib.Core.List.{List, [], _∷_, _++_, append-assoc}
 use mathlib.Core.Logic.{_⊎_, inl, inr}
 use Prim.Native.Nat.{ℕ, zero, suc, _+_, _-_, _*_, _%_, _^_, _≤_, _<_, min}
-use native.Mathlib.Nat.{mod-eq-of-lt, zero-add, suc-add}
+use native.Mathlib.Nat.{mod-eq-of-lt}
 use native.Mathlib.Omega.{arith}
 use lib.IntN.{ℤ}
 use lib.ListN.{length, getD, take, drop, set, length-set, length-take, length-drop}
-use lib.Seq.{sets, sets-eq, length-sets, length-take-le, take-at, drop-at, drop-append-add, drop-append-le, take-append-le, take-take, take-nil, drop-drop, getD-take, getD-drop, getD-set-other, ext-getD}
+use lib.Seq.{sets, sets-eq, length-sets, length-take-le, take-at, drop-at, drop-append-add, drop-append-le, take-append-le, take-take, drop-drop, getD-take, getD-drop, getD-set-other, ext-getD}
 use lib.Signed.{mag}
 use Rattle.octets.specs.Bits.{digitsOf, valueOf, bitsOf, bitOf, part, laid}
 use Rattle.octets.specs.Signed.{signedOf, twosOf}
 use Rattle.octets.proofs.Digits.{Bits, digits-length, digits-bits, value-digits}
 use Rattle.octets.proofs.Laws.{bits-length, laid-bits, laid-length}
+use Rattle.octets.proofs.Words.{drop-take}
 use Rattle.octets.proofs.Complement.{twos-lt, signed-twos}
 
 -- outside the places that are set, a list stays
@@ -47,11 +48,6 @@ part-behind p l at n k e = ap (λ (i : ℕ). part i n (p ++ l)) (sym e) ∙ ap (
 pub part-before : (m r : List ℕ) (at n : ℕ) → at + n ≤ length m → part at n (m ++ r) ≡ part at n m
 part-before m r at n h =
     ap (take n) (drop-append-le at m r (omega arith)) ∙ take-append-le n (drop at m) r (omega (arith, length-drop at m))
-
-drop-take : (i k : ℕ) (l : List ℕ) → drop i (take (i + k) l) ≡ take k (drop i l)
-drop-take zero k l = ap (λ (n : ℕ). take n l) (zero-add k)
-drop-take (suc i) k [] = ap (λ (n : ℕ). drop (suc i) (take n [])) (suc-add i k) ∙ sym (take-nil k)
-drop-take (suc i) k (x ∷ l) = ap (λ (n : ℕ). drop (suc i) (take n (x ∷ l))) (suc-add i k) ∙ drop-take i k l
 
 -- a part of a part
 pub part-part : (l : List ℕ) (at n p m k : ℕ) → at + n ≤ m → p + at ≡ k → part at n (part p m l) ≡ part k n l

@@ -173,16 +173,17 @@ octets-are s bs n e h f = sym (octets-bits s h) ∙ ap₂ octetsOf e f
 
 -- ---- bits laid over octets
 
-sets-bits : (l : List ℕ) (i : ℕ) (bs : List ℕ) → Bits l → Bits bs → Bits (sets l i bs)
-sets-bits l i [] h k = h
-sets-bits l i (b ∷ bs) h k = sets-bits (set l i b) (suc i) bs (one l i h) (λ j. k (suc j))
+-- a bound that old and new elements keep
+pub sets-below : (m : ℕ) (l : List ℕ) (i : ℕ) (bs : List ℕ) → ((j : ℕ) → getD l j 0 < m) → ((j : ℕ) → getD bs j 0 < m) → (j : ℕ) → getD (sets l i bs) j 0 < m
+sets-below m l i [] h k = h
+sets-below m l i (b ∷ bs) h k = sets-below m (set l i b) (suc i) bs (one l i h) (λ j. k (suc j))
   where
-    one : (l : List ℕ) (i : ℕ) → Bits l → Bits (set l i b)
+    one : (l : List ℕ) (i : ℕ) → ((j : ℕ) → getD l j 0 < m) → (j : ℕ) → getD (set l i b) j 0 < m
     one [] i h j = h j
     one (x ∷ l) zero h zero = k 0
     one (x ∷ l) zero h (suc j) = h (suc j)
     one (x ∷ l) (suc i) h zero = h 0
-    one (x ∷ l) (suc i) h (suc j) = one l i (λ m. h (suc m)) j
+    one (x ∷ l) (suc i) h (suc j) = one l i (λ n. h (suc n)) j
 
 pub sets-append : (l : List ℕ) (at : ℕ) (xs ys : List ℕ) → sets l at (xs ++ ys) ≡ sets (sets l at xs) (at + length xs) ys
 sets-append l at [] ys = ap (λ (n : ℕ). sets l n ys) (sym (add-zero at))
@@ -197,7 +198,7 @@ laid-length s at bs = octets-length (length s) (sets (bitsOf s) at bs)
 pub laid-bits : (s : List ℕ) (at : ℕ) (bs : List ℕ) → Bits bs → bitsOf (laid s at bs) ≡ sets (bitsOf s) at bs
 unfolding laid
 laid-bits s at bs h =
-    bits-octets (length s) (sets (bitsOf s) at bs) (length-sets (bitsOf s) at bs ∙ bits-length s) (sets-bits (bitsOf s) at bs (bits-bits s) h)
+    bits-octets (length s) (sets (bitsOf s) at bs) (length-sets (bitsOf s) at bs ∙ bits-length s) (sets-below 2 (bitsOf s) at bs (bits-bits s) h)
 
 -- no bit laid
 pub laid-none : (s : List ℕ) (at : ℕ) → Octets s → s ≡ laid s at []
@@ -238,14 +239,11 @@ module _ (s : List ℕ) (at k b : ℕ) (o : Octets s) (hb : b < 2) where
   written h =
       let t = set s (holder s at k) (changed s at k b) in
       octets-are t (set (bitsOf s) (at + k) b) (length s) (length-set s (holder s at k) (changed s at k b))
-      (set-octets s (holder s at k) (changed s at k b) o (changed-octet s at k o b)) (write s at k b hb h)
+      (sets-below 256 s (holder s at k) (changed s at k b ∷ []) o (only (changed-octet s at k o b))) (write s at k b hb h)
     where
-      set-octets : (s : List ℕ) (i v : ℕ) → Octets s → v < 256 → Octets (set s i v)
-      set-octets [] i v h l j = h j
-      set-octets (x ∷ s) zero v h l zero = l
-      set-octets (x ∷ s) zero v h l (suc j) = h (suc j)
-      set-octets (x ∷ s) (suc i) v h l zero = h 0
-      set-octets (x ∷ s) (suc i) v h l (suc j) = set-octets s i v (λ m. h (suc m)) l j
+      only : {v : ℕ} → v < 256 → Octets (v ∷ [])
+      only h zero = h
+      only h (suc i) = suc-le-suc zero-le
 
   pub unwritten : length s ≤ holder s at k → s ≡ laid s (at + k) (b ∷ [])
   unfolding laid

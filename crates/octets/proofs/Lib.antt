@@ -1,7 +1,10 @@
 pub mod Xor
 pub mod Digits
 pub mod Laws
+pub mod Words
 pub mod Complement
 pub mod Fields
 pub mod Numbers
 pub mod One
+pub mod Turn
+pub mod Shift

@@ -2,7 +2,12 @@
 // weight 2 to the power (n-1) mod 8 in octet (n-1)/8. Every function takes every input: what lies past the end reads 0 and
 // is not written, and a field's width over 32 counts as 32.
 ghost use mathlib.Core.Path.{_≡_};
-ghost use Prim.Native.Nat.{_^_, _<_, _≤_, min};
+ghost use mathlib.Core.List.{_++_};
+ghost use Prim.Native.Nat.{_+_, _*_, _^_, _<_, _≤_, min};
+ghost use lib.Dec.{leb};
+ghost use lib.ListN.{length, take, drop};
+ghost use lib.Seq.{sets};
+ghost use Rattle.octets.specs.Bits.{digitsOf, valueOf, bitsOf, octetsOf, part, laid};
 ghost use Rattle.octets.specs.Signed.{signedOf, twosOf};
 ghost use Rattle.octets.specs.Promises.{BitRead, BitPut, HasBit, FieldRead, FieldPut, SignedRead, SignedPut, Turned, Copied, Cleared, IsClear, Behind};
 
@@ -50,13 +55,59 @@ fn width(w: u32) -> u32
     if w < WIDEST { w } else { WIDEST }
 }
 
-// The field of w bits from place `at` on, the first bit lowest.
-pub fn field(s: &[u8], at: usize, w: u32) -> u32
-    ensures { λ r. ⌜ FieldRead (now (s .entry)) at w r ⌝ }
+// Whether there are five octets from octet i on: a field of 32 bits that begins in octet i ends in the fifth at the latest.
+fn has_five(s: &[u8], i: usize) -> bool
+    ensures { λ r. ⌜ r ≡ leb (i + 5) (length (now (s .entry))) ⌝ }
 {
-    let n = width(w);
+    if s.len() < i {
+        return false;
+    }
+    5 <= s.len() - i
+}
+
+// The five octets from octet i on as one number, the first lowest.
+fn five(s: &[u8], i: usize) -> u64
+    requires { ⌜ i + 5 ≤ length (now s) ⌝ }
+    ensures { λ r. ⌜ (r < 2 ^ 40) × (digitsOf 40 r ≡ part (8 * i) 40 (bitsOf (now (s .entry)))) ⌝ }
+{
+    let a = s[i] as u64;
+    let b = s[i + 1] as u64;
+    let c = s[i + 2] as u64;
+    let d = s[i + 3] as u64;
+    let e = s[i + 4] as u64;
+    (e << 32) | ((d << 24) | ((c << 16) | ((b << 8) | a)))
+}
+
+// The five octets from octet i on become those of v.
+fn put_five(s: &mut [u8], i: usize, v: u64)
+    requires { ⌜ i + 5 ≤ length (now s) ⌝ }
+    ensures { λ r. ⌜ now (s .exit) ≡ sets (now (s .entry)) i (octetsOf 5 (digitsOf 40 v)) ⌝ }
+{
+    s[i] = (v & 0xff) as u8;
+    s[i + 1] = ((v >> 8) & 0xff) as u8;
+    s[i + 2] = ((v >> 16) & 0xff) as u8;
+    s[i + 3] = ((v >> 24) & 0xff) as u8;
+    s[i + 4] = ((v >> 32) & 0xff) as u8;
+}
+
+// The 40 digits of x, where those of v stand from place r on, n of them.
+fn replaced(x: u64, r: u32, n: u32, v: u32) -> u64
+    requires { ⌜ (r < 8) × (n ≤ 32) × (x < 2 ^ 40) ⌝ }
+    ensures { λ y. ⌜ digitsOf 40 y ≡ take r (digitsOf 40 x) ++ digitsOf n v ++ drop (r + n) (digitsOf 40 x) ⌝ }
+{
+    let before = x % (1u64 << r);
+    let field = (v as u64) % (1u64 << n);
+    let after = x >> (r + n);
+    (after << (r + n)) | ((field << r) | before)
+}
+
+// The field of w bits from place `at` on, bit by bit from the last on.
+fn field_by_bits(s: &[u8], at: usize, w: u32) -> u32
+    requires { ⌜ w ≤ 32 ⌝ }
+    ensures { λ r. ⌜ r ≡ valueOf (part at w (bitsOf (now (s .entry)))) ⌝ }
+{
     let mut v: u32 = 0;
-    let mut k = n;
+    let mut k = w;
     while 0 < k {
         let b = bit(s, at, k - 1);
         v = v * 2 + (b as u32);
@@ -65,17 +116,45 @@ pub fn field(s: &[u8], at: usize, w: u32) -> u32
     v
 }
 
+// The field of w bits from place `at` on, the first bit lowest.
+pub fn field(s: &[u8], at: usize, w: u32) -> u32
+    ensures { λ r. ⌜ FieldRead (now (s .entry)) at w r ⌝ }
+{
+    let n = width(w);
+    let i = at / 8;
+    if has_five(s, i) {
+        let x = five(s, i) >> (at % 8);
+        (x % (1u64 << n)) as u32
+    } else {
+        field_by_bits(s, at, n)
+    }
+}
+
+// The field of w bits from place `at` on becomes the w low digits of v, bit by bit.
+fn put_by_bits(s: &mut [u8], at: usize, w: u32, v: u32)
+    ensures { λ r. ⌜ now (s .exit) ≡ laid (now (s .entry)) at (digitsOf w v) ⌝ }
+{
+    let mut rest = v;
+    let mut k: u32 = 0;
+    while k < w {
+        put_bit(s, at, k, (rest % 2) as u8);
+        rest = rest / 2;
+        k += 1;
+    }
+}
+
 // The field of w bits from place `at` on becomes the w low digits of v, the lowest first.
 pub fn put_field(s: &mut [u8], at: usize, w: u32, v: u32)
     ensures { λ r. ⌜ FieldPut (now (s .entry)) at w v (now (s .exit)) ⌝ }
 {
-    let count = width(w);
-    let mut rest = v;
-    let mut k: u32 = 0;
-    while k < count {
-        put_bit(s, at, k, (rest % 2) as u8);
-        rest = rest / 2;
-        k += 1;
+    let n = width(w);
+    let i = at / 8;
+    if has_five(s, i) {
+        let x = five(s, i);
+        let y = replaced(x, (at % 8) as u32, n, v);
+        put_five(s, i, y);
+    } else {
+        put_by_bits(s, at, n, v);
     }
 }
 

@@ -1,3 +1,4 @@
 pub mod Division
 pub mod Errors
 pub mod One
+pub mod Quotient

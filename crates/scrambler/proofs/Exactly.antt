@@ -195,8 +195,8 @@ descrambled-state tap state (x ∷ s) h hs =
 
 -- ---- there and back
 
-twice : (b x y : ℕ) → b < 2 → sum3 (sum3 b x y) x y ≡ b
-twice b x y h = omega arith
+pub sum3-twice : (b x y : ℕ) → b < 2 → sum3 (sum3 b x y) x y ≡ b
+sum3-twice b x y h = omega arith
 
 -- descrambling with the sender's state gives the input back, and the sender's next state
 pub back : (tap state : ℕ) (f : List ℕ) → Bits f
@@ -206,7 +206,7 @@ back tap state [] h = (refl, refl)
 back tap state (b ∷ f) h =
     let s = outOf tap state b in
     let r = back tap (pushed state s) f (λ i. h (suc i)) in
-    (ap₂ (λ (x : ℕ) (y : List ℕ). x ∷ y) (twice b _ _ (h 0)) (r .0), r .1)
+    (ap₂ (λ (x : ℕ) (y : List ℕ). x ∷ y) (sum3-twice b _ _ (h 0)) (r .0), r .1)
 
 -- scrambling is one-to-one
 pub one-to-one : (tap state : ℕ) (f g : List ℕ) → Bits f → Bits g → runOf scramble tap state f ≡ runOf scramble tap state g → f ≡ g

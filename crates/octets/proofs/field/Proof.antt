@@ -1,104 +1,82 @@
--- `octets::field` meets its contract. The loop goes down: v is the value of the field's bits from the one at place at + k on.
+-- `octets::field` meets its contract: five octets hold the field, or it is read bit by bit.
 use borrow.Author.Needs.{needs}
-use mathlib.Core.Path.{_≡_, sym, ap, ap₂, subst, _∙_}
-use Prim.Native.Nat.{ℕ, suc, _+_, _-_, _*_, _^_, _≤_, _<_, min}
+use borrow.Author.Tests.{leb-true}
+use mathlib.Core.Path.{_≡_, sym, ap, subst, _∙_}
+use Prim.Native.Nat.{ℕ, _+_, _*_, _/_, _%_, _^_, _≤_, _<_, min}
 use native.Mathlib.Omega.{arith}
-use lib.ListN.{drop}
-use lib.Pow.{pow-mono}
-use Rattle.octets.specs.Bits.{bitsOf, bitOf, valueOf, part}
-use Rattle.octets.proofs.Digits.{drop-bits, value-part, value-head}
-use Rattle.octets.proofs.Laws.{bits-bits}
+use native.Mathlib.Nat.{mod-lt}
+use lib.ListN.{length}
+use lib.Pow.{pow-pos, pow-mono}
+use Rattle.octets.specs.Bits.{bitsOf, valueOf, part}
+use Rattle.octets.proofs.Words.{size-is, field-in}
 use Rattle.octets.proofs.field.Statement.{statement}
 use Rattle.octets.proofs.field.Tie as tie
 
-abbrev Inv-loop : tie.InvT-loop
-Inv-loop s at w n v₀ k₀ v k = (k ≤ n) × (n ≡ min w 32) × (v ≡ valueOf (part (at + k) (n - k) (bitsOf s)))
-
-abbrev μ-loop : tie.MeasureT-loop
-μ-loop s at w n v₀ k₀ v k = k
-
-width-requires : tie.Need-width-requires Inv-loop μ-loop
+width-requires : tie.Need-width-requires
 width-requires c κs = search needs
 
-loop-holds : tie.Need-loop-holds Inv-loop μ-loop
-unfolding valueOf
-loop-holds c =
-    let a = c .before .before .args in
-    let e : 0 ≡ c .width .result - c .width .result = omega arith in
-    (omega arith, c .width .ensures, ap (λ (n : ℕ). valueOf (part (a .at + c .width .result) n (bitsOf (a .s .now)))) e)
+has-five-requires : tie.Need-has-five-requires
+has-five-requires c κs = search needs
 
-sub-bit : tie.Need-sub-bit Inv-loop μ-loop
-sub-bit c = omega arith
+five-requires : tie.Need-five-requires
+five-requires c κs = leb-true _ _ (sym (c .before .has-five .ensures) ∙ c .if1 .taken)
 
-bit-requires : tie.Need-bit-requires Inv-loop μ-loop
-bit-requires c κs = search needs
+-- the width as it counts, and the size that it gives
+width-le : (c : tie.After-five) → c .before .before .before .width .result ≤ 32
+width-le c = omega (arith, c .before .before .before .width .ensures)
 
--- the value with one bit more, and that it fits
-value : (c : tie.After-bit Inv-loop μ-loop)
-    → let a = c .before .before .before .before .before .args in let l = c .before .before .loop in let n = c .before .before .before .width .result in
-    l .v * 2 + c .bit .result ≡ valueOf (part (a .at + (l .k - 1)) (n - (l .k - 1)) (bitsOf (a .s .now)))
-value c =
-    let a = c .before .before .before .before .before .args in
-    let l = c .before .before .loop in
+size : (c : tie.After-five) → 1 * 2 ^ c .before .before .before .width .result % 2 ^ 64 ≡ 2 ^ c .before .before .before .width .result
+size c = size-is (c .before .before .before .width .result) (width-le c)
+
+shr-x : tie.Need-shr-x
+shr-x c = omega arith
+
+cast-result : tie.Need-cast-result
+cast-result c = search needs
+
+shl-result : tie.Need-shl-result
+shl-result c = omega (arith, width-le c)
+
+rem-result : tie.Need-rem-result
+rem-result c = omega (arith, size c, pow-pos (c .before .before .before .width .result))
+
+cast-result-2 : tie.Need-cast-result-2
+cast-result-2 c =
     let n = c .before .before .before .width .result in
-    let B = bitsOf (a .s .now) in
-    let j = l .k - 1 in
-    let q : a .at + l .k ≡ suc (a .at + j) = omega arith in
-    let r : suc (n - l .k) ≡ n - j = omega arith in
-    ap₂ (λ (x y : ℕ). x * 2 + y) (l .inv .2 ∙ ap (λ (i : ℕ). valueOf (part i (n - l .k) B)) q) (c .bit .ensures)
-    ∙ value-head B (a .at + j) (n - l .k)
-    ∙ ap (λ (i : ℕ). valueOf (part (a .at + j) i B)) r
+    let x = c .five .result / 2 ^ (c .before .before .before .before .before .args .at % 8) in
+    let l : x % 2 ^ n < 2 ^ n = mod-lt x (pow-pos n) in
+    let m : 2 ^ n ≤ 2 ^ 32 = pow-mono (width-le c) in
+    let e : x % (1 * 2 ^ n % 2 ^ 64) ≡ x % 2 ^ n = ap (λ (s : ℕ). x % s) (size c) in
+    record { fits = subst (λ (y : ℕ). y < 2 ^ 32) (sym e) (omega arith) }
 
-fits : (c : tie.After-bit Inv-loop μ-loop) → c .before .before .loop .v * 2 + c .bit .result < 2 ^ 32
-fits c =
-    let a = c .before .before .before .before .before .args in
-    let j = c .before .before .loop .k - 1 in
-    let n = c .before .before .before .width .result - j in
-    let h : n ≤ 32 = omega arith in
-    let B = bitsOf (a .s .now) in
-    let b : valueOf (part (a .at + j) n B) < 2 ^ n = value-part n (drop (a .at + j) B) (drop-bits (a .at + j) B (bits-bits (a .s .now))) in
-    subst (λ (x : ℕ). x < 2 ^ 32) (sym (value c)) (omega (arith, b, pow-mono h))
+field-by-bits-requires : tie.Need-field-by-bits-requires
+field-by-bits-requires c κs = omega (arith, c .before .before .width .ensures)
 
-mul-v : tie.Need-mul-v Inv-loop μ-loop
-mul-v c = omega (arith, fits c)
-
-cast-v : tie.Need-cast-v Inv-loop μ-loop
-cast-v c = search needs
-
-add-v : tie.Need-add-v Inv-loop μ-loop
-add-v c = omega (arith, fits c)
-
-sub-k : tie.Need-sub-k Inv-loop μ-loop
-sub-k c = omega arith
-
-loop-less : tie.Need-loop-less Inv-loop μ-loop
-loop-less c = omega arith
-
-loop-again : tie.Need-loop-again Inv-loop μ-loop
-loop-again c = (omega arith, c .before .before .loop .inv .1, value c)
-
-returns : tie.Need-returns Inv-loop μ-loop
+returns : tie.Need-returns
 returns c =
-    let a = c .before .before .before .before .args in
-    let l = c .before .loop in
-    let p : a .at + l .k ≡ a .at = omega arith in
-    let q : c .before .before .width .result - l .k ≡ min (a .w) 32 = omega arith in
-    l .inv .2 ∙ ap₂ (λ (x y : ℕ). valueOf (part x y (bitsOf (a .s .now)))) p q
+    let a = c .before .before .before .before .before .args in
+    let n = c .before .before .before .width in
+    ap (λ (s : ℕ). c .five .result / 2 ^ (a .at % 8) % s) (size c)
+    ∙ field-in (bitsOf (a .s .now)) (a .at) (n .result) (width-le c) (c .five .result) (c .five .ensures .1)
+    ∙ ap (λ (k : ℕ). valueOf (part (a .at) k (bitsOf (a .s .now)))) (n .ensures)
+
+returns-2 : tie.Need-returns-2
+returns-2 c =
+    let a = c .before .before .before .before .before .args in
+    c .field-by-bits .ensures ∙ ap (λ (k : ℕ). valueOf (part (a .at) k (bitsOf (a .s .now)))) (c .before .before .before .width .ensures)
 
 pub field-spec : {M : Type 1} → statement M
 field-spec =
     tie.close
     (tie.spec
-    Inv-loop
-    μ-loop
     width-requires
-    loop-holds
-    sub-bit
-    bit-requires
-    mul-v
-    cast-v
-    add-v
-    sub-k
-    loop-less
-    loop-again
-    returns)
+    has-five-requires
+    five-requires
+    shr-x
+    cast-result
+    shl-result
+    rem-result
+    cast-result-2
+    field-by-bits-requires
+    returns
+    returns-2)

@@ -1,83 +1,75 @@
--- `octets::put_field` meets its contract. After k turns the k low digits of v are laid, and `rest` is what is left of v.
+-- `octets::put_field` meets its contract: five octets hold the field, or it is put bit by bit.
 use borrow.Author.Needs.{needs}
-use mathlib.Core.Path.{_≡_, sym, ap, ap₂, _∙_}
-use mathlib.Core.List.{List, [], _∷_}
-use Prim.Native.Nat.{ℕ, _+_, _-_, _/_, _%_, _^_, _≤_, min}
-use native.Mathlib.Nat.{div-one}
+use borrow.Author.Tests.{leb-true}
+use mathlib.Core.Path.{_≡_, sym, ap, subst, _∙_}
+use mathlib.Core.List.{List, _++_}
+use Prim.Native.Nat.{ℕ, _+_, _*_, _/_, _%_, _^_, _≤_, _<_, min}
 use native.Mathlib.Omega.{arith}
-use lib.ListN.{length}
-use Rattle.octets.specs.Bits.{digitsOf, laid}
-use Rattle.octets.proofs.Digits.{digits-length, digits-bits, digits-next, digits-none, rest-next}
-use Rattle.octets.proofs.Laws.{laid-none, laid-more, laid-length}
+use lib.ListN.{take, drop}
+use Rattle.octets.specs.Bits.{bitsOf, digitsOf, laid}
+use Rattle.octets.proofs.Words.{field-laid}
 use Rattle.octets.proofs.put_field.Statement.{statement}
 use Rattle.octets.proofs.put_field.Tie as tie
 
-abbrev Inv-loop : tie.InvT-loop
-Inv-loop s₀ at w v count rest₀ k₀ s rest k = (k ≤ count) × (count ≤ 32) × (rest ≡ v / 2 ^ k) × (s ≡ laid s₀ at (digitsOf k v))
-
-abbrev μ-loop : tie.MeasureT-loop
-μ-loop s₀ at w v count rest₀ k₀ s rest k = count - k
-
-width-requires : tie.Need-width-requires Inv-loop μ-loop
+width-requires : tie.Need-width-requires
 width-requires c κs = search needs
 
-loop-holds : tie.Need-loop-holds Inv-loop μ-loop
-loop-holds c =
-    let a = c .before .before .args in (
-      omega arith,
-      omega arith,
-      sym (div-one (a .v)),
-      laid-none (a .s .now) (a .at) (λ i. omega (arith, c .before .slice-known .given i)) ∙ ap (laid (a .s .now) (a .at)) (digits-none (a .v)),
-    )
+has-five-requires : tie.Need-has-five-requires
+has-five-requires c κs = search needs
 
-cast-put-bit : tie.Need-cast-put-bit Inv-loop μ-loop
-cast-put-bit c = omega arith
+five-requires : tie.Need-five-requires
+five-requires c κs = leb-true _ _ (sym (c .before .before .has-five .ensures) ∙ c .before .if1 .taken)
 
-put-bit-requires : tie.Need-put-bit-requires Inv-loop μ-loop
-put-bit-requires c κs = search needs
+cast-replaced : tie.Need-cast-replaced
+cast-replaced c = omega arith
 
-add-k : tie.Need-add-k Inv-loop μ-loop
-add-k c = omega arith
+replaced-requires : tie.Need-replaced-requires
+replaced-requires c κs = (omega arith, omega (arith, c .before .before .before .before .before .width .ensures), c .five .ensures .0)
 
-loop-less : tie.Need-loop-less Inv-loop μ-loop
-loop-less c = omega arith
+put-five-requires : tie.Need-put-five-requires
+put-five-requires c κs = leb-true _ _ (sym (c .before .before .before .before .before .has-five .ensures) ∙ c .before .before .before .before .if1 .taken)
 
-loop-again : tie.Need-loop-again Inv-loop μ-loop
-loop-again c =
-    let a = c .before .before .before .before .before .before .before .before .args in
-    let l = c .before .before .before .before .before .loop in
-    let q = c .before .before .put-bit in
-    let e : l .rest % 2 % 2 ≡ l .rest % 2 = omega arith in (
-      omega arith,
-      omega arith,
-      rest-next (a .v) (l .k) (l .inv .2),
-      laid-more (a .s .now) (a .at) (digitsOf (l .k) (a .v)) (l .k) (l .rest % 2) (digits-bits (l .k) (a .v)) (digits-length (l .k) (a .v)) (l .inv .3)
-          (q .ensures ∙ ap (λ (b : ℕ). laid (l .s) (a .at + l .k) (b ∷ [])) e)
-          ∙ ap (laid (a .s .now) (a .at)) (digits-next (a .v) (l .k) (l .inv .2)),
-    )
+put-by-bits-requires : tie.Need-put-by-bits-requires
+put-by-bits-requires c κs = search needs
 
-same-length : tie.Need-same-length Inv-loop μ-loop
-same-length c = let a = c .before .before .before .before .args in ap length (c .before .loop .inv .3) ∙ laid-length (a .s .now) (a .at) _
+same-length : tie.Need-same-length
+same-length c = search needs
 
-returns : tie.Need-returns Inv-loop μ-loop
+returns : tie.Need-returns
 returns c =
-    let a = c .before .before .before .before .args in
-    let l = c .before .loop in
-    let e : l .k ≡ min (a .w) 32 = omega arith in
-    l .inv .3 ∙ ap (λ (n : ℕ). laid (a .s .now) (a .at) (digitsOf n (a .v))) e
+    let u = c .before .before .before .before in
+    let five = u .before .five in
+    let z = u .before .before .before .before .before .before .before in
+    let a = z .before .args in
+    let s = a .s .now in
+    let n = u .before .before .before .before .before .before .width in
+    let le : n .result ≤ 32 = omega (arith, n .ensures) in
+    let there = leb-true _ _ (sym (u .before .before .before .before .has-five .ensures) ∙ u .before .before .before .if1 .taken) in
+    c .before .before .put-five .ensures
+    ∙ field-laid s (a .at) (n .result) (a .v) (u .replaced .result) le (λ i. omega (arith, z .slice-known .given i)) there
+    (u .replaced .ensures ∙ ap (λ (l : List ℕ). take (a .at % 8) l ++ digitsOf (n .result) (a .v) ++ drop (a .at % 8 + n .result) l) (five .ensures .1))
+    ∙ ap (λ (k : ℕ). laid s (a .at) (digitsOf k (a .v))) (n .ensures)
+
+same-length-2 : tie.Need-same-length-2
+same-length-2 c = search needs
+
+returns-2 : tie.Need-returns-2
+returns-2 c =
+    let a = c .before .before .before .before .before .before .before .before .before .args in
+    c .before .before .put-by-bits .ensures ∙ ap (λ (n : ℕ). laid (a .s .now) (a .at) (digitsOf n (a .v))) (c .before .before .before .before .before .before .before .width .ensures)
 
 pub put-field-spec : {M : Type 1} → statement M
 put-field-spec =
     tie.close
     (tie.spec
-    Inv-loop
-    μ-loop
     width-requires
-    loop-holds
-    cast-put-bit
-    put-bit-requires
-    add-k
-    loop-less
-    loop-again
+    has-five-requires
+    five-requires
+    cast-replaced
+    replaced-requires
+    put-five-requires
+    put-by-bits-requires
     same-length
-    returns)
+    returns
+    same-length-2
+    returns-2)
