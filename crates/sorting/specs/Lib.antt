@@ -1,2 +1,4 @@
 pub mod Verdict
+pub mod Line
+pub mod Totals
 pub mod Promises

@@ -1,10 +1,11 @@
 // Sorting cards by their frames: what a frame is found to be, beside a customer's where one is given; the text of one line for a card;
 // the text of the totals. What each means is specs/.
 ghost use mathlib.Core.Path.{_≡_};
-ghost use mathlib.Core.Bool.{Bool};
+ghost use mathlib.Core.List.{_++_};
 ghost use Rattle.ascii.specs.Promises.{Put};
 ghost use Rattle.sorting.specs.Verdict.{likeOf, absent, refusedVerdict};
-ghost use Rattle.sorting.specs.Promises.{Judged, Unread, IsCustomer, IsNobody};
+ghost use Rattle.sorting.specs.Line.{shownOctet, shown, reason, likeCell, trainingCells, finalCells, badCells, cells};
+ghost use Rattle.sorting.specs.Promises.{Judged, Unread, IsCustomer, IsNobody, Headed, Lined};
 
 // The customer's words A and B, where a reference frame is given.
 pub struct Customer {
@@ -146,4 +147,155 @@ pub fn reference(frame: &[u8]) -> Customer
         a: v.a,
         b: v.b,
     }
+}
+
+// An octet of a file's name as it is printed.
+fn shown_octet(o: u8) -> u8
+    ensures { λ r. ⌜ r ≡ shownOctet o ⌝ }
+{
+    if o < 32 {
+        return b'?';
+    }
+    if o == 127 {
+        return b'?';
+    }
+    o
+}
+
+// A file's name.
+fn put_shown(room: &mut [u8], at: usize, name: &[u8]) -> usize
+    ensures { λ r. ⌜ Put (now (room .entry)) at (shown (now (name .entry))) r (now (room .exit)) ⌝ }
+{
+    let mut next = at;
+    let mut k = 0;
+    while k < name.len() {
+        next = ascii::put(room, next, shown_octet(name[k]));
+        k += 1;
+    }
+    next
+}
+
+// Why a card is bad.
+fn put_reason(room: &mut [u8], at: usize, n: u32) -> usize
+    ensures { λ r. ⌜ Put (now (room .entry)) at (reason n) r (now (room .exit)) ⌝ }
+{
+    if n == 1 {
+        return ascii::put_word(room, at, b"refused 1: a lent buffer has the wrong length");
+    }
+    if n == 2 {
+        return ascii::put_word(
+            room,
+            at,
+            b"refused 2: unknown end, frame kind or report code",
+        );
+    }
+    if n == 3 {
+        return ascii::put_word(room, at, b"refused 3: coefficient count outside 128 to 180");
+    }
+    if n == 4 {
+        return ascii::put_word(room, at, b"refused 4: a number outside its range");
+    }
+    if n == 5 {
+        return ascii::put_word(room, at, b"refused 5: the sync word is neither of the two");
+    }
+    if n == 6 {
+        return ascii::put_word(room, at, b"refused 6: a pad bit is not zero");
+    }
+    if n == 7 {
+        return ascii::put_word(room, at, b"refused 7: the check bits differ");
+    }
+    if n == 8 {
+        return ascii::put_word(
+            room,
+            at,
+            b"refused 8: a reserved bit is not zero (training frame)",
+        );
+    }
+    ascii::put_word(room, at, b"cannot be read")
+}
+
+// How a word compares with the customer's.
+fn put_like(room: &mut [u8], at: usize, n: u32) -> usize
+    ensures { λ r. ⌜ Put (now (room .entry)) at (likeCell n) r (now (room .exit)) ⌝ }
+{
+    if n == NO_CUSTOMER {
+        return at;
+    }
+    if n == SAME {
+        return ascii::put_word(room, at, b"\tsame");
+    }
+    if n == TURNED {
+        return ascii::put_word(room, at, b"\tTURNED");
+    }
+    if n == OTHER {
+        return ascii::put_word(room, at, b"\tother");
+    }
+    ascii::put_word(room, at, b"\t-")
+}
+
+// The cells of a good training frame.
+fn put_training(room: &mut [u8], at: usize, used: u32, a: u32, b: u32, vendor: &[u8]) -> usize
+    ensures { λ r. ⌜ Put (now (room .entry)) at (trainingCells used a b (now (vendor .entry))) r (now (room .exit)) ⌝ }
+{
+    let mut next = ascii::put_word(room, at, b"\ttraining\tgood\t");
+    next = ascii::put_decimal(room, next, used);
+    next = ascii::put_word(room, next, b"\t");
+    next = ascii::put_decimal(room, next, a);
+    next = ascii::put_word(room, next, b"\t");
+    next = ascii::put_decimal(room, next, b);
+    next = ascii::put_word(room, next, b"\t");
+    ascii::put_hexes(room, next, vendor)
+}
+
+// The cells of a good final frame.
+fn put_final(room: &mut [u8], at: usize, vendor: &[u8]) -> usize
+    ensures { λ r. ⌜ Put (now (room .entry)) at (finalCells (now (vendor .entry))) r (now (room .exit)) ⌝ }
+{
+    let next = ascii::put_word(room, at, b"\tfinal\tgood\t-\t-\t-\t");
+    ascii::put_hexes(room, next, vendor)
+}
+
+// The cells of a bad card.
+fn put_bad(room: &mut [u8], at: usize, n: u32) -> usize
+    ensures { λ r. ⌜ Put (now (room .entry)) at (badCells n) r (now (room .exit)) ⌝ }
+{
+    let named = ascii::put_word(room, at, b"\t-\t");
+    let next = put_reason(room, named, n);
+    ascii::put_word(room, next, b"\t-\t-\t-\t-")
+}
+
+// The cells of a card.
+fn put_cells(room: &mut [u8], at: usize, v: Verdict) -> usize
+    ensures { λ r. ⌜ Put (now (room .entry)) at (cells (v .answer) v) r (now (room .exit)) ⌝ }
+{
+    if v.answer != answer::DONE {
+        return put_bad(room, at, v.answer);
+    }
+    let vendor = v.vendor;
+    if v.kind == layout::TRAINING {
+        return put_training(room, at, v.used, v.a, v.b, &vendor);
+    }
+    put_final(room, at, &vendor)
+}
+
+// The line above the cards' lines.
+pub fn header(given: bool, room: &mut [u8]) -> usize
+    ensures { λ r. ⌜ Headed given (now (room .entry)) r (now (room .exit)) ⌝ }
+{
+    let next = ascii::put_word(room, 0, b"file\tkind\tverdict\tcoefficients\tA\tB\tvendor");
+    if given {
+        return ascii::put_word(room, next, b"\tA like\tB like\n");
+    }
+    ascii::put_word(room, next, b"\n")
+}
+
+// The line of the card whose frame stands in the file of this name.
+pub fn line(name: &[u8], v: Verdict, room: &mut [u8]) -> usize
+    ensures { λ r. ⌜ Lined (now (name .entry)) v (now (room .entry)) r (now (room .exit)) ⌝ }
+{
+    let mut next = put_shown(room, 0, name);
+    next = put_cells(room, next, v);
+    next = put_like(room, next, v.alike);
+    next = put_like(room, next, v.blike);
+    ascii::put_word(room, next, b"\n")
 }

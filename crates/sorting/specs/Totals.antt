@@ -1,0 +1,54 @@
+-- The totals: so many cards good, so many bad, the bad ones by reason, and with a customer how A and B compare. They are counted over three
+-- lists with an entry for each card: its answer, and how its A and its B compare.
+use mathlib.Core.Bool.{Bool, true, false, cond, not, _&&_, _||_}
+use mathlib.Core.List.{List, [], _∷_, _++_}
+use Prim.Native.Nat.{ℕ, zero, suc, _+_, _-_, min}
+use lib.Dec.{eqb}
+use lib.ListN.{length}
+use Rattle.ascii.specs.Text.{text, decimal}
+use Rattle.sorting.specs.Line.{reason}
+
+-- how many entries of a list are x
+unfoldable pub howMany : ℕ → List ℕ → ℕ
+howMany x [] = 0
+howMany x (y ∷ ys) = cond (eqb y x) (suc (howMany x ys)) (howMany x ys)
+
+-- a count in decimal; one over 4,294,967,295 is written as that
+unfoldable pub countText : ℕ → List ℕ
+countText n = decimal (min n 4294967295)
+
+-- a line for a reason, where a card has it: "2 refused 7: the check bits differ"
+unfoldable pub reasonLine : ℕ → List ℕ → List ℕ
+reasonLine n answers = cond (eqb (howMany n answers) 0) [] (countText (howMany n answers) ++ text " " ++ reason n ++ text "\n")
+
+-- the lines for reasons 1 to n
+unfoldable pub reasonLines : ℕ → List ℕ → List ℕ
+reasonLines zero answers = []
+reasonLines (suc n) answers = reasonLines n answers ++ reasonLine (suc n) answers
+
+-- how a word compares: "A: 290 same, 8 TURNED, 3 other"
+unfoldable pub likeLine : List ℕ → List ℕ → List ℕ
+likeLine name likes =
+    name ++ countText (howMany 1 likes) ++ text " same, " ++ countText (howMany 2 likes) ++ text " TURNED, " ++ countText (howMany 3 likes)
+    ++ text " other\n"
+
+-- every entry is x
+abbrev pub allAre : ℕ → List ℕ → Bool
+allAre x ys = eqb (howMany x ys) (length ys)
+
+-- whether every card is good, and with a customer has A and B the same
+unfoldable pub allGood : Bool → List ℕ → List ℕ → List ℕ → Bool
+allGood given answers alikes blikes = allAre 0 answers && (not given || (allAre 1 alikes && allAre 1 blikes))
+
+-- the last line, for a script
+unfoldable pub lastLine : Bool → List ℕ
+lastLine good = cond good (text "all good\n") (text "not all good\n")
+
+-- the totals
+unfoldable pub totalsText : Bool → List ℕ → List ℕ → List ℕ → List ℕ
+totalsText given answers alikes blikes =
+    countText (length answers) ++ text " cards: " ++ countText (howMany 0 answers) ++ text " good, "
+    ++ countText (length answers - howMany 0 answers) ++ text " bad\n"
+    ++ reasonLines 9 answers
+    ++ cond given (likeLine (text "A: ") alikes ++ likeLine (text "B: ") blikes) []
+    ++ lastLine (allGood given answers alikes blikes)
