@@ -11,7 +11,7 @@ use Rattle.sorting.specs.Line.{reason}
 -- how many entries of a list are x
 unfoldable pub howMany : ℕ → List ℕ → ℕ
 howMany x [] = 0
-howMany x (y ∷ ys) = cond (eqb y x) (suc (howMany x ys)) (howMany x ys)
+howMany x (y ∷ ys) = cond (eqb y x) 1 0 + howMany x ys
 
 -- a count in decimal; one over 4,294,967,295 is written as that
 unfoldable pub countText : ℕ → List ℕ
@@ -26,11 +26,13 @@ unfoldable pub reasonLines : ℕ → List ℕ → List ℕ
 reasonLines zero answers = []
 reasonLines (suc n) answers = reasonLines n answers ++ reasonLine (suc n) answers
 
+-- so many, and a word behind: "290 same, "
+unfoldable pub counted : ℕ → List ℕ → List ℕ → List ℕ
+counted x likes word = countText (howMany x likes) ++ word
+
 -- how a word compares: "A: 290 same, 8 TURNED, 3 other"
 unfoldable pub likeLine : List ℕ → List ℕ → List ℕ
-likeLine name likes =
-    name ++ countText (howMany 1 likes) ++ text " same, " ++ countText (howMany 2 likes) ++ text " TURNED, " ++ countText (howMany 3 likes)
-    ++ text " other\n"
+likeLine name likes = name ++ counted 1 likes (text " same, ") ++ counted 2 likes (text " TURNED, ") ++ counted 3 likes (text " other\n")
 
 -- every entry is x
 abbrev pub allAre : ℕ → List ℕ → Bool
@@ -44,11 +46,17 @@ allGood given answers alikes blikes = allAre 0 answers && (not given || (allAre 
 unfoldable pub lastLine : Bool → List ℕ
 lastLine good = cond good (text "all good\n") (text "not all good\n")
 
+-- how the words compare, with a customer
+unfoldable pub likeLines : Bool → List ℕ → List ℕ → List ℕ
+likeLines given alikes blikes = cond given (likeLine (text "A: ") alikes ++ likeLine (text "B: ") blikes) []
+
+-- the first line: "340 cards: 301 good, 39 bad"
+unfoldable pub cardsLine : List ℕ → List ℕ
+cardsLine answers =
+    countText (length answers) ++ text " cards: " ++ countText (howMany 0 answers) ++ text " good, "
+    ++ countText (length answers - howMany 0 answers) ++ text " bad\n"
+
 -- the totals
 unfoldable pub totalsText : Bool → List ℕ → List ℕ → List ℕ → List ℕ
 totalsText given answers alikes blikes =
-    countText (length answers) ++ text " cards: " ++ countText (howMany 0 answers) ++ text " good, "
-    ++ countText (length answers - howMany 0 answers) ++ text " bad\n"
-    ++ reasonLines 9 answers
-    ++ cond given (likeLine (text "A: ") alikes ++ likeLine (text "B: ") blikes) []
-    ++ lastLine (allGood given answers alikes blikes)
+    cardsLine answers ++ reasonLines 9 answers ++ likeLines given alikes blikes ++ lastLine (allGood given answers alikes blikes)
