@@ -1,10 +1,10 @@
-# make        builds the static library for the card's host software, build/libsdsl.a, and the bench lister, build/lister
+# make        builds the static library for the card's host software, build/libsdsl.a, and the bench programs, build/lister and build/sorter
 # make test   proves every crate, then runs every test; the last line is 'N passed, 0 failed'
 .PHONY: all test clean
 
 SOURCES = crates.txt $(shell find crates -name '*.rt' -o -name '*.antt')
 
-all: build/libsdsl.a build/lister
+all: build/libsdsl.a build/lister build/sorter
 
 build/libsdsl.a: $(SOURCES)
 	rt staticlib host
@@ -15,6 +15,11 @@ build/lister: $(SOURCES)
 	rt check lister
 	mkdir -p build
 	cp target/bin/lister $@
+
+build/sorter: $(SOURCES)
+	rt check sorter
+	mkdir -p build
+	cp target/bin/sorter $@
 
 test:
 	bash tests/run
