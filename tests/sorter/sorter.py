@@ -126,7 +126,9 @@ def printed(cards, customer=None):
         for k in range(2):
             likes = [card.likes(customer)[k] for card in cards]
             out.append(f"{'AB'[k]}: {likes.count('same')} same, {likes.count('TURNED')} TURNED, {likes.count('other')} other\n".encode())
-            all_good = all_good and likes.count("same") == len(cards)
+        both = sum(card.likes(customer) == ["same", "same"] for card in cards)
+        out.append(f"A and B: {both} same\n".encode())
+        all_good = all_good and both == len(cards)
     out.append(b"all good\n" if all_good else b"not all good\n")
     return b"".join(out)
 

@@ -1,4 +1,4 @@
-// The sorter: `sorter [--like FILE] FILE...`. A line for each card's frame, then the totals. The texts are those of crate sorting; here files
+// The sorter: `sorter [--like FILE] FILE...`. A line for each card's frame, then the totals. The texts are those of crates sorting and tally; here files
 // are only read and texts written.
 use libc::STDERR_FILENO;
 use libc::STDOUT_FILENO;
@@ -139,7 +139,7 @@ fn head(given: bool) {
 // Writes the totals.
 fn total(given: bool, answers: &[u32], alikes: &[u32], blikes: &[u32]) {
     let mut room = [0u8; 1024];
-    let n = sorting::totals(given, answers, alikes, blikes, &mut room);
+    let n = tally::totals(given, answers, alikes, blikes, &mut room);
     say(&room[..n]);
 }
 

@@ -22,10 +22,9 @@ use Rattle.sorting.specs.declared.Customer.{Customer}
 use Rattle.sorting.specs.declared.Verdict.{Verdict}
 use Rattle.sorting.specs.Verdict.{refusedVerdict, trainingVerdict, finalVerdict, judged, verdictOf}
 use Rattle.sorting.specs.Line.{shown, reason, likeCell, trainingCells, finalCells, badCells, goodCells, cells, cardLine, heading}
-use Rattle.sorting.specs.Totals.{howMany, countText, reasonLine, reasonLines, counted, likeLine, likeLines, lastLine, cardsLine, totalsText, allGood}
 
 -- either text
-cond-length : (b : Bool) (x y : List ℕ) (m : ℕ) → length x ≤ m → length y ≤ m → length (cond b x y) ≤ m
+pub cond-length : (b : Bool) (x y : List ℕ) (m : ℕ) → length x ≤ m → length y ≤ m → length (cond b x y) ≤ m
 cond-length true x y m h l = h
 cond-length false x y m h l = l
 
@@ -36,7 +35,7 @@ unfolding shown
 shown-length [] = refl
 shown-length (o ∷ os) = ap suc (shown-length os)
 
-reason-length : (n : ℕ) → length (reason n) ≤ 54
+pub reason-length : (n : ℕ) → length (reason n) ≤ 54
 unfolding reason
 reason-length n =
     cond-length (eqb n 1) _ _ 54 (lit≤ tt)
@@ -100,53 +99,3 @@ pub heading-fits : (given : Bool) → length (heading given) ≤ 128
 unfolding heading
 heading-fits true = lit≤ tt
 heading-fits false = lit≤ tt
-
--- ---- the totals
-
-count-length : (n : ℕ) → length (countText n) ≤ 10
-unfolding countText
-count-length n = decimal-length 9 (min n 4294967295) (omega arith)
-
-reason-line-length : (n : ℕ) (answers : List ℕ) → length (reasonLine n answers) ≤ 66
-unfolding reasonLine
-reason-line-length n answers =
-    cond-length (eqb (howMany n answers) 0) [] _ 66 (lit≤ tt)
-    (simp length-append (omega (arith, count-length (howMany n answers), reason-length n)))
-
-reason-lines-length : (n : ℕ) (answers : List ℕ) → length (reasonLines n answers) ≤ n * 66
-unfolding reasonLines
-reason-lines-length zero answers = lit≤ tt
-reason-lines-length (suc n) answers =
-    omega (arith, length-append (reasonLines n answers) (reasonLine (suc n) answers), reason-lines-length n answers, reason-line-length (suc n) answers)
-
-counted-length : (x : ℕ) (likes word : List ℕ) → length (counted x likes word) ≤ length word + 10
-unfolding counted
-counted-length x likes word = simp length-append (omega (arith, count-length (howMany x likes)))
-
-like-line-length : (name likes : List ℕ) → length (likeLine name likes) ≤ length name + 53
-unfolding likeLine
-like-line-length name likes =
-    simp length-append
-    (omega (arith, counted-length 1 likes (text " same, "), counted-length 2 likes (text " TURNED, "), counted-length 3 likes (text " other\n")))
-
-like-lines-length : (given : Bool) (alikes blikes : List ℕ) → length (likeLines given alikes blikes) ≤ 112
-unfolding likeLines
-like-lines-length given alikes blikes =
-    cond-length given _ [] 112
-    (simp length-append (omega (arith, like-line-length (text "A: ") alikes, like-line-length (text "B: ") blikes))) (lit≤ tt)
-
-cards-length : (answers : List ℕ) → length (cardsLine answers) ≤ 50
-unfolding cardsLine
-cards-length answers =
-    simp length-append
-    (omega (arith, count-length (length answers), count-length (howMany 0 answers), count-length (length answers - howMany 0 answers)))
-
-last-length : (good : Bool) → length (lastLine good) ≤ 13
-unfolding lastLine
-last-length good = cond-length good _ _ 13 (lit≤ tt) (lit≤ tt)
-
-pub totals-fit : (given : Bool) (answers alikes blikes : List ℕ) → length (totalsText given answers alikes blikes) ≤ 1024
-unfolding totalsText
-totals-fit given answers alikes blikes =
-    simp length-append
-    (omega (arith, cards-length answers, reason-lines-length 9 answers, like-lines-length given alikes blikes, last-length (allGood given answers alikes blikes)))

@@ -4,11 +4,11 @@ use mathlib.Core.Bool.{Bool}
 use mathlib.Core.List.{List, _++_}
 use Prim.Native.Nat.{ℕ}
 use lib.ListN.{take, drop}
+use Rattle.ascii.proofs.One.{put-one}
 use Rattle.sorting.specs.declared.Customer.{Customer}
 use Rattle.sorting.specs.declared.Verdict.{Verdict}
-use Rattle.sorting.specs.Line.{cardLine, heading}
-use Rattle.sorting.specs.Totals.{totalsText}
-use Rattle.sorting.specs.Promises.{Judged, Unread, IsNobody, IsCustomer, Told, Headed, Lined, Totalled}
+use Rattle.sorting.specs.Line.{reason, cardLine, heading}
+use Rattle.sorting.specs.Promises.{Judged, Unread, IsNobody, IsCustomer, ReasonPut, Told, Headed, Lined}
 
 pub judge-one : (frame : List ℕ) (k : Customer) (r r′ : Verdict) → Judged frame k r → Judged frame k r′ → r ≡ r′
 judge-one frame k r r′ p q = p ∙ sym q
@@ -22,8 +22,11 @@ nobody-one r r′ p q = p ∙ sym q
 pub reference-one : (frame : List ℕ) (r r′ : Customer) → IsCustomer frame r → IsCustomer frame r′ → r ≡ r′
 reference-one frame r r′ p q = p ∙ sym q
 
+pub put-reason-one : (room : List ℕ) (at n r r′ : ℕ) (t t′ : List ℕ) → ReasonPut room at n r t → ReasonPut room at n r′ t′ → (r ≡ r′) × (t ≡ t′)
+put-reason-one room at n = put-one room at (reason n)
+
 -- a text told
-told-one : (text room : List ℕ) (r r′ : ℕ) (t t′ : List ℕ) → Told text room r t → Told text room r′ t′ → (r ≡ r′) × (t ≡ t′)
+pub told-one : (text room : List ℕ) (r r′ : ℕ) (t t′ : List ℕ) → Told text room r t → Told text room r′ t′ → (r ≡ r′) × (t ≡ t′)
 told-one text room r r′ t t′ p q =
     let e : r ≡ r′ = p .count ∙ sym (q .count) in
     (e, p .room-left ∙ ap (λ (n : ℕ). take n text ++ drop n room) e ∙ sym (q .room-left))
@@ -33,7 +36,3 @@ header-one given = told-one (heading given)
 
 pub line-one : (name : List ℕ) (v : Verdict) (room : List ℕ) (r r′ : ℕ) (t t′ : List ℕ) → Lined name v room r t → Lined name v room r′ t′ → (r ≡ r′) × (t ≡ t′)
 line-one name v = told-one (cardLine name v)
-
-pub totals-one : (given : Bool) (answers alikes blikes room : List ℕ) (r r′ : ℕ) (t t′ : List ℕ) → Totalled given answers alikes blikes room r t
-    → Totalled given answers alikes blikes room r′ t′ → (r ≡ r′) × (t ≡ t′)
-totals-one given answers alikes blikes = told-one (totalsText given answers alikes blikes)

@@ -1,4 +1,3 @@
 pub mod Verdict
 pub mod Line
-pub mod Totals
 pub mod Promises

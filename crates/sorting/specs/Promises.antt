@@ -4,11 +4,11 @@ use mathlib.Core.Bool.{Bool}
 use mathlib.Core.List.{List, _++_}
 use Prim.Native.Nat.{ℕ, min}
 use lib.ListN.{length, take, drop}
+use Rattle.ascii.specs.Promises.{Put}
 use Rattle.sorting.specs.declared.Customer.{Customer}
 use Rattle.sorting.specs.declared.Verdict.{Verdict}
 use Rattle.sorting.specs.Verdict.{verdictOf, refusedVerdict, nobody, customerOf}
-use Rattle.sorting.specs.Line.{cardLine, heading}
-use Rattle.sorting.specs.Totals.{totalsText}
+use Rattle.sorting.specs.Line.{reason, cardLine, heading}
 
 -- judge
 abbrev pub Judged : List ℕ → Customer → Verdict → Type 0
@@ -31,6 +31,10 @@ pub record Told (text room : List ℕ) (r : ℕ) (exit : List ℕ) : Type 0 wher
   pub count : r ≡ min (length text) (length room)
   pub room-left : exit ≡ take r text ++ drop r room
 
+-- put_reason
+abbrev pub ReasonPut : List ℕ → ℕ → ℕ → ℕ → List ℕ → Type 0
+ReasonPut room at n r exit = Put room at (reason n) r exit
+
 -- header
 abbrev pub Headed : Bool → List ℕ → ℕ → List ℕ → Type 0
 Headed given room r exit = Told (heading given) room r exit
@@ -38,7 +42,3 @@ Headed given room r exit = Told (heading given) room r exit
 -- line
 abbrev pub Lined : List ℕ → Verdict → List ℕ → ℕ → List ℕ → Type 0
 Lined name v room r exit = Told (cardLine name v) room r exit
-
--- totals
-abbrev pub Totalled : Bool → List ℕ → List ℕ → List ℕ → List ℕ → ℕ → List ℕ → Type 0
-Totalled given answers alikes blikes room r exit = Told (totalsText given answers alikes blikes) room r exit
