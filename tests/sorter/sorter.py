@@ -8,6 +8,8 @@ import random
 import subprocess
 import sys
 import tempfile
+import threading
+import time
 
 SEED = 20261117
 TRAINING = "11111001101011"
@@ -217,6 +219,7 @@ case("names with spaces, a tab, a new line, an escape, 127, and octets over 127"
       for name in (b"a b", b" ", b"tab\there", b"line\nbreak", b"\x1b[2J", b"\x01\x1f\x7f", "größe".encode(), b"\xff\xfe\x80", b"~", b"%s%n")])
 case("a name of 255 octets", [Card(b"n" * 255, ONE.octets, ONE.kind, ONE.verdict, ONE.cells, ONE.words)])
 case("an option's name behind the first file", [ONE, unread("--like")])
+case("an empty name", [ONE, unread("")])
 
 customer = (1398102, 5)
 both = [good("same.frame", [1], *customer), good("turned.frame", [1], turned(customer[0]), turned(customer[1])),
@@ -232,11 +235,35 @@ case("beside a customer: refused, unread and final cards have nothing to compare
 case("beside a customer: a final frame is not the same", [both[0], final("final.frame")], customer)
 case("A is not compared with the customer's B", [good("exchanged.frame", [1], customer[1], customer[0])], customer)
 
+with tempfile.TemporaryDirectory() as folder:
+    compare("a name too long for a path is cut", run(folder, [b"n" * 5000]), (0, printed([unread(b"n" * 4096)]), b""))
+
+
+def in_parts(path, parts):
+    with open(path, "wb", buffering=0) as out:
+        for part in parts:
+            out.write(part)
+            time.sleep(0.2)
+
+
+with tempfile.TemporaryDirectory() as folder:
+    pipe = os.path.join(folder, "one.frame")
+    os.mkfifo(pipe)
+    writer = threading.Thread(target=in_parts, args=(pipe, [SOUND[:1], SOUND[1:300], SOUND[300:]]))
+    writer.start()
+    compare("a frame that comes in parts through a named pipe", run(folder, ["one.frame"]), (0, printed([ONE]), b""))
+    writer.join()
+with tempfile.TemporaryDirectory() as folder, open("/dev/full", "wb") as full:
+    store(folder, [ONE])
+    got = subprocess.run(command + [ONE.name], cwd=folder, stdout=full, stderr=subprocess.PIPE)
+    report("a line that cannot be written is told", got.stderr == b"sorter: standard output: No space left on device\n" * 3)
+
 USAGE = b"usage: sorter [--like FILE] FILE...\n"
 refusal("no arguments", [], USAGE)
 refusal("--like alone", ["--like"], USAGE)
 refusal("--like and no card", ["--like", "customer"], USAGE, [("customer", SOUND)])
 refusal("an unknown option", ["--help"], USAGE)
+refusal("65537 files", ["x"] * 65537, b"sorter: more than 65536 files\n")
 NOT = b"sorter: the reference is not a training frame that reads:\n"
 refusal("a reference that does not read", ["--like", "customer", "one"], NOT + bad("customer", b"", 7).line(None),
         [("customer", wrong(SOUND, 15)), ("one", SOUND)])

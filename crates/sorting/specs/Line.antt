@@ -1,6 +1,6 @@
 -- One line for a card, with a tab between its cells: file, kind, verdict, coefficients, A, B, vendor data; with a customer also how A and B
 -- compare. A cell that holds nothing is "-".
-use mathlib.Core.Bool.{Bool, true, false, cond, _||_}
+use mathlib.Core.Bool.{Bool, cond, _||_}
 use mathlib.Core.List.{List, [], _∷_, _++_}
 use Prim.Native.Nat.{ℕ, zero, suc}
 use lib.Dec.{eqb, ltb}

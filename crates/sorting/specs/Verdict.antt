@@ -1,6 +1,6 @@
 -- What a card's frame is found to be: the answer of reading it, its kind, what a buyer compares, and how its words compare with a customer's.
 use mathlib.Core.Bool.{Bool, true, false, cond}
-use mathlib.Core.List.{List, [], _∷_, reverse}
+use mathlib.Core.List.{List, reverse}
 use Prim.Native.Nat.{ℕ, zero, suc}
 use lib.Dec.{eqb}
 use lib.ListN.{replicate}

@@ -1,6 +1,6 @@
 -- The totals: so many cards good, so many bad, the bad ones by reason, and with a customer how A and B compare. They are counted over three
 -- lists with an entry for each card: its answer, and how its A and its B compare.
-use mathlib.Core.Bool.{Bool, true, false, cond, not, _&&_, _||_}
+use mathlib.Core.Bool.{Bool, cond, not, _&&_, _||_}
 use mathlib.Core.List.{List, [], _∷_, _++_}
 use Prim.Native.Nat.{ℕ, zero, suc, _+_, _-_, min}
 use lib.Dec.{eqb}

@@ -1,8 +1,6 @@
 -- `sorting::header` meets its contract.
 use borrow.Author.Needs.{needs}
 use mathlib.Core.Path.{sym, ap}
-use mathlib.Core.Bool.{Bool, cond}
-use mathlib.Core.List.{_++_}
 use Rattle.ascii.specs.Text.{text}
 use Rattle.ascii.proofs.Room.{put-more, put-as}
 use Rattle.sorting.specs.Line.{heading}

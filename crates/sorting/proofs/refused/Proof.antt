@@ -1,6 +1,5 @@
 -- `sorting::refused` meets its contract.
 use borrow.Author.Needs.{needs}
-use Rattle.sorting.specs.Verdict.{refusedVerdict}
 use Rattle.sorting.proofs.refused.Statement.{statement}
 use Rattle.sorting.proofs.refused.Tie as tie
 
