@@ -1,4 +1,4 @@
-# make                      builds the static library for a card's host software, build/libsdsl.a, and the programs, build/lister
+# make                      builds the static library for a card's host software, build/libsdsl.a, and the programs, build/NAME
 # make test                 proves every crate, then runs every test; the last line is 'N passed, 0 failed'
 # make pair                 builds the example host, build/pair, which trains two cards in memory (examples/pair)
 # make bench                measures every operation against plain C and what else there is (docs/PERFORMANCE.md)
@@ -9,7 +9,7 @@
 .PHONY: all test pair bench install uninstall clean help
 
 VERSION = 0.1.0
-PROGRAMS = lister
+PROGRAMS = lister sorter
 PREFIX = /usr/local
 bindir = $(PREFIX)/bin
 includedir = $(PREFIX)/include

@@ -143,10 +143,10 @@ module _ (f : List ℕ) (cs : List ℤ) (v : List ℕ) (lc : length cs ≡ 180) 
   F = record { answer = 0; kind = 1; a = 0; b = 0 }
 
   -- with rooms of the right length, reading answers as checking does
-  same : answer (readRefusals f cs v) ≡ answer (checkRefusals f)
+  pub same : answer (readRefusals f cs v) ≡ answer (checkRefusals f)
   same = simp (eq-eqb (length cs) 180 lc, eq-eqb (length v) 16 lv)
 
-  found : r ≡ foundOf (answer (checkRefusals f)) B
+  pub found : r ≡ foundOf (answer (checkRefusals f)) B
   found = d .found ∙ ap (λ (n : ℕ). foundOf n B) same
 
   -- a refusal
@@ -164,7 +164,7 @@ module _ (f : List ℕ) (cs : List ℤ) (v : List ℕ) (lc : length cs ≡ 180) 
 
   module _ (z : r .answer ≡ 0) where
     -- no refusal
-    none-applies : answer (checkRefusals f) ≡ 0
+    pub none-applies : answer (checkRefusals f) ≡ 0
     none-applies = go (answer (checkRefusals f)) found
       where
         go : (n : ℕ) → r ≡ foundOf n B → n ≡ 0
@@ -174,13 +174,13 @@ module _ (f : List ℕ) (cs : List ℤ) (v : List ℕ) (lc : length cs ≡ 180) 
     pub read-length : length f ≡ 529
     read-length = eqb-true (length f) 529 (not-false _ (none 0 (not (eqb (length f) 529)) (bitRefusals B) none-applies .0))
 
-    coefficients-are : cs′ ≡ coefficientsLeft B cs
+    pub coefficients-are : cs′ ≡ coefficientsLeft B cs
     coefficients-are = d .coefficients-left ∙ given _ cs (coefficientsLeft B cs) (same ∙ none-applies)
 
-    vendor-is : v′ ≡ vendorOctets B
+    pub vendor-is : v′ ≡ vendorOctets B
     vendor-is = d .vendor-left ∙ given _ v (vendorOctets B) (same ∙ none-applies)
 
-    found-is : r ≡ foundOf 0 B
+    pub found-is : r ≡ foundOf 0 B
     found-is = found ∙ ap (λ (n : ℕ). foundOf n B) none-applies
 
     -- what is printed where nothing is wrong

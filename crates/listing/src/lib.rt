@@ -6,8 +6,7 @@ ghost use lib.ListN.{length, take};
 ghost use Rattle.ascii.specs.Text.{decimal};
 ghost use Rattle.ascii.specs.Promises.{Put};
 ghost use Rattle.listing.specs.Listing.{coefficientLine, coefficientLines, vendorLine, checkLine, trainingText, finalText};
-ghost use Rattle.listing.specs.Listing.{highest as highestOf};
-ghost use Rattle.listing.specs.Promises.{Listed};
+ghost use Rattle.listing.specs.Promises.{Highest, Listed};
 
 // A line that names a number.
 fn put_number_line(room: &mut [u8], at: usize, name: &[u8], n: u32) -> usize
@@ -45,13 +44,12 @@ fn put_coefficient_lines(room: &mut [u8], at: usize, cs: &[i32], n: u32) -> usiz
 }
 
 // The number of the highest non-zero coefficient, counted from 1; 0 where there is none.
-fn highest(cs: &[i32]) -> u32
-    requires { ⌜ length (now cs) ≡ 180 ⌝ }
-    ensures { λ r. ⌜ r ≡ highestOf (now (cs .entry)) ⌝ }
+pub fn highest(cs: &[i32]) -> usize
+    ensures { λ r. ⌜ Highest (now (cs .entry)) r ⌝ }
 {
-    let mut n: u32 = 180;
+    let mut n = cs.len();
     while 0 < n {
-        let i = (n - 1) as usize;
+        let i = n - 1;
         if cs[i] != 0 {
             return n;
         }
@@ -85,7 +83,7 @@ fn put_training(room: &mut [u8], cs: &[i32], a: u32, b: u32, vendor: &[u8], chec
     requires { ⌜ (length (now cs) ≡ 180) × (check < 65536) ⌝ }
     ensures { λ r. ⌜ Put (now (room .entry)) 0 (trainingText (now (cs .entry)) a b (now (vendor .entry)) check) r (now (room .exit)) ⌝ }
 {
-    let n = highest(cs);
+    let n = highest(cs) as u32;
     let mut at = ascii::put_word(room, 0, b"kind training\n");
     at = put_number_line(room, at, b"coefficients ", n);
     at = put_coefficient_lines(room, at, cs, n);

@@ -2,7 +2,7 @@
 use mathlib.Core.Path.{_≡_, sym, ap, _∙_}
 use Prim.Native.Nat.{_≤_}
 use native.Mathlib.Omega.{arith}
-use lib.ListN.{take}
+use lib.ListN.{length, take}
 use lib.Seq.{take-all}
 use Rattle.listing.specs.Listing.{highest}
 use Rattle.listing.proofs.Laws.{zero-is, zero-not, highest-here, highest-below, highest-none}
@@ -10,19 +10,16 @@ use Rattle.listing.proofs.highest.Statement.{statement}
 use Rattle.listing.proofs.highest.Tie as tie
 
 abbrev Inv-loop : tie.InvT-loop
-Inv-loop cs n₀ n = (n ≤ 180) × (highest (take n cs) ≡ highest cs)
+Inv-loop cs n₀ n = (n ≤ length cs) × (highest (take n cs) ≡ highest cs)
 
 abbrev μ-loop : tie.MeasureT-loop
 μ-loop cs n₀ n = n
 
 loop-holds : tie.Need-loop-holds Inv-loop μ-loop
-loop-holds c = (omega arith, ap highest (take-all 180 (c .args .cs .now) (omega arith)))
+loop-holds c = (omega arith, ap highest (take-all (length (c .args .cs .now)) (c .args .cs .now) (omega arith)))
 
 sub-i : tie.Need-sub-i Inv-loop μ-loop
 sub-i c = omega arith
-
-cast-i : tie.Need-cast-i Inv-loop μ-loop
-cast-i c = omega arith
 
 mul-if1 : tie.Need-mul-if1 Inv-loop μ-loop
 mul-if1 c = omega arith
@@ -60,7 +57,6 @@ highest-spec =
     μ-loop
     loop-holds
     sub-i
-    cast-i
     mul-if1
     shared-slice-copy-out-if1
     returns

@@ -15,6 +15,9 @@ use Rattle.listing.proofs.put_training.Tie as tie
 highest-requires : tie.Need-highest-requires
 highest-requires c κs = search needs
 
+cast-n : tie.Need-cast-n
+cast-n c = omega (arith, c .highest .ensures, highest-within (c .before .before .before .args .cs .now), c .before .before .before .pre .0)
+
 slice-aggregate-put-word : tie.Need-slice-aggregate-put-word
 slice-aggregate-put-word c = search needs
 
@@ -78,6 +81,7 @@ put-training-spec =
     tie.close
     (tie.spec
     highest-requires
+    cast-n
     slice-aggregate-put-word
     put-word-requires
     slice-aggregate-put-number-line
