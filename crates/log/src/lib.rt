@@ -94,7 +94,7 @@ impl Line {
     }
 
     // As many ticks as these digits say.
-    fn counted(digits: &[u8]) -> Line
+    pub fn counted(digits: &[u8]) -> Line
         ensures { λ r. ⌜ r ≡ counted (now (digits .entry)) ⌝ }
     {
         let mut ticks: u64 = 0;

@@ -1,0 +1,159 @@
+// The start-up replayer: tells the story of a log on standard input. What a line says is crate log's, what happened and its text crate
+// story's; here they are only read, looped over and written.
+//
+//     replay ltu|ntu [SILENCE] < LOG
+ghost use Prim.Native.Nat.{_≤_};
+ghost use lib.ListN.{length};
+use libc::STDIN_FILENO;
+use libc::STDOUT_FILENO;
+use log::Line;
+use startup::Supervisor;
+use story::Event;
+use story::Story;
+use story::kind;
+
+// The most octets that a log may have.
+const MOST: usize = 1048576;
+
+// Writes the line of an event, unless there is nothing to tell. 192 octets are room for every line (story's theorems on what fits).
+fn tell(event: Event) {
+    if event.kind == kind::NOTHING {
+        return;
+    }
+    let mut room = [0u8; 192];
+    let n = story::put_event(&mut room, event);
+    io::write_all(STDOUT_FILENO, &room[..n]);
+}
+
+// Writes the line of the log's end.
+fn tell_end(story: Story) {
+    let mut room = [0u8; 192];
+    let n = story::put_end(&mut room, story);
+    io::write_all(STDOUT_FILENO, &room[..n]);
+}
+
+// Writes the line of a refusal.
+fn tell_refused(answer: u32, line: u32) {
+    let mut room = [0u8; 192];
+    let n = story::put_refused(&mut room, answer, line);
+    io::write_all(STDOUT_FILENO, &room[..n]);
+}
+
+// Tells the codes of a line, up to the first that is refused, and gives the last event; of a line without codes, one that tells nothing.
+fn follow(story: Story, said: Line) -> Event {
+    let code = said.code;
+    let times = said.times;
+    let mut event = Event {
+        answer: said.answer,
+        kind: kind::NOTHING,
+        code: 0,
+        attempt: 0,
+        ticks: 0,
+        story,
+    };
+    let mut k = 0;
+    while k < times {
+        let so_far = event.story;
+        event = so_far.step(code);
+        if event.answer != answer::DONE {
+            return event;
+        }
+        tell(event);
+        k += 1;
+    }
+    event
+}
+
+// Tells a log line by line, to its end or the first line that is refused. One octet more than a log may have shows that it is too long.
+fn replay(log: &[u8], begun: Event)
+    requires { ⌜ length (now log) ≤ 1048577 ⌝ }
+{
+    tell(begun);
+    let mut story = begun.story;
+    let mut line: u32 = 1;
+    let mut at = 0;
+    while at < log.len() {
+        let end = log::line_end(log, at);
+        if MOST < end {
+            tell_refused(answer::LENGTH, line);
+            return;
+        }
+        let event = follow(story, Line::read(&log[at..end]));
+        if event.answer != answer::DONE {
+            tell_refused(event.answer, line);
+            return;
+        }
+        story = event.story;
+        line += 1;
+        at = end + 1;
+    }
+    if MOST < log.len() {
+        tell_refused(answer::LENGTH, line);
+    } else {
+        tell_end(story);
+    }
+}
+
+// The end of this name; 2 for any other, which no start takes.
+fn end_named(word: &[u8]) -> u32 {
+    if word.len() != 3 {
+        return 2;
+    }
+    if word[1] != b't' {
+        return 2;
+    }
+    if word[2] != b'u' {
+        return 2;
+    }
+    match word[0] {
+        b'l' => Supervisor::LTU,
+        b'n' => Supervisor::NTU,
+        _ => 2,
+    }
+}
+
+// The end that the first argument names. More than two arguments name none.
+fn end_given() -> u32 {
+    if 3 < os::arg_count() {
+        return 2;
+    }
+    let mut word = [0u8; 4];
+    let n = os::arg(1, &mut word);
+    end_named(&word[..n])
+}
+
+// The silence that the second argument gives: 0, the default, where there is none; 1, which no start takes, where it is no number.
+fn silence_given() -> u32 {
+    if os::arg_count() < 3 {
+        return 0;
+    }
+    let mut word = [0u8; 16];
+    let n = os::arg(2, &mut word);
+    let said = Line::counted(&word[..n]);
+    if said.answer == answer::DONE {
+        said.times
+    } else {
+        1
+    }
+}
+
+fn main() {
+    let begun = Story::start(end_given(), silence_given());
+    if begun.answer == answer::UNKNOWN {
+        io::write_all(
+            STDOUT_FILENO,
+            b"refused 2\nusage: replay ltu|ntu [SILENCE] < LOG\n",
+        );
+        return;
+    }
+    if begun.answer != answer::DONE {
+        io::write_all(
+            STDOUT_FILENO,
+            b"refused 4\nusage: replay ltu|ntu [SILENCE] < LOG, SILENCE from 2000 to 60000\n",
+        );
+        return;
+    }
+    let mut log = [0u8; 1048577];
+    let n = io::read_full(STDIN_FILENO, &mut log);
+    replay(&log[..n], begun);
+}
