@@ -2,6 +2,7 @@
 // story's; here they are only read, looped over and written.
 //
 //     replay ltu|ntu [SILENCE] < LOG
+ghost use mathlib.Core.Path.{_≡_};
 ghost use Prim.Native.Nat.{_≤_};
 ghost use lib.ListN.{length};
 use libc::STDIN_FILENO;
@@ -137,6 +138,13 @@ fn silence_given() -> u32 {
     }
 }
 
+// Room for a log and one octet more. The proofs of its callers know its length alone, and never count it out.
+fn room() -> [u8; 1048577]
+    ensures { λ r. ⌜ 1048577 ≡ length r ⌝ }
+{
+    [0; 1048577]
+}
+
 fn main() {
     let begun = Story::start(end_given(), silence_given());
     if begun.answer == answer::UNKNOWN {
@@ -153,7 +161,7 @@ fn main() {
         );
         return;
     }
-    let mut log = [0u8; 1048577];
+    let mut log = room();
     let n = io::read_full(STDIN_FILENO, &mut log);
     replay(&log[..n], begun);
 }
