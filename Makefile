@@ -1,20 +1,20 @@
-# make        builds the static library for the card's host software, build/libsdsl.a, and the bench lister, build/lister
+# make        builds the static library for the card's host software, build/libsdsl.a, and the bench programs, build/lister and build/replay
 # make test   proves every crate, then runs every test; the last line is 'N passed, 0 failed'
 .PHONY: all test clean
 
 SOURCES = crates.txt $(shell find crates -name '*.rt' -o -name '*.antt')
 
-all: build/libsdsl.a build/lister
+all: build/libsdsl.a build/lister build/replay
 
 build/libsdsl.a: $(SOURCES)
 	rt staticlib host
 	mkdir -p build
 	cp target/staticlib/libhost.a $@
 
-build/lister: $(SOURCES)
-	rt check lister
+build/lister build/replay: build/%: $(SOURCES)
+	rt check $*
 	mkdir -p build
-	cp target/bin/lister $@
+	cp target/bin/$* $@
 
 test:
 	bash tests/run

@@ -101,10 +101,10 @@ start-told g z = simp z
 -- ---- what is left of a phase outside an attempt
 
 pub left-some : (s : Supervisor) (l n : ℕ) → (s .phase ≡ 1) ⊎ ((s .phase ≡ 11) ⊎ (s .phase ≡ 13)) → l ≡ lasts (s .silence) (s .phase) → n ≡ l - s .ticks
-    → numbered ", " n " ticks left" ≡ leftText s
-left-some s l n h q e = ap (λ (k : ℕ). numbered ", " k " ticks left") (e ∙ ap (λ (k : ℕ). k - s .ticks) q) ∙ go h
+    → numbered ", " n " left" ≡ leftText s
+left-some s l n h q e = ap (λ (k : ℕ). numbered ", " k " left") (e ∙ ap (λ (k : ℕ). k - s .ticks) q) ∙ go h
   where
-    go : (s .phase ≡ 1) ⊎ ((s .phase ≡ 11) ⊎ (s .phase ≡ 13)) → numbered ", " (lasts (s .silence) (s .phase) - s .ticks) " ticks left" ≡ leftText s
+    go : (s .phase ≡ 1) ⊎ ((s .phase ≡ 11) ⊎ (s .phase ≡ 13)) → numbered ", " (lasts (s .silence) (s .phase) - s .ticks) " left" ≡ leftText s
     go (inl a) = rw a
     go (inr (inl a)) = rw a
     go (inr (inr a)) = rw a

@@ -69,7 +69,7 @@ lasts silence p = cond (eqb p Gap) 300 (cond (eqb p Settling) 1000 silence)
 abbrev pub leftText : Supervisor → List ℕ
 leftText s =
     cond (eqb (s .phase) Gap || (eqb (s .phase) Settling || eqb (s .phase) Exception))
-    (numbered ", " (lasts (s .silence) (s .phase) - s .ticks) " ticks left")
+    (numbered ", " (lasts (s .silence) (s .phase) - s .ticks) " left")
     []
 
 -- a story in an attempt: still trying, with the ticks used and left

@@ -146,7 +146,7 @@ fn put_left(room: &mut [u8], at: usize, state: Supervisor) -> usize
     match phase {
         phase::GAP | phase::SETTLING | phase::EXCEPTION => {
             let left = rest(lasts(state.silence, phase), state.ticks);
-            put_number(room, at, b", ", left, b" ticks left")
+            put_number(room, at, b", ", left, b" left")
         },
         _ => at,
     }
