@@ -29,8 +29,9 @@ use Rattle.startup.proofs.Agreement.{run-agrees}
 use Rattle.story.specs.declared.Story.{Story}
 use Rattle.story.specs.declared.Event.{Event}
 use Rattle.story.specs.Events.{story, refusedWith, told, eventOf, startWith, startOf, storyOf}
-use Rattle.story.specs.Whole.{Tells}
+use Rattle.story.specs.Whole.{Tells, TellsEvent}
 use Rattle.story.proofs.Laws.{event-told}
+use Rattle.story.proofs.Each.{kind-from, kind-to, turn-either}
 
 -- ---- code by code
 
@@ -127,15 +128,15 @@ module _ (end silence : ℕ) (known : end ≤ 1) (t : Taken silence) (l : List �
   abbrev k : Card
   k = card end (meant silence)
 
-  -- one step of the story
-  stepped : (n : ℕ) → n < length l → (s : Story) → s ≡ story (after s₀ l n) (upto 0 l n) (openings s₀ l n)
-      → eventOf s (at l n) .story ≡ story (after s₀ l (suc n)) (upto 0 l (suc n)) (openings s₀ l (suc n))
-  stepped n h s e =
+  -- one event of the story, from the moment n
+  told-at : (n : ℕ) → n < length l → (s : Story) → s ≡ story (after s₀ l n) (upto 0 l n) (openings s₀ l n)
+      → eventOf s (at l n) ≡ told (story (after s₀ l n) (upto 0 l n) (openings s₀ l n)) (after s₀ l (suc n)) (at l n)
+  told-at n h s e =
       let g = stepOf (after s₀ l n) (at l n) in
       let v = story (after s₀ l n) (upto 0 l n) (openings s₀ l n) in
-      ap (λ (x : Story). eventOf x (at l n) .story) e
-      ∙ ap (λ (x : Event). x .story) (sym (event-told g v (at l n) (demand3 end silence known t l .answered n (codes n h) .0) (told v (g .state) (at l n)) (omega (arith, few-ticks l n)) (omega (arith, few-openings s₀ l n)) refl))
-      ∙ ap (λ (x : Supervisor). story x (upto 0 l (suc n)) (openings s₀ l n + one (eqb (attemptEvent (after s₀ l n .phase) (x .phase)) 1))) (sym (after-suc s₀ l n))
+      ap (λ (x : Story). eventOf x (at l n)) e
+      ∙ sym (event-told g v (at l n) (demand3 end silence known t l .answered n (codes n h) .0) (told v (g .state) (at l n)) (omega (arith, few-ticks l n)) (omega (arith, few-openings s₀ l n)) refl)
+      ∙ ap (λ (x : Supervisor). told v x (at l n)) (sym (after-suc s₀ l n))
 
   -- the story at the moment n
   pub at-moment : (n : ℕ) → n ≤ length l → storyOf (startOf end silence .story) (take n l) ≡ story (after s₀ l n) (upto 0 l n) (openings s₀ l n)
@@ -143,7 +144,7 @@ module _ (end silence : ℕ) (known : end ≤ 1) (t : Taken silence) (l : List �
   at-moment (suc n) h =
       ap (storyOf (startOf end silence .story)) (take-suc l n 9 h)
       ∙ story-more (startOf end silence .story) (take n l) (at l n)
-      ∙ stepped n h (storyOf (startOf end silence .story) (take n l)) (at-moment n (omega arith))
+      ∙ ap (λ (x : Event). x .story) (told-at n h (storyOf (startOf end silence .story) (take n l)) (at-moment n (omega arith)))
 
   at-end : storyOf (startOf end silence .story) l ≡ story (steps s₀ l) (upto 0 l (length l)) (openings s₀ l (length l))
   at-end =
@@ -185,4 +186,22 @@ module _ (end silence : ℕ) (known : end ≤ 1) (t : Taken silence) (l : List �
         attempts = openings-are;
         trying = (λ a. open-either .1 (subst (λ (xs : List ℕ). inAttempt (steps s₀ xs .phase) ≡ true) (sym (take-length l)) a), λ w. subst (λ (xs : List ℕ). inAttempt (steps s₀ xs .phase) ≡ true) (take-length l) (open-either .0 (w .0) (w .1) (w .2) .0));
         used = λ m o x. subst (λ (xs : List ℕ). steps s₀ xs .attempt ≡ count 0 l m (length l)) (take-length l) (open-either .0 m o x .1);
+      })
+
+  -- AND SO DOES EACH EVENT OF IT
+  pub tells-event : (p : ℕ) → p < length l → TellsEvent end silence l p (eventOf (storyOf (startOf end silence .story) (take p l)) (at l p))
+  tells-event p h =
+      let w = turn-either end silence known t l p in
+      let s = after s₀ l p in
+      let s′ = after s₀ l (suc p) in
+      let e = attemptEvent (s .phase) (s′ .phase) in
+      let c = at l p in
+      subst (TellsEvent end silence l p) (sym (told-at p h (storyOf (startOf end silence .story) (take p l)) (at-moment p (omega arith))))
+      (record {
+        state = refl;
+        clock = refl;
+        opens = (λ q. w .opens .0 (kind-from e 1 s s′ c (omega arith) (omega arith) q), λ o. kind-to e 1 s s′ c (omega arith) (w .opens .1 o));
+        in-data = (λ q. w .in-data .0 (kind-from e 2 s s′ c (omega arith) (omega arith) q), λ o. kind-to e 2 s s′ c (omega arith) (w .in-data .1 o));
+        in-exception = (λ q. w .in-exception .0 (kind-from e 3 s s′ c (omega arith) (omega arith) q), λ o. kind-to e 3 s s′ c (omega arith) (w .in-exception .1 o));
+        ticks = w .ticks;
       })
