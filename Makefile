@@ -2,16 +2,18 @@
 # make test   proves every crate, then runs every test; the last line is 'N passed, 0 failed'
 .PHONY: all test clean
 
+PROGRAMS = lister replay
+
 SOURCES = crates.txt $(shell find crates -name '*.rt' -o -name '*.antt')
 
-all: build/libsdsl.a build/lister build/replay
+all: build/libsdsl.a $(PROGRAMS:%=build/%)
 
 build/libsdsl.a: $(SOURCES)
 	rt staticlib host
 	mkdir -p build
 	cp target/staticlib/libhost.a $@
 
-build/lister build/replay: build/%: $(SOURCES)
+$(PROGRAMS:%=build/%): build/%: $(SOURCES)
 	rt check $*
 	mkdir -p build
 	cp target/bin/$* $@
