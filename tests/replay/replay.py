@@ -150,9 +150,11 @@ for number, wrong in ((2, b"9"), (2, b"10"), (2, b"00"), (2, b"abc"), (2, b" 1")
 case("refused 2: the first line", "ltu", "x", ready + "refused 2 at line 1\n")
 case("refused 2: the last line, after 100,000 others", "ltu", "0\n" * 100000 + "9", ready + "refused 2 at line 100001\n")
 case("a log of 1,048,576 octets", "ntu", "#" * 1048574 + "\n1", gap + "end of log at tick 0: no attempt is open, 0 ended, now Gap (300 ticks), 300 left\n")
-case("refused 1: one octet more", "ntu", "#" * 1048575 + "\n1", ready + "refused 1 at line 2\n")
-case("refused 1: a line that goes on past it", "ntu", "1\n" + "#" * 3000000, gap + "refused 1 at line 2\n")
-case("refused 1: 600,000 lines", "ntu", "0\n" * 600000, ready + "refused 1 at line 524289\n")
+case("refused 1: one octet more", "ntu", "#" * 1048575 + "\n1", "refused 1 at line 2\n")
+case("refused 1: one newline more", "ntu", "1\n" * 524288 + "\n", "refused 1 at line 524289\n")
+case("refused 1: a line that goes on past it", "ntu", "1\n" + "#" * 3000000, "refused 1 at line 2\n")
+case("refused 1: 600,000 lines", "ntu", "0\n" * 600000, "refused 1 at line 524289\n")
+case("524,288 lines", "ntu", "0\n" * 524288, ready + "end of log at tick 524288: no attempt is open, 0 ended, now Ready (until code 1)\n")
 
 # ---- arguments
 

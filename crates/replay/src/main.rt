@@ -5,6 +5,7 @@
 ghost use mathlib.Core.Path.{_≡_};
 ghost use Prim.Native.Nat.{_≤_};
 ghost use lib.ListN.{length};
+ghost use Rattle.replay.specs.Replay.{followed, linesOf, endingFrom};
 use libc::STDIN_FILENO;
 use libc::STDOUT_FILENO;
 use log::Line;
@@ -40,8 +41,19 @@ fn tell_refused(answer: u32, line: u32) {
     io::write_all(STDOUT_FILENO, &room[..n]);
 }
 
+// How a log ended: 0 at its end, or what refused a line of it.
+struct Ending {
+    answer: u32,
+    // The number of the line, the first being 1; behind the last one, one more.
+    line: u32,
+    // The story there.
+    story: Story,
+}
+
 // Tells the codes of a line, up to the first that is refused, and gives the last event; of a line without codes, one that tells nothing.
-fn follow(story: Story, said: Line) -> Event {
+fn follow(story: Story, said: Line) -> Event
+    ensures { λ r. ⌜ r ≡ followed story said ⌝ }
+{
     let code = said.code;
     let times = said.times;
     let mut event = Event {
@@ -65,33 +77,70 @@ fn follow(story: Story, said: Line) -> Event {
     event
 }
 
-// Tells a log line by line, to its end or the first line that is refused. One octet more than a log may have shows that it is too long.
-fn replay(log: &[u8], begun: Event)
-    requires { ⌜ length (now log) ≤ 1048577 ⌝ }
+// Tells a log line by line, to its end or the first line that is refused.
+fn replay(log: &[u8], begun: Story) -> Ending
+    requires { ⌜ length (now log) ≤ 1048576 ⌝ }
+    ensures { λ r. ⌜ r ≡ endingFrom 1 begun (linesOf (now (log .entry))) ⌝ }
 {
-    tell(begun);
-    let mut story = begun.story;
+    let mut story = begun;
     let mut line: u32 = 1;
     let mut at = 0;
     while at < log.len() {
         let end = log::line_end(log, at);
-        if MOST < end {
-            tell_refused(answer::LENGTH, line);
-            return;
-        }
         let event = follow(story, Line::read(&log[at..end]));
+        let next = event.story;
         if event.answer != answer::DONE {
-            tell_refused(event.answer, line);
-            return;
+            return Ending {
+                answer: event.answer,
+                line,
+                story: next,
+            };
         }
-        story = event.story;
+        story = next;
         line += 1;
         at = end + 1;
     }
+    Ending {
+        answer: answer::DONE,
+        line,
+        story,
+    }
+}
+
+// 1 for the octet that ends a line, else 0.
+fn ended(octet: u8) -> u32
+    ensures { λ r. ⌜ r ≤ 1 ⌝ }
+{
+    if octet == b'\n' { 1 } else { 0 }
+}
+
+// The number of the line that the last of these octets stands on.
+fn last_line(log: &[u8]) -> u32
+    requires { ⌜ length (now log) ≤ 1048577 ⌝ }
+{
+    let mut line: u32 = 1;
+    let mut at = 1;
+    while at < log.len() {
+        line += ended(log[at - 1]);
+        at += 1;
+    }
+    line
+}
+
+// Tells what was read. One octet more than a log may have shows that it is too long.
+fn tell_all(log: &[u8], begun: Event)
+    requires { ⌜ length (now log) ≤ 1048577 ⌝ }
+{
     if MOST < log.len() {
-        tell_refused(answer::LENGTH, line);
+        tell_refused(answer::LENGTH, last_line(log));
+        return;
+    }
+    tell(begun);
+    let ending = replay(log, begun.story);
+    if ending.answer == answer::DONE {
+        tell_end(ending.story);
     } else {
-        tell_end(story);
+        tell_refused(ending.answer, ending.line);
     }
 }
 
@@ -163,5 +212,5 @@ fn main() {
     }
     let mut log = room();
     let n = io::read_full(STDIN_FILENO, &mut log);
-    replay(&log[..n], begun);
+    tell_all(&log[..n], begun);
 }
