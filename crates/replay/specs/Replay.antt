@@ -1,8 +1,9 @@
 -- What the replayer follows: the lines of a log in order, a step for each code of a line, up to the first that is refused.
 use Prim.Native.Nat.{ℕ, zero, suc}
 use mathlib.Core.Bool.{cond}
-use mathlib.Core.List.{List, [], _∷_}
+use mathlib.Core.List.{List, [], _∷_, _++_}
 use lib.Dec.{eqb}
+use lib.ListN.{replicate}
 use Rattle.log.specs.declared.Line.{Line}
 use Rattle.log.specs.Lines.{lineOf}
 use Rattle.story.specs.declared.Story.{Story}
@@ -40,3 +41,8 @@ endingFrom n s (l ∷ ls) =
     cond (eqb (followed s (lineOf l) .answer) 0)
     (endingFrom (suc n) (followed s (lineOf l) .story) ls)
     (ending (followed s (lineOf l) .answer) n (followed s (lineOf l) .story))
+
+-- the codes of lines, in order, each as often as its line says
+unfoldable pub codesOf : List (List ℕ) → List ℕ
+codesOf [] = []
+codesOf (l ∷ ls) = replicate (lineOf l .times) (lineOf l .code) ++ codesOf ls
