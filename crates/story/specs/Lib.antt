@@ -1,3 +1,4 @@
 pub mod Events
 pub mod Texts
+pub mod Names
 pub mod Whole
