@@ -8,12 +8,10 @@ use borrow.Author.Tests.{eq-eqb, ne-eqb}
 use lib.Dec.{eqb}
 use lib.ListN.{length, take, drop, length-drop, drop-of-length-le}
 use lib.Seq.{drop-drop}
-use Rattle.log.specs.declared.Line.{Line}
 use Rattle.log.specs.Lines.{lineOf, upToEnd, endOf}
 use Rattle.story.specs.declared.Story.{Story}
 use Rattle.story.specs.declared.Event.{Event}
-use Rattle.story.specs.Events.{refusedWith, eventOf}
-use Rattle.replay.specs.declared.Ending.{Ending}
+use Rattle.story.specs.Events.{eventOf}
 use Rattle.replay.specs.Replay.{repeated, followed, onto, linesOf, ending, endingFrom}
 
 -- ---- a code that comes again and again

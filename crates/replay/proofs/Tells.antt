@@ -18,7 +18,6 @@ use Rattle.story.specs.declared.Event.{Event}
 use Rattle.story.specs.Events.{refusedWith, eventOf, startOf, storyOf}
 use Rattle.story.specs.Whole.{Tells}
 use Rattle.story.proofs.Whole.{tells}
-use Rattle.replay.specs.declared.Ending.{Ending}
 use Rattle.replay.specs.Replay.{repeated, followed, linesOf, ending, endingFrom, codesOf}
 
 -- ---- the story of the codes

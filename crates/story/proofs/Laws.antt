@@ -1,18 +1,17 @@
 -- Laws of events. Assumes nothing.
-use mathlib.Core.Path.{_≡_, refl, sym, ap, _∙_}
-use mathlib.Core.Bool.{Bool, true, false, cond}
+use mathlib.Core.Path.{_≡_, sym, ap, _∙_}
+use mathlib.Core.Bool.{Bool, true, false}
 use mathlib.Core.Logic.{_⊎_, inl, inr}
 use mathlib.Core.List.{[]}
 use Prim.Native.Nat.{ℕ, _+_, _-_, _≤_, _<_}
 use native.Mathlib.Omega.{arith}
 use borrow.Author.Tests.{eq-eqb, ne-eqb, le-leb, lt-leb}
-use lib.Dec.{eqb, leb, ltb}
+use lib.Dec.{eqb, ltb}
 use Rattle.answer.specs.Answer.{answer}
 use Rattle.answer.proofs.Laws.{none, kept}
 use Rattle.startup.specs.declared.Supervisor.{Supervisor}
 use Rattle.startup.specs.declared.Answer.{Answer}
 use Rattle.startup.specs.Attempts.{one}
-use Rattle.startup.specs.Phases.{inAttempt}
 use Rattle.startup.specs.Step.{stepOf, stateRefusals}
 use Rattle.startup.specs.Run.{eventOf as attemptEvent}
 use Rattle.startup.proofs.Laws.{legal}

@@ -1,7 +1,7 @@
 -- The story of a whole list says what the list says. Assumes nothing.
 use mathlib.Core.Path.{_≡_, refl, sym, ap, subst, _∙_}
 use mathlib.Core.Bool.{Bool, true, false, cond, not, _&&_}
-use mathlib.Core.Logic.{_⊎_, inl, inr, ⊎-elim}
+use mathlib.Core.Logic.{_⊎_, ⊎-elim}
 use mathlib.Core.List.{List, [], _∷_, _++_}
 use Prim.Native.Nat.{ℕ, zero, suc, _+_, _≤_, _<_}
 use native.Mathlib.Nat.{eq-or-lt-of-le}
@@ -16,7 +16,7 @@ use Rattle.startup.specs.declared.Run.{Run}
 use Rattle.startup.specs.Phases.{inAttempt}
 use Rattle.startup.specs.Step.{stepOf, stateRefusals}
 use Rattle.startup.specs.Step.{startOf as supervisorStart}
-use Rattle.startup.specs.Run.{goesOn, opens, ends, noted, takenOf, runFrom, begun, runOf}
+use Rattle.startup.specs.Run.{goesOn, opens, ends, noted, takenOf, runFrom, begun}
 use Rattle.startup.specs.Run.{eventOf as attemptEvent}
 use Rattle.startup.specs.Attempts.{at, one, upto, count, Card, card, meant, StillOpen, OpensAt}
 use Rattle.startup.specs.Three.{Taken, steps, after}

@@ -1,6 +1,5 @@
 // The story of a start-up log: what each code did, as an event (specs/Events.antt), and the text of it (src/text.rt).
 ghost use mathlib.Core.Path.{_≡_};
-ghost use mathlib.Core.Bool.{Bool};
 ghost use Prim.Native.Nat.{_≤_, _<_};
 ghost use Rattle.startup.specs.Attempts.{one};
 ghost use Rattle.story.specs.Events.{refusedWith, kindOf, sinceOpening, numberOf, told, startOf, eventOf};

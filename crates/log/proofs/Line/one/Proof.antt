@@ -1,6 +1,5 @@
 -- `Line::one` meets its contract.
 use borrow.Author.Tests.{le-leb, lt-leb}
-use native.Mathlib.Omega.{arith}
 use borrow.Author.Needs.{needs}
 use Rattle.log.proofs.Line.one.Statement.{statement}
 use Rattle.log.proofs.Line.one.Tie as tie

@@ -1,6 +1,5 @@
 -- `Story::start` meets its contract.
 use mathlib.Core.Path.{ap, _∙_}
-use Rattle.startup.specs.declared.Answer.{Answer}
 use Rattle.story.specs.Events.{startWith}
 use Rattle.story.proofs.Laws.{start-refused, start-told}
 use borrow.Author.Needs.{needs}
