@@ -9,7 +9,7 @@
 .PHONY: all test pair bench install uninstall clean help
 
 VERSION = 0.1.0
-PROGRAMS = lister sorter
+PROGRAMS = lister replay sorter
 PREFIX = /usr/local
 bindir = $(PREFIX)/bin
 includedir = $(PREFIX)/include

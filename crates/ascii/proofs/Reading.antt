@@ -19,13 +19,13 @@ digit-back d h = pick (decLt d 10)
     pick (no l) = simp (le-ltb d 10 (omega arith), le-ltb (55 + d) 65 (omega arith)) (omega arith)
 
 -- one character more
-reading-more : (base read : ℕ) (cs : List ℕ) (c : ℕ) → reading base read (cs ++ (c ∷ [])) ≡ reading base read cs * base + digitOf c
+pub reading-more : (base read : ℕ) (cs : List ℕ) (c : ℕ) → reading base read (cs ++ (c ∷ [])) ≡ reading base read cs * base + digitOf c
 unfolding reading
 reading-more base read [] c = refl
 reading-more base read (d ∷ cs) c = reading-more base (read * base + digitOf d) cs c
 
 -- what is read does not fall
-reading-grows : (read : ℕ) (cs : List ℕ) → read ≤ reading 10 read cs
+pub reading-grows : (read : ℕ) (cs : List ℕ) → read ≤ reading 10 read cs
 unfolding reading
 reading-grows read [] = omega arith
 reading-grows read (c ∷ cs) = omega (arith, reading-grows (read * 10 + digitOf c) cs)

@@ -10,6 +10,8 @@ pub mod phase;
 mod rules;
 mod runs;
 
+pub use runs::event;
+
 // A supervisor's state. A mark is heard where it is not 0.
 pub struct Supervisor {
     // LTU 0, NTU 1.
@@ -231,7 +233,7 @@ impl Supervisor {
 }
 
 // From the opening of an attempt, in C_r or Hearing, until it ends.
-fn in_attempt(phase: u32) -> bool
+pub fn in_attempt(phase: u32) -> bool
     ensures { λ r. ⌜ r ≡ inAttempt phase ⌝ }
 {
     match phase {

@@ -93,7 +93,7 @@ impl Run {
 }
 
 // What a change of phase does to an attempt: opens it, ends it in data mode or in the exception state, or none of these.
-fn event(before: u32, after: u32) -> u32
+pub fn event(before: u32, after: u32) -> u32
     ensures { λ r. ⌜ r ≡ eventOf before after ⌝ }
 {
     if in_attempt(before) {

@@ -1,0 +1,28 @@
+-- `story::since_opening` meets its contract.
+use mathlib.Core.Path.{sym, ap, _∙_}
+use Prim.Native.Nat.{ℕ, _+_}
+use native.Mathlib.Omega.{arith}
+use lib.Dec.{eqb}
+use Rattle.story.proofs.Laws.{one-small}
+use borrow.Author.Needs.{needs}
+use Rattle.story.proofs.since_opening.Statement.{statement}
+use Rattle.story.proofs.since_opening.Tie as tie
+
+in-attempt-requires : tie.Need-in-attempt-requires
+in-attempt-requires c κs = search needs
+
+one-requires : tie.Need-one-requires
+one-requires c κs = search needs
+
+add-result : tie.Need-add-result
+add-result c = omega (arith, one-small (eqb (c .before .before .before .before .args .code) 0) (c .before .one .result) (c .before .one .ensures), c .before .before .before .before .pre)
+
+returns : tie.Need-returns
+returns c = simp (sym (c .before .before .before .in-attempt .ensures) ∙ c .before .before .if1 .taken) (ap (λ (n : ℕ). c .before .before .before .before .args .state .attempt + n) (c .before .one .ensures))
+
+returns-2 : tie.Need-returns-2
+returns-2 c = simp (sym (c .before .in-attempt .ensures) ∙ c .if1 .left)
+
+pub since-opening-spec : {M : Type 1} → statement M
+since-opening-spec =
+    tie.close (tie.spec in-attempt-requires one-requires add-result returns returns-2)
