@@ -167,10 +167,10 @@ module _ (f v : List ℕ) (lf : length f ≡ 529) (s₁ s₂ t : List ℕ) where
       put f v trainingSync (coefficientBits U) a b lf training-length (number-length 22 U ∙ ap (λ (n : ℕ). 22 * n) (used-length count cs h l)) training-bits
       (number-bits 22 U) s₁ s₂ t (e₁ ∙ ap (laid f 0) training-digits) e₂ e
 
-  pub final-put : s₁ ≡ laid f 0 (digitsOf 14 0x3e6b) → s₂ ≡ laid s₁ 14 (replicate 3960 0)
+  pub final-put : (cs : List ℤ) → s₁ ≡ laid f 0 (digitsOf 14 0x3e6b) → s₂ ≡ laid s₁ 14 (coefficientBits (used 0 cs))
       → t ≡ octetsOf 529 (frameBits (part 0 14 (bitsOf s₂)) (part 14 3960 (bitsOf s₂) ++ (digitsOf 21 0 ++ (digitsOf 21 0 ++ (bitsOf v ++ replicate 67 0)))))
       → t ≡ octetsOf 529 (finalBits v)
   unfolding finalBits message
-  final-put e₁ e₂ e =
-      put f v finalSync (replicate 3960 0) 0 0 lf final-length (zeros-length 3960) final-bits (zeros-bits 3960) s₁ s₂ t (e₁ ∙ ap (laid f 0) final-digits) e₂ e
-      ∙ ap (λ (x : List ℕ). octetsOf 529 (frameBits finalSync (x ++ (digitsOf 21 0 ++ (digitsOf 21 0 ++ (bitsOf v ++ replicate 67 0)))))) (sym (zero-coefficients 180))
+  final-put cs e₁ e₂ e =
+      let U = used 0 cs in
+      put f v finalSync (coefficientBits U) 0 0 lf final-length (number-length 22 U) final-bits (number-bits 22 U) s₁ s₂ t (e₁ ∙ ap (laid f 0) final-digits) e₂ e

@@ -59,13 +59,13 @@ fn put_training(frame: &mut [u8], coefficients: &[i32], count: usize, a: u32, b:
     finish(frame, a, b, vendor);
 }
 
-// A final frame.
-fn put_final(frame: &mut [u8], vendor: &[u8])
-    requires { ⌜ (length (now frame) ≡ 529) × (length (now vendor) ≡ 16) ⌝ }
+// A final frame: none of the coefficients is in use.
+fn put_final(frame: &mut [u8], coefficients: &[i32], vendor: &[u8])
+    requires { ⌜ (length (now frame) ≡ 529) × (length (now coefficients) ≡ 180) × (length (now vendor) ≡ 16) ⌝ }
     ensures { λ r. ⌜ now (frame .exit) ≡ octetsOf 529 (finalBits (now (vendor .entry))) ⌝ }
 {
     octets::put_field(frame, 0, layout::SYNC_BITS, layout::FINAL_SYNC);
-    octets::clear(frame, layout::COEFFICIENTS_AT, layout::ALL_COEFFICIENT_BITS);
+    put_coefficients(frame, coefficients, 0);
     finish(frame, 0, 0, vendor);
 }
 
@@ -93,7 +93,7 @@ pub fn write(
     match kind {
         0 => write_training(count, coefficients, a, b, vendor, frame),
         1 => {
-            put_final(frame, vendor);
+            put_final(frame, coefficients, vendor);
             answer::DONE
         }
         _ => answer::UNKNOWN,
