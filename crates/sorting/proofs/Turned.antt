@@ -1,7 +1,7 @@
 -- Reading a word last bit first is undone by doing it again, so it makes no difference which of two cards was read so. Assumes nothing.
 use mathlib.Core.Path.{_≡_, sym, ap, _∙_}
 use mathlib.Core.List.{List, reverse, reverse-reverse}
-use Prim.Native.Nat.{ℕ, _<_, _%_, _^_}
+use Prim.Native.Nat.{ℕ, _<_, _%_}
 use native.Mathlib.Omega.{arith}
 use lib.ListN.{length, length-reverse}
 use Rattle.octets.specs.Bits.{digitsOf, valueOf}
