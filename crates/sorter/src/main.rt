@@ -1,5 +1,5 @@
-// The sorter: `sorter [--like FILE] FILE...`. A line for each card's frame, then the totals. The texts are those of crates sorting and tally; here files
-// are only read and texts written.
+// The sorter: `sorter [--like FILE] FILE...`. A line for each card's frame, then the totals. The texts are those of crates sorting and
+// tally; here files are only read and texts written.
 use libc::STDERR_FILENO;
 use libc::STDOUT_FILENO;
 ghost use Prim.Native.Nat.{_+_, _≤_, _<_};
@@ -55,21 +55,6 @@ fn look(name: &[u8], customer: sorting::Customer) -> sorting::Verdict {
         return sorting::unread(customer);
     }
     sorting::judge(&octets[..n], customer)
-}
-
-// The customer whose reference frame stands in the file of this name.
-fn customer_in(name: &[u8]) -> sorting::Customer {
-    let fd = os::open_read(name);
-    if fd < 0 {
-        return sorting::nobody();
-    }
-    let mut octets = [0u8; READ];
-    let n = fill(fd, &mut octets);
-    libc::close(fd);
-    if READ < n {
-        return sorting::nobody();
-    }
-    sorting::reference(&octets[..n])
 }
 
 // Writes a card's line: a name of at most 4,096 octets leaves room for the rest.
@@ -203,6 +188,7 @@ fn run(first: usize, count: usize, customer: sorting::Customer)
     sort(first, cards, customer);
 }
 
+// How the sorter is called.
 fn usage() {
     io::write_all(STDERR_FILENO, b"usage: sorter [--like FILE] FILE...\n");
 }
@@ -228,19 +214,20 @@ fn is_option(i: usize) -> bool {
 fn run_like(count: usize) {
     let mut path = io::buffer();
     let n = os::arg(2, &mut path);
-    let customer = customer_in(&path[..n]);
+    let v = look(&path[..n], sorting::nobody());
+    let customer = sorting::reference(v);
     if !customer.given {
         io::write_all(
             STDERR_FILENO,
             b"sorter: the reference is not a training frame that reads:\n",
         );
-        let v = look(&path[..n], customer);
         tell(STDERR_FILENO, &path[..n], v);
         return;
     }
     run(3, count, customer);
 }
 
+// Sorts as the arguments say.
 fn main() {
     let count = os::arg_count();
     if is_word(1, b"--like") {

@@ -105,27 +105,23 @@ module _ (f : List ℕ) (cs : List ℤ) (v : List ℕ) (lc : length cs ≡ 180) 
 
 -- ---- the customer
 
-module _ (f : List ℕ) (v : Verdict) (e : v ≡ verdictOf f nobody) where
-  by : customerBy (v .answer) (v .kind) v ≡ customerOf f
-  unfolding customerOf
-  by = ap (λ (x : Verdict). customerBy (x .answer) (x .kind) x) e
-
-  pub customer-refused : (v .answer ≡ 0 → ⊥) → nobody ≡ customerOf f
+module _ (v : Verdict) where
+  pub customer-refused : (v .answer ≡ 0 → ⊥) → nobody ≡ customerOf v
   unfolding customerBy
-  customer-refused h = go (v .answer) h ∙ by
+  customer-refused h = go (v .answer) h
     where
       go : (n : ℕ) → (n ≡ 0 → ⊥) → nobody ≡ customerBy n (v .kind) v
       go zero h = absurd (h refl)
       go (suc n) h = refl
 
-  pub customer-final : v .answer ≡ 0 → (v .kind ≡ 0 → ⊥) → nobody ≡ customerOf f
+  pub customer-final : v .answer ≡ 0 → (v .kind ≡ 0 → ⊥) → nobody ≡ customerOf v
   unfolding customerBy
-  customer-final z h = go (v .kind) h ∙ ap (λ (n : ℕ). customerBy n (v .kind) v) (sym z) ∙ by
+  customer-final z h = go (v .kind) h ∙ ap (λ (n : ℕ). customerBy n (v .kind) v) (sym z)
     where
       go : (n : ℕ) → (n ≡ 0 → ⊥) → nobody ≡ customerBy 0 n v
       go zero h = absurd (h refl)
       go (suc n) h = refl
 
-  pub customer-given : v .answer ≡ 0 → v .kind ≡ 0 → record { given = true; a = v .a; b = v .b } ≡ customerOf f
+  pub customer-given : v .answer ≡ 0 → v .kind ≡ 0 → record { given = true; a = v .a; b = v .b } ≡ customerOf v
   unfolding customerBy
-  customer-given z h = ap₂ (λ (n m : ℕ). customerBy n m v) (sym z) (sym h) ∙ by
+  customer-given z h = ap₂ (λ (n m : ℕ). customerBy n m v) (sym z) (sym h)

@@ -19,8 +19,8 @@ unread-one k r r′ p q = p ∙ sym q
 pub nobody-one : (r r′ : Customer) → IsNobody r → IsNobody r′ → r ≡ r′
 nobody-one r r′ p q = p ∙ sym q
 
-pub reference-one : (frame : List ℕ) (r r′ : Customer) → IsCustomer frame r → IsCustomer frame r′ → r ≡ r′
-reference-one frame r r′ p q = p ∙ sym q
+pub reference-one : (v : Verdict) (r r′ : Customer) → IsCustomer v r → IsCustomer v r′ → r ≡ r′
+reference-one v r r′ p q = p ∙ sym q
 
 pub put-reason-one : (room : List ℕ) (at n r r′ : ℕ) (t t′ : List ℕ) → ReasonPut room at n r t → ReasonPut room at n r′ t′ → (r ≡ r′) × (t ≡ t′)
 put-reason-one room at n = put-one room at (reason n)

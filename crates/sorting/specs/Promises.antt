@@ -22,9 +22,9 @@ Unread k r = r ≡ refusedVerdict 9 k
 abbrev pub IsNobody : Customer → Type 0
 IsNobody r = r ≡ nobody
 
--- customer
-abbrev pub IsCustomer : List ℕ → Customer → Type 0
-IsCustomer frame r = r ≡ customerOf frame
+-- reference
+abbrev pub IsCustomer : Verdict → Customer → Type 0
+IsCustomer v r = r ≡ customerOf v
 
 -- a text told: the first r octets of the room are the text, cut where the room ends; the others are as they were
 pub record Told (text room : List ℕ) (r : ℕ) (exit : List ℕ) : Type 0 where

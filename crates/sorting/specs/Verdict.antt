@@ -1,4 +1,5 @@
--- What a card's frame is found to be: the answer of reading it, its kind, what a buyer compares, and how its words compare with a customer's.
+-- What a card's frame is found to be: the answer of reading it, its kind, what a buyer compares, and how its words compare with those of
+-- a customer.
 use mathlib.Core.Bool.{Bool, true, false, cond}
 use mathlib.Core.List.{List, reverse}
 use Prim.Native.Nat.{ℕ, zero, suc}
@@ -32,8 +33,8 @@ abbrev pub refusedVerdict : ℕ → Customer → Verdict
 refusedVerdict n k =
     record { answer = n; kind = 0; used = 0; a = 0; b = 0; alike = absent (k .given); blike = absent (k .given); vendor = replicate 16 0 }
 
--- a training frame: the number of the highest non-zero coefficient, A, B, and vendor data. The frame doesn't carry the count of coefficients
--- in use; those behind the highest are zero, whether in use or not
+-- a training frame: the number of the highest non-zero coefficient, A, B, and vendor data. The frame doesn't carry the count of
+-- coefficients in use; those behind the highest are zero, whether in use or not
 abbrev pub trainingVerdict : List ℕ → Customer → Verdict
 trainingVerdict bits k =
     record {
@@ -65,12 +66,12 @@ verdictOf frame k = judged (answer (checkRefusals frame)) (bitsOf frame) k
 abbrev pub nobody : Customer
 nobody = record { given = false; a = 0; b = 0 }
 
--- the customer whose card this verdict is: one that reads and is a training frame's gives its words; any other gives no customer
+-- the customer by the answer and the kind of a card's verdict: a training frame that reads gives its words, any other gives no customer
 unfoldable pub customerBy : ℕ → ℕ → Verdict → Customer
 customerBy zero zero v = record { given = true; a = v .a; b = v .b }
 customerBy zero (suc k) v = nobody
 customerBy (suc n) k v = nobody
 
--- the customer whose reference frame this is
-unfoldable pub customerOf : List ℕ → Customer
-customerOf frame = customerBy (verdictOf frame nobody .answer) (verdictOf frame nobody .kind) (verdictOf frame nobody)
+-- the customer whose card this verdict is on
+abbrev pub customerOf : Verdict → Customer
+customerOf v = customerBy (v .answer) (v .kind) v

@@ -131,11 +131,10 @@ pub fn nobody() -> Customer
     }
 }
 
-// The customer whose reference frame this is: given only where it is a training frame that reads.
-pub fn reference(frame: &[u8]) -> Customer
-    ensures { λ r. ⌜ IsCustomer (now (frame .entry)) r ⌝ }
+// The customer whose card this verdict is on: given only where its frame is a training frame that reads.
+pub fn reference(v: Verdict) -> Customer
+    ensures { λ r. ⌜ IsCustomer v r ⌝ }
 {
-    let v = judge(frame, nobody());
     if v.answer != answer::DONE {
         return nobody();
     }

@@ -3,7 +3,8 @@ ghost use mathlib.Core.Path.{_≡_};
 ghost use mathlib.Core.Bool.{cond};
 ghost use lib.Dec.{eqb};
 ghost use Rattle.ascii.specs.Promises.{Put};
-ghost use Rattle.tally.specs.Totals.{howMany, bothSame, countText, reasonLine, reasonLines, counted, likeLine, bothLine, likeLines, allAre, allGood, lastLine, cardsLine};
+ghost use Rattle.tally.specs.Totals.{howMany, bothSame, countText, reasonLine, reasonLines, counted, likeLine, bothLine, likeLines};
+ghost use Rattle.tally.specs.Totals.{allAre, allGood, lastLine, cardsLine};
 ghost use Rattle.tally.specs.Promises.{Totalled};
 
 // 1 where y is x, else 0.
