@@ -67,90 +67,105 @@ bits-sets s os i h =
     (bits-parts s (i + length os) h .1 ∙ ap (λ (k : ℕ). drop k (bitsOf s)) n)
     ∙ sym (sets-eq (bitsOf os) (bitsOf s) (8 * i) (omega (arith, bits-length os, bits-length s)))
 
--- ---- five octets as one number
-
-none : valueOf (bitsOf []) ≡ 0
-unfolding bitsOf valueOf
-none = refl
+-- ---- eight octets as one number
 
 -- an octet above k digits
 above : (k hi lo : ℕ) → hi < 2 ^ 8 → lo < 2 ^ k → 8 + k ≤ 64 → bitOr (hi * 2 ^ k % 2 ^ 64) lo ≡ hi * 2 ^ k + lo
 above k hi lo h l n = ap (λ (x : ℕ). bitOr x lo) (shl-exact 8 k 64 h n) ∙ or-shifted hi k lo l
 
-octet-value : (o : ℕ) (os : List ℕ) → o < 2 ^ 8 → valueOf (bitsOf (o ∷ os)) ≡ valueOf (bitsOf os) * 2 ^ 8 + o
+-- and its digits above theirs
+above-digits : (k n hi lo : ℕ) (os : List ℕ) → n ≡ k + 8 → n ≤ 64 → hi < 2 ^ 8 → lo < 2 ^ k → digitsOf k lo ≡ bitsOf os
+    → digitsOf n (bitOr (hi * 2 ^ k % 2 ^ 64) lo) ≡ bitsOf (os ++ (hi ∷ []))
 unfolding bitsOf
-octet-value o os h =
-    value-append (digitsOf 8 o) (bitsOf os)
-    ∙ ap₂ (λ (n x : ℕ). valueOf (bitsOf os) * 2 ^ n + x) (digits-length 8 o) (value-digits 8 o ∙ mod-eq-of-lt h)
+above-digits k n hi lo os e m h l f =
+    ap (digitsOf n) (above k hi lo h l (omega arith)) ∙ digits-join k 8 n hi lo e l
+    ∙ ap₂ (λ (x y : List ℕ). x ++ y) f (sym (append-nil (digitsOf 8 hi))) ∙ sym (bits-append os (hi ∷ []))
 
-module _ (a b c d e : ℕ) (ha : a < 2 ^ 8) (hb : b < 2 ^ 8) (hc : c < 2 ^ 8) (hd : d < 2 ^ 8) (he : e < 2 ^ 8) where
-  -- as the code makes it
-  abbrev pub joined : ℕ
-  joined = bitOr (e * 2 ^ 32 % 2 ^ 64) (bitOr (d * 2 ^ 24 % 2 ^ 64) (bitOr (c * 2 ^ 16 % 2 ^ 64) (bitOr (b * 2 ^ 8 % 2 ^ 64) a)))
+above-lt : (k n hi lo : ℕ) → n ≡ 8 + k → n ≤ 64 → hi < 2 ^ 8 → lo < 2 ^ k → bitOr (hi * 2 ^ k % 2 ^ 64) lo < 2 ^ n
+above-lt k n hi lo e m h l =
+    subst (λ (x : ℕ). x < 2 ^ n) (sym (above k hi lo h l (omega arith)))
+    (subst (λ (x : ℕ). hi * 2 ^ k + lo < x) (sym (ap (λ (i : ℕ). 2 ^ i) e ∙ pow-add 2 8 k)) (digits-lt h l))
 
-  abbrev sum : ℕ
-  sum = e * 2 ^ 32 + (d * 2 ^ 24 + (c * 2 ^ 16 + (b * 2 ^ 8 + a)))
+one-octet : (a : ℕ) → digitsOf 8 a ≡ bitsOf (a ∷ [])
+unfolding bitsOf
+one-octet a = sym (append-nil (digitsOf 8 a))
 
-  joined-sum : joined ≡ sum
-  joined-sum =
-      let two : bitOr (b * 2 ^ 8 % 2 ^ 64) a ≡ b * 2 ^ 8 + a = above 8 b a hb ha (lit≤ tt) in
-      let three : bitOr (c * 2 ^ 16 % 2 ^ 64) (b * 2 ^ 8 + a) ≡ c * 2 ^ 16 + (b * 2 ^ 8 + a) = above 16 c (b * 2 ^ 8 + a) hc (omega arith) (lit≤ tt) in
-      let four : bitOr (d * 2 ^ 24 % 2 ^ 64) (c * 2 ^ 16 + (b * 2 ^ 8 + a)) ≡ d * 2 ^ 24 + (c * 2 ^ 16 + (b * 2 ^ 8 + a)) =
-      above 24 d (c * 2 ^ 16 + (b * 2 ^ 8 + a)) hd (omega arith) (lit≤ tt) in
-      ap (λ (x : ℕ). bitOr (e * 2 ^ 32 % 2 ^ 64) (bitOr (d * 2 ^ 24 % 2 ^ 64) (bitOr (c * 2 ^ 16 % 2 ^ 64) x))) two
-      ∙ ap (λ (x : ℕ). bitOr (e * 2 ^ 32 % 2 ^ 64) (bitOr (d * 2 ^ 24 % 2 ^ 64) x)) three
-      ∙ ap (λ (x : ℕ). bitOr (e * 2 ^ 32 % 2 ^ 64) x) four
-      ∙ above 32 e (d * 2 ^ 24 + (c * 2 ^ 16 + (b * 2 ^ 8 + a))) he (omega arith) (lit≤ tt)
+-- as the code joins them
+pub joined-digits : (a b c d e f g h : ℕ) → a < 2 ^ 8 → b < 2 ^ 8 → c < 2 ^ 8 → d < 2 ^ 8 → e < 2 ^ 8 → f < 2 ^ 8 → g < 2 ^ 8 → h < 2 ^ 8
+    → digitsOf 64 (bitOr (h * 2 ^ 56 % 2 ^ 64) (bitOr (g * 2 ^ 48 % 2 ^ 64) (bitOr (f * 2 ^ 40 % 2 ^ 64) (bitOr (e * 2 ^ 32 % 2 ^ 64) (bitOr (d * 2 ^ 24 % 2 ^ 64) (bitOr (c * 2 ^ 16 % 2 ^ 64) (bitOr (b * 2 ^ 8 % 2 ^ 64) a))))))) ≡ bitsOf (a ∷ b ∷ c ∷ d ∷ e ∷ f ∷ g ∷ h ∷ [])
+joined-digits a b c d e f g h ha hb hc hd he hf hg hh =
+    let v2 = bitOr (b * 2 ^ 8 % 2 ^ 64) a in
+    let v3 = bitOr (c * 2 ^ 16 % 2 ^ 64) v2 in
+    let v4 = bitOr (d * 2 ^ 24 % 2 ^ 64) v3 in
+    let v5 = bitOr (e * 2 ^ 32 % 2 ^ 64) v4 in
+    let v6 = bitOr (f * 2 ^ 40 % 2 ^ 64) v5 in
+    let v7 = bitOr (g * 2 ^ 48 % 2 ^ 64) v6 in
+    let l2 : v2 < 2 ^ 16 = above-lt 8 16 b a refl (lit≤ tt) hb ha in
+    let l3 : v3 < 2 ^ 24 = above-lt 16 24 c v2 refl (lit≤ tt) hc l2 in
+    let l4 : v4 < 2 ^ 32 = above-lt 24 32 d v3 refl (lit≤ tt) hd l3 in
+    let l5 : v5 < 2 ^ 40 = above-lt 32 40 e v4 refl (lit≤ tt) he l4 in
+    let l6 : v6 < 2 ^ 48 = above-lt 40 48 f v5 refl (lit≤ tt) hf l5 in
+    let l7 : v7 < 2 ^ 56 = above-lt 48 56 g v6 refl (lit≤ tt) hg l6 in
+    let d2 = above-digits 8 16 b a (a ∷ []) refl (lit≤ tt) hb ha (one-octet a) in
+    let d3 = above-digits 16 24 c v2 (a ∷ b ∷ []) refl (lit≤ tt) hc l2 d2 in
+    let d4 = above-digits 24 32 d v3 (a ∷ b ∷ c ∷ []) refl (lit≤ tt) hd l3 d3 in
+    let d5 = above-digits 32 40 e v4 (a ∷ b ∷ c ∷ d ∷ []) refl (lit≤ tt) he l4 d4 in
+    let d6 = above-digits 40 48 f v5 (a ∷ b ∷ c ∷ d ∷ e ∷ []) refl (lit≤ tt) hf l5 d5 in
+    let d7 = above-digits 48 56 g v6 (a ∷ b ∷ c ∷ d ∷ e ∷ f ∷ []) refl (lit≤ tt) hg l6 d6 in
+    above-digits 56 64 h v7 (a ∷ b ∷ c ∷ d ∷ e ∷ f ∷ g ∷ []) refl (lit≤ tt) hh l7 d7
 
-  pub joined-lt : joined < 2 ^ 40
-  joined-lt = subst (λ (x : ℕ). x < 2 ^ 40) (sym joined-sum) (omega arith)
-
-  pub joined-digits : digitsOf 40 joined ≡ bitsOf (a ∷ b ∷ c ∷ d ∷ e ∷ [])
-  joined-digits =
-      let L = a ∷ b ∷ c ∷ d ∷ e ∷ [] in
-      let v : sum ≡ valueOf (bitsOf L) =
-      omega (arith, octet-value a (b ∷ c ∷ d ∷ e ∷ []) ha, octet-value b (c ∷ d ∷ e ∷ []) hb, octet-value c (d ∷ e ∷ []) hc, octet-value d (e ∷ []) hd, octet-value e [] he, none) in
-      ap (digitsOf 40) (joined-sum ∙ v) ∙ ap (λ (n : ℕ). digitsOf n (valueOf (bitsOf L))) (sym (bits-length L)) ∙ digits-value (bitsOf L) (bits-bits L)
-
-pub five-octets : (s : List ℕ) (i : ℕ) → i + 5 ≤ length s
-    → bitsOf (getD s i 0 ∷ getD s (i + 1) 0 ∷ getD s (i + 2) 0 ∷ getD s (i + 3) 0 ∷ getD s (i + 4) 0 ∷ []) ≡ part (8 * i) 40 (bitsOf s)
-five-octets s i h =
+pub eight-octets : (s : List ℕ) (i : ℕ) → i + 8 ≤ length s
+    → bitsOf (getD s i 0 ∷ getD s (i + 1) 0 ∷ getD s (i + 2) 0 ∷ getD s (i + 3) 0 ∷ getD s (i + 4) 0 ∷ getD s (i + 5) 0 ∷ getD s (i + 6) 0 ∷ getD s (i + 7) 0 ∷ []) ≡ part (8 * i) 64 (bitsOf s)
+eight-octets s i h =
+    let o : ℕ → ℕ = λ k. getD s k 0 in
     let e1 : suc i ≡ i + 1 = omega arith in
     let e2 : suc (i + 1) ≡ i + 2 = omega arith in
     let e3 : suc (i + 2) ≡ i + 3 = omega arith in
     let e4 : suc (i + 3) ≡ i + 4 = omega arith in
-    let o : ℕ → ℕ = λ k. getD s k 0 in
-    ap bitsOf
-    (sym (ap (take 5) (drop-cons s i 0 (omega arith) ∙ ap (λ (n : ℕ). o i ∷ drop n s) e1)
-    ∙ ap (λ (l : List ℕ). o i ∷ take 4 l) (drop-cons s (i + 1) 0 (omega arith) ∙ ap (λ (n : ℕ). o (i + 1) ∷ drop n s) e2)
-    ∙ ap (λ (l : List ℕ). o i ∷ o (i + 1) ∷ take 3 l) (drop-cons s (i + 2) 0 (omega arith) ∙ ap (λ (n : ℕ). o (i + 2) ∷ drop n s) e3)
-    ∙ ap (λ (l : List ℕ). o i ∷ o (i + 1) ∷ o (i + 2) ∷ take 2 l) (drop-cons s (i + 3) 0 (omega arith) ∙ ap (λ (n : ℕ). o (i + 3) ∷ drop n s) e4)
-    ∙ ap (λ (l : List ℕ). o i ∷ o (i + 1) ∷ o (i + 2) ∷ o (i + 3) ∷ take 1 l) (drop-cons s (i + 4) 0 (omega arith))))
-    ∙ octets-part s i 5 h
+    let e5 : suc (i + 4) ≡ i + 5 = omega arith in
+    let e6 : suc (i + 5) ≡ i + 6 = omega arith in
+    let e7 : suc (i + 6) ≡ i + 7 = omega arith in
+    let e8 : suc (i + 7) ≡ i + 8 = omega arith in
+    let d7 : take 1 (drop (i + 7) s) ≡ o (i + 7) ∷ [] = ap (take 1) (drop-cons s (i + 7) 0 (omega arith)) in
+    let d6 : take 2 (drop (i + 6) s) ≡ o (i + 6) ∷ o (i + 7) ∷ [] =
+    ap (take 2) (drop-cons s (i + 6) 0 (omega arith)) ∙ ap (λ (n : ℕ). o (i + 6) ∷ take 1 (drop n s)) e7 ∙ ap (λ (l : List ℕ). o (i + 6) ∷ l) d7 in
+    let d5 : take 3 (drop (i + 5) s) ≡ o (i + 5) ∷ o (i + 6) ∷ o (i + 7) ∷ [] =
+    ap (take 3) (drop-cons s (i + 5) 0 (omega arith)) ∙ ap (λ (n : ℕ). o (i + 5) ∷ take 2 (drop n s)) e6 ∙ ap (λ (l : List ℕ). o (i + 5) ∷ l) d6 in
+    let d4 : take 4 (drop (i + 4) s) ≡ o (i + 4) ∷ o (i + 5) ∷ o (i + 6) ∷ o (i + 7) ∷ [] =
+    ap (take 4) (drop-cons s (i + 4) 0 (omega arith)) ∙ ap (λ (n : ℕ). o (i + 4) ∷ take 3 (drop n s)) e5 ∙ ap (λ (l : List ℕ). o (i + 4) ∷ l) d5 in
+    let d3 : take 5 (drop (i + 3) s) ≡ o (i + 3) ∷ o (i + 4) ∷ o (i + 5) ∷ o (i + 6) ∷ o (i + 7) ∷ [] =
+    ap (take 5) (drop-cons s (i + 3) 0 (omega arith)) ∙ ap (λ (n : ℕ). o (i + 3) ∷ take 4 (drop n s)) e4 ∙ ap (λ (l : List ℕ). o (i + 3) ∷ l) d4 in
+    let d2 : take 6 (drop (i + 2) s) ≡ o (i + 2) ∷ o (i + 3) ∷ o (i + 4) ∷ o (i + 5) ∷ o (i + 6) ∷ o (i + 7) ∷ [] =
+    ap (take 6) (drop-cons s (i + 2) 0 (omega arith)) ∙ ap (λ (n : ℕ). o (i + 2) ∷ take 5 (drop n s)) e3 ∙ ap (λ (l : List ℕ). o (i + 2) ∷ l) d3 in
+    let d1 : take 7 (drop (i + 1) s) ≡ o (i + 1) ∷ o (i + 2) ∷ o (i + 3) ∷ o (i + 4) ∷ o (i + 5) ∷ o (i + 6) ∷ o (i + 7) ∷ [] =
+    ap (take 7) (drop-cons s (i + 1) 0 (omega arith)) ∙ ap (λ (n : ℕ). o (i + 1) ∷ take 6 (drop n s)) e2 ∙ ap (λ (l : List ℕ). o (i + 1) ∷ l) d2 in
+    let d0 : take 8 (drop i s) ≡ o i ∷ o (i + 1) ∷ o (i + 2) ∷ o (i + 3) ∷ o (i + 4) ∷ o (i + 5) ∷ o (i + 6) ∷ o (i + 7) ∷ [] =
+    ap (take 8) (drop-cons s i 0 (omega arith)) ∙ ap (λ (n : ℕ). o i ∷ take 7 (drop n s)) e1 ∙ ap (λ (l : List ℕ). o i ∷ l) d1 in
+    ap bitsOf (sym d0) ∙ octets-part s i 8 h
 
 -- ---- and back
 
 module _ (v : ℕ) where
   -- the octets that the code puts
   abbrev cut : List ℕ
-  cut = bitAnd v 255 ∷ bitAnd (v / 2 ^ 8) 255 ∷ bitAnd (v / 2 ^ 16) 255 ∷ bitAnd (v / 2 ^ 24) 255 ∷ bitAnd (v / 2 ^ 32) 255 ∷ []
+  cut = bitAnd v 255 ∷ bitAnd (v / 2 ^ 8) 255 ∷ bitAnd (v / 2 ^ 16) 255 ∷ bitAnd (v / 2 ^ 24) 255 ∷ bitAnd (v / 2 ^ 32) 255 ∷ bitAnd (v / 2 ^ 40) 255 ∷ bitAnd (v / 2 ^ 48) 255 ∷ bitAnd (v / 2 ^ 56) 255 ∷ []
 
   octet-digits : (x : ℕ) → digitsOf 8 (bitAnd x 255) ≡ digitsOf 8 x
   octet-digits x = ap (digitsOf 8) (and-mask x 8) ∙ digits-mod-pow 8 x
 
-  cut-digits : bitsOf cut ≡ digitsOf 40 v
+  cut-digits : bitsOf cut ≡ digitsOf 64 v
   unfolding bitsOf
   cut-digits =
       let next : (k n m j : ℕ) → m ≡ 8 + n → k + 8 ≡ j → digitsOf m (v / 2 ^ k) ≡ digitsOf 8 (v / 2 ^ k) ++ digitsOf n (v / 2 ^ j) =
       λ k n m j e f. digits-cut 8 n m (v / 2 ^ k) e ∙ ap (λ (x : ℕ). digitsOf 8 (v / 2 ^ k) ++ digitsOf n x) (shr-shr v k 8 ∙ ap (λ (i : ℕ). v / 2 ^ i) f) in
-      ap₂ (λ (a b : List ℕ). a ++ b) (octet-digits v)
-      (ap₂ (λ (a b : List ℕ). a ++ b) (octet-digits (v / 2 ^ 8))
-      (ap₂ (λ (a b : List ℕ). a ++ b) (octet-digits (v / 2 ^ 16))
-      (ap₂ (λ (a b : List ℕ). a ++ b) (octet-digits (v / 2 ^ 24)) (append-nil (digitsOf 8 (bitAnd (v / 2 ^ 32) 255)) ∙ octet-digits (v / 2 ^ 32))
-      ∙ sym (next 24 8 16 32 refl refl))
-      ∙ sym (next 16 16 24 24 refl refl))
-      ∙ sym (next 8 24 32 16 refl refl))
-      ∙ sym (digits-cut 8 32 40 v refl)
+      let d7 : digitsOf 8 (bitAnd (v / 2 ^ 56) 255) ++ [] ≡ digitsOf 8 (v / 2 ^ 56) = append-nil (digitsOf 8 (bitAnd (v / 2 ^ 56) 255)) ∙ octet-digits (v / 2 ^ 56) in
+      let d6 = ap₂ (λ (a b : List ℕ). a ++ b) (octet-digits (v / 2 ^ 48)) d7 ∙ sym (next 48 8 16 56 refl refl) in
+      let d5 = ap₂ (λ (a b : List ℕ). a ++ b) (octet-digits (v / 2 ^ 40)) d6 ∙ sym (next 40 16 24 48 refl refl) in
+      let d4 = ap₂ (λ (a b : List ℕ). a ++ b) (octet-digits (v / 2 ^ 32)) d5 ∙ sym (next 32 24 32 40 refl refl) in
+      let d3 = ap₂ (λ (a b : List ℕ). a ++ b) (octet-digits (v / 2 ^ 24)) d4 ∙ sym (next 24 32 40 32 refl refl) in
+      let d2 = ap₂ (λ (a b : List ℕ). a ++ b) (octet-digits (v / 2 ^ 16)) d3 ∙ sym (next 16 40 48 24 refl refl) in
+      let d1 = ap₂ (λ (a b : List ℕ). a ++ b) (octet-digits (v / 2 ^ 8)) d2 ∙ sym (next 8 48 56 16 refl refl) in
+      ap₂ (λ (a b : List ℕ). a ++ b) (octet-digits v) d1 ∙ sym (digits-cut 8 56 64 v refl)
 
   cut-octets : Octets cut
   cut-octets zero = mask-lt v 8
@@ -158,20 +173,31 @@ module _ (v : ℕ) where
   cut-octets (suc (suc zero)) = mask-lt (v / 2 ^ 16) 8
   cut-octets (suc (suc (suc zero))) = mask-lt (v / 2 ^ 24) 8
   cut-octets (suc (suc (suc (suc zero)))) = mask-lt (v / 2 ^ 32) 8
-  cut-octets (suc (suc (suc (suc (suc i))))) = suc-le-suc zero-le
+  cut-octets (suc (suc (suc (suc (suc zero))))) = mask-lt (v / 2 ^ 40) 8
+  cut-octets (suc (suc (suc (suc (suc (suc zero)))))) = mask-lt (v / 2 ^ 48) 8
+  cut-octets (suc (suc (suc (suc (suc (suc (suc zero))))))) = mask-lt (v / 2 ^ 56) 8
+  cut-octets (suc (suc (suc (suc (suc (suc (suc (suc i)))))))) = suc-le-suc zero-le
 
   pub stored : (s : List ℕ) (i : ℕ)
-      → set (set (set (set (set s i (bitAnd v 255)) (i + 1) (bitAnd (v / 2 ^ 8) 255)) (i + 2) (bitAnd (v / 2 ^ 16) 255)) (i + 3) (bitAnd (v / 2 ^ 24) 255)) (i + 4) (bitAnd (v / 2 ^ 32) 255)
-      ≡ sets s i (octetsOf 5 (digitsOf 40 v))
+      → set (set (set (set (set (set (set (set s i (bitAnd v 255)) (i + 1) (bitAnd (v / 2 ^ 8) 255)) (i + 2) (bitAnd (v / 2 ^ 16) 255)) (i + 3) (bitAnd (v / 2 ^ 24) 255)) (i + 4) (bitAnd (v / 2 ^ 32) 255)) (i + 5) (bitAnd (v / 2 ^ 40) 255)) (i + 6) (bitAnd (v / 2 ^ 48) 255)) (i + 7) (bitAnd (v / 2 ^ 56) 255)
+      ≡ sets s i (octetsOf 8 (digitsOf 64 v))
   stored s i =
+      let m : ℕ → ℕ = λ k. bitAnd (v / 2 ^ k) 255 in
       let e1 : i + 1 ≡ suc i = omega arith in
       let e2 : i + 2 ≡ suc (suc i) = omega arith in
       let e3 : i + 3 ≡ suc (suc (suc i)) = omega arith in
       let e4 : i + 4 ≡ suc (suc (suc (suc i))) = omega arith in
-      let m : ℕ → ℕ = λ k. bitAnd (v / 2 ^ k) 255 in
-      ap₂ (λ (p q : ℕ). set (set (set (set (set s i (bitAnd v 255)) p (m 8)) q (m 16)) (i + 3) (m 24)) (i + 4) (m 32)) e1 e2
-      ∙ ap₂ (λ (p q : ℕ). set (set (set (set (set s i (bitAnd v 255)) (suc i) (m 8)) (suc (suc i)) (m 16)) p (m 24)) q (m 32)) e3 e4
-      ∙ ap (sets s i) (octets-are cut (digitsOf 40 v) 5 refl cut-octets cut-digits)
+      let e5 : i + 5 ≡ suc (suc (suc (suc (suc i)))) = omega arith in
+      let e6 : i + 6 ≡ suc (suc (suc (suc (suc (suc i))))) = omega arith in
+      let e7 : i + 7 ≡ suc (suc (suc (suc (suc (suc (suc i)))))) = omega arith in
+      ap (λ (p : ℕ). set (set (set (set (set (set (set (set s i (bitAnd v 255)) p (m 8)) (i + 2) (m 16)) (i + 3) (m 24)) (i + 4) (m 32)) (i + 5) (m 40)) (i + 6) (m 48)) (i + 7) (m 56)) e1 ∙
+      ap (λ (p : ℕ). set (set (set (set (set (set (set (set s i (bitAnd v 255)) (suc i) (m 8)) p (m 16)) (i + 3) (m 24)) (i + 4) (m 32)) (i + 5) (m 40)) (i + 6) (m 48)) (i + 7) (m 56)) e2 ∙
+      ap (λ (p : ℕ). set (set (set (set (set (set (set (set s i (bitAnd v 255)) (suc i) (m 8)) (suc (suc i)) (m 16)) p (m 24)) (i + 4) (m 32)) (i + 5) (m 40)) (i + 6) (m 48)) (i + 7) (m 56)) e3 ∙
+      ap (λ (p : ℕ). set (set (set (set (set (set (set (set s i (bitAnd v 255)) (suc i) (m 8)) (suc (suc i)) (m 16)) (suc (suc (suc i))) (m 24)) p (m 32)) (i + 5) (m 40)) (i + 6) (m 48)) (i + 7) (m 56)) e4 ∙
+      ap (λ (p : ℕ). set (set (set (set (set (set (set (set s i (bitAnd v 255)) (suc i) (m 8)) (suc (suc i)) (m 16)) (suc (suc (suc i))) (m 24)) (suc (suc (suc (suc i)))) (m 32)) p (m 40)) (i + 6) (m 48)) (i + 7) (m 56)) e5 ∙
+      ap (λ (p : ℕ). set (set (set (set (set (set (set (set s i (bitAnd v 255)) (suc i) (m 8)) (suc (suc i)) (m 16)) (suc (suc (suc i))) (m 24)) (suc (suc (suc (suc i)))) (m 32)) (suc (suc (suc (suc (suc i))))) (m 40)) p (m 48)) (i + 7) (m 56)) e6 ∙
+      ap (λ (p : ℕ). set (set (set (set (set (set (set (set s i (bitAnd v 255)) (suc i) (m 8)) (suc (suc i)) (m 16)) (suc (suc (suc i))) (m 24)) (suc (suc (suc (suc i)))) (m 32)) (suc (suc (suc (suc (suc i))))) (m 40)) (suc (suc (suc (suc (suc (suc i)))))) (m 48)) p (m 56)) e7 ∙
+      ap (sets s i) (octets-are cut (digitsOf 64 v) 8 refl cut-octets cut-digits)
 
 octets-octets : (n : ℕ) (bs : List ℕ) → Bits bs → Octets (octetsOf n bs)
 unfolding octetsOf
@@ -188,7 +214,7 @@ octets-laid s bs i n o h e l =
     octets-are (sets s i O) (sets (bitsOf s) (8 * i) bs) (length s) (length-sets s i O) (sets-below 256 s i O o (octets-octets n bs h))
     (bits-sets s O i f ∙ ap (sets (bitsOf s) (8 * i)) (bits-octets n bs e h))
 
--- ---- a field read and put, by what stands in the five octets that hold it
+-- ---- a field read and put, by what stands in the eight octets that hold it
 
 pub drop-take : (i k : ℕ) (l : List ℕ) → drop i (take (i + k) l) ≡ take k (drop i l)
 drop-take zero k l = ap (λ (n : ℕ). take n l) (zero-add k)
@@ -204,7 +230,7 @@ sets-own l i n h =
     ∙ take-append-drop (i + n) l
 
 module _ (B : List ℕ) (at n : ℕ) (h : n ≤ 32) where
-  -- the first bit of the five octets, and how far behind it the place lies
+  -- the first bit of the eight octets, and how far behind it the place lies
   abbrev first : ℕ
   first = 8 * (at / 8)
 
@@ -214,28 +240,28 @@ module _ (B : List ℕ) (at n : ℕ) (h : n ≤ 32) where
   here : first + inner ≡ at
   here = omega arith
 
-  -- of the 40 bits those from k on
-  rest-of : (k : ℕ) → k ≤ 40 → drop k (part first 40 B) ≡ part (first + k) (40 - k) B
+  -- of the 64 bits those from k on
+  rest-of : (k : ℕ) → k ≤ 64 → drop k (part first 64 B) ≡ part (first + k) (64 - k) B
   rest-of k l =
-      let e : 40 ≡ k + (40 - k) = omega arith in
-      ap (λ (m : ℕ). drop k (take m (drop first B))) e ∙ drop-take k (40 - k) (drop first B) ∙ ap (take (40 - k)) (drop-drop k first B)
+      let e : 64 ≡ k + (64 - k) = omega arith in
+      ap (λ (m : ℕ). drop k (take m (drop first B))) e ∙ drop-take k (64 - k) (drop first B) ∙ ap (take (64 - k)) (drop-drop k first B)
 
-  pub field-in : (x : ℕ) → digitsOf 40 x ≡ part first 40 B → x / 2 ^ inner % 2 ^ n ≡ valueOf (part at n B)
+  pub field-in : (x : ℕ) → digitsOf 64 x ≡ part first 64 B → x / 2 ^ inner % 2 ^ n ≡ valueOf (part at n B)
   field-in x e =
       let r = inner in
-      let q : 40 ≡ r + (40 - r) = omega arith in
+      let q : 64 ≡ r + (64 - r) = omega arith in
       sym (value-digits n (x / 2 ^ r))
       ∙ ap valueOf
-      (sym (digits-take n (40 - r) (x / 2 ^ r) (omega arith))
-      ∙ ap (take n) (sym (digits-drop r (40 - r) 40 x q) ∙ ap (drop r) e ∙ rest-of r (omega arith))
-      ∙ take-take n (40 - r) (drop (first + r) B) (omega arith)
+      (sym (digits-take n (64 - r) (x / 2 ^ r) (omega arith))
+      ∙ ap (take n) (sym (digits-drop r (64 - r) 64 x q) ∙ ap (drop r) e ∙ rest-of r (omega arith))
+      ∙ take-take n (64 - r) (drop (first + r) B) (omega arith)
       ∙ ap (λ (k : ℕ). part k n B) here)
 
-  field-put : (v : ℕ) → first + 40 ≤ length B
-      → sets B first (take inner (part first 40 B) ++ digitsOf n v ++ drop (inner + n) (part first 40 B)) ≡ sets B at (digitsOf n v)
+  field-put : (v : ℕ) → first + 64 ≤ length B
+      → sets B first (take inner (part first 64 B) ++ digitsOf n v ++ drop (inner + n) (part first 64 B)) ≡ sets B at (digitsOf n v)
   field-put v l =
       let r = inner in
-      let D = part first 40 B in
+      let D = part first 64 B in
       let P = part first r B in
       let ds = digitsOf n v in
       let C = sets B at ds in
@@ -243,7 +269,7 @@ module _ (B : List ℕ) (at n : ℕ) (h : n ≤ 32) where
       let lP : length P ≡ r = length-take-le r (drop first B) (omega (arith, length-drop first B)) in
       let lC : length C ≡ length B = length-sets B at ds in
       let fit : at + length ds ≤ length B = omega (arith, here) in
-      let m = 40 - (r + n) in
+      let m = 64 - (r + n) in
       let start : sets B first (P ++ ds) ≡ C =
       sets-append B first P ds ∙ ap₂ (λ (x : List ℕ) (k : ℕ). sets x k ds) (sets-own B first r (omega arith)) (ap (λ (k : ℕ). first + k) lP ∙ here) in
       let place : first + length (P ++ ds) ≡ at + n = ap (λ (k : ℕ). first + k) (length-append P ds) ∙ omega (arith, here) in
@@ -252,7 +278,7 @@ module _ (B : List ℕ) (at n : ℕ) (h : n ≤ 32) where
       ∙ drop-at (take at B ++ ds) (drop (at + n) B) (at + n) (length-append (take at B) ds ∙ omega (arith, length-take-le at B (omega arith))) in
       let Q : drop (r + n) D ≡ part (at + n) m C =
       rest-of (r + n) (omega arith) ∙ ap (λ (k : ℕ). part k m B) (behind r n here) ∙ ap (take m) (sym same) in
-      ap (λ (x : List ℕ). sets B first (x ++ ds ++ drop (r + n) D)) (take-take r 40 (drop first B) (omega arith))
+      ap (λ (x : List ℕ). sets B first (x ++ ds ++ drop (r + n) D)) (take-take r 64 (drop first B) (omega arith))
       ∙ sets-append B first (P ++ ds) (drop (r + n) D)
       ∙ ap₂ (λ (x : List ℕ) (k : ℕ). sets x k (drop (r + n) D)) start place
       ∙ ap (sets C (at + n)) Q
@@ -261,18 +287,18 @@ module _ (B : List ℕ) (at n : ℕ) (h : n ≤ 32) where
       behind : (r n : ℕ) → first + r ≡ at → first + (r + n) ≡ at + n
       behind r n e = omega arith
 
--- the five octets that hold a field, with the field replaced, are the field laid
-pub field-laid : (s : List ℕ) (at n v y : ℕ) → n ≤ 32 → Octets s → at / 8 + 5 ≤ length s
-    → digitsOf 40 y ≡ take (at % 8) (part (8 * (at / 8)) 40 (bitsOf s)) ++ digitsOf n v ++ drop (at % 8 + n) (part (8 * (at / 8)) 40 (bitsOf s))
-    → sets s (at / 8) (octetsOf 5 (digitsOf 40 y)) ≡ laid s at (digitsOf n v)
+-- the eight octets that hold a field, with the field replaced, are the field laid
+pub field-laid : (s : List ℕ) (at n v y : ℕ) → n ≤ 32 → Octets s → at / 8 + 8 ≤ length s
+    → digitsOf 64 y ≡ take (at % 8) (part (8 * (at / 8)) 64 (bitsOf s)) ++ digitsOf n v ++ drop (at % 8 + n) (part (8 * (at / 8)) 64 (bitsOf s))
+    → sets s (at / 8) (octetsOf 8 (digitsOf 64 y)) ≡ laid s at (digitsOf n v)
 unfolding laid
 field-laid s at n v y h o l e =
-    octets-laid s (digitsOf 40 y) (at / 8) 5 o (digits-bits 40 y) (digits-length 40 y) l
+    octets-laid s (digitsOf 64 y) (at / 8) 8 o (digits-bits 64 y) (digits-length 64 y) l
     ∙ ap (octetsOf (length s)) (ap (sets (bitsOf s) (8 * (at / 8))) e ∙ field-put (bitsOf s) at n h v (omega (arith, bits-length s)))
 
 -- ---- the digits of a number with a field of them replaced, as the code does it
 
-module _ (x r n v : ℕ) (hr : r < 8) (hn : n ≤ 32) (hx : x < 2 ^ 40) where
+module _ (x r n v : ℕ) (hr : r < 8) (hn : n ≤ 32) (hx : x < 2 ^ 64) where
   abbrev lower : ℕ
   lower = bitOr (v % 2 ^ n * 2 ^ r % 2 ^ 64) (x % 2 ^ r)
 
@@ -287,18 +313,18 @@ module _ (x r n v : ℕ) (hr : r < 8) (hn : n ≤ 32) (hx : x < 2 ^ 40) where
       (subst (λ (k : ℕ). v % 2 ^ n * 2 ^ r + x % 2 ^ r < 2 ^ k) e (subst (λ (y : ℕ). v % 2 ^ n * 2 ^ r + x % 2 ^ r < y) (sym (pow-add 2 n r))
       (digits-lt (mod-lt v (pow-pos n)) (mod-lt x (pow-pos r)))))
 
-  pub replaced-is : digitsOf 40 (bitOr (x / 2 ^ (r + n) * 2 ^ (r + n) % 2 ^ 64) lower) ≡ take r (digitsOf 40 x) ++ digitsOf n v ++ drop (r + n) (digitsOf 40 x)
+  pub replaced-is : digitsOf 64 (bitOr (x / 2 ^ (r + n) * 2 ^ (r + n) % 2 ^ 64) lower) ≡ take r (digitsOf 64 x) ++ digitsOf n v ++ drop (r + n) (digitsOf 64 x)
   replaced-is =
       let k = r + n in
-      let q : 40 ≡ k + (40 - k) = omega arith in
-      let o : 40 - k + k ≡ 40 = omega arith in
-      let hi : x / 2 ^ k < 2 ^ (40 - k) = shr-lt (40 - k) k (subst (λ (m : ℕ). x < 2 ^ m) (sym o) hx) in
-      ap (digitsOf 40) (ap (λ (y : ℕ). bitOr y lower) (shl-exact (40 - k) k 64 hi (omega arith)) ∙ or-shifted (x / 2 ^ k) k lower lower-lt)
-      ∙ digits-join k (40 - k) 40 (x / 2 ^ k) lower q lower-lt
+      let q : 64 ≡ k + (64 - k) = omega arith in
+      let o : 64 - k + k ≡ 64 = omega arith in
+      let hi : x / 2 ^ k < 2 ^ (64 - k) = shr-lt (64 - k) k (subst (λ (m : ℕ). x < 2 ^ m) (sym o) hx) in
+      ap (digitsOf 64) (ap (λ (y : ℕ). bitOr y lower) (shl-exact (64 - k) k 64 hi (omega arith)) ∙ or-shifted (x / 2 ^ k) k lower lower-lt)
+      ∙ digits-join k (64 - k) 64 (x / 2 ^ k) lower q lower-lt
       ∙ ap₂ (λ (a b : List ℕ). a ++ b)
       (ap (digitsOf k) lower-is ∙ digits-join r n k (v % 2 ^ n) (x % 2 ^ r) refl (mod-lt x (pow-pos r))
-      ∙ ap₂ (λ (a b : List ℕ). a ++ b) (digits-mod-pow r x ∙ sym (digits-take r 40 x (omega arith))) (digits-mod-pow n v))
-      (sym (digits-drop k (40 - k) 40 x q))
+      ∙ ap₂ (λ (a b : List ℕ). a ++ b) (digits-mod-pow r x ∙ sym (digits-take r 64 x (omega arith))) (digits-mod-pow n v))
+      (sym (digits-drop k (64 - k) 64 x q))
 
 -- ---- bits taken n at a time
 
@@ -314,17 +340,17 @@ field-digits s at n h =
     let e : length P ≡ n = length-take-le n (drop at (bitsOf s)) (omega (arith, length-drop at (bitsOf s), bits-length s)) in
     ap (λ (k : ℕ). digitsOf k (valueOf P)) (sym e) ∙ digits-value P (take-bits n (drop at (bitsOf s)) (drop-bits at (bitsOf s) (bits-bits s)))
 
--- ---- whether there are five octets from octet i on, as the code asks it
+-- ---- whether there are eight octets from octet i on, as the code asks it
 
-pub five-not : (i n : ℕ) → n < i → false ≡ leb (i + 5) n
-five-not i n h = sym (lt-leb (i + 5) n (omega arith))
+pub eight-not : (i n : ℕ) → n < i → false ≡ leb (i + 8) n
+eight-not i n h = sym (lt-leb (i + 8) n (omega arith))
 
-pub five-there : (i n : ℕ) → i ≤ n → leb 5 (n - i) ≡ leb (i + 5) n
-five-there i n h = pick (decLe 5 (n - i))
+pub eight-there : (i n : ℕ) → i ≤ n → leb 8 (n - i) ≡ leb (i + 8) n
+eight-there i n h = pick (decLe 8 (n - i))
   where
-    pick : Dec (5 ≤ n - i) → leb 5 (n - i) ≡ leb (i + 5) n
-    pick (yes l) = le-leb 5 (n - i) l ∙ sym (le-leb (i + 5) n (omega arith))
-    pick (no l) = lt-leb 5 (n - i) (omega arith) ∙ sym (lt-leb (i + 5) n (omega arith))
+    pick : Dec (8 ≤ n - i) → leb 8 (n - i) ≡ leb (i + 8) n
+    pick (yes l) = le-leb 8 (n - i) l ∙ sym (le-leb (i + 8) n (omega arith))
+    pick (no l) = lt-leb 8 (n - i) (omega arith) ∙ sym (lt-leb (i + 8) n (omega arith))
 
 -- ---- a power of two, as the code shifts it
 

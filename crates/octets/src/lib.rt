@@ -55,45 +55,51 @@ fn width(w: u32) -> u32
     if w < WIDEST { w } else { WIDEST }
 }
 
-// Whether there are five octets from octet i on: a field of 32 bits that begins in octet i ends in the fifth at the latest.
-fn has_five(s: &[u8], i: usize) -> bool
-    ensures { λ r. ⌜ r ≡ leb (i + 5) (length (now (s .entry))) ⌝ }
+// Whether there are eight octets from octet i on: a field of 32 bits that begins in octet i lies in them.
+fn has_eight(s: &[u8], i: usize) -> bool
+    ensures { λ r. ⌜ r ≡ leb (i + 8) (length (now (s .entry))) ⌝ }
 {
     if s.len() < i {
         return false;
     }
-    5 <= s.len() - i
+    8 <= s.len() - i
 }
 
-// The five octets from octet i on as one number, the first lowest.
-fn five(s: &[u8], i: usize) -> u64
-    requires { ⌜ i + 5 ≤ length (now s) ⌝ }
-    ensures { λ r. ⌜ (r < 2 ^ 40) × (digitsOf 40 r ≡ part (8 * i) 40 (bitsOf (now (s .entry)))) ⌝ }
+// The eight octets from octet i on as one number, the first lowest.
+fn eight(s: &[u8], i: usize) -> u64
+    requires { ⌜ i + 8 ≤ length (now s) ⌝ }
+    ensures { λ r. ⌜ digitsOf 64 r ≡ part (8 * i) 64 (bitsOf (now (s .entry))) ⌝ }
 {
     let a = s[i] as u64;
     let b = s[i + 1] as u64;
     let c = s[i + 2] as u64;
     let d = s[i + 3] as u64;
     let e = s[i + 4] as u64;
-    (e << 32) | ((d << 24) | ((c << 16) | ((b << 8) | a)))
+    let f = s[i + 5] as u64;
+    let g = s[i + 6] as u64;
+    let h = s[i + 7] as u64;
+    (h << 56) | ((g << 48) | ((f << 40) | ((e << 32) | ((d << 24) | ((c << 16) | ((b << 8) | a))))))
 }
 
-// The five octets from octet i on become those of v.
-fn put_five(s: &mut [u8], i: usize, v: u64)
-    requires { ⌜ i + 5 ≤ length (now s) ⌝ }
-    ensures { λ r. ⌜ now (s .exit) ≡ sets (now (s .entry)) i (octetsOf 5 (digitsOf 40 v)) ⌝ }
+// The eight octets from octet i on become those of v.
+fn put_eight(s: &mut [u8], i: usize, v: u64)
+    requires { ⌜ i + 8 ≤ length (now s) ⌝ }
+    ensures { λ r. ⌜ now (s .exit) ≡ sets (now (s .entry)) i (octetsOf 8 (digitsOf 64 v)) ⌝ }
 {
     s[i] = (v & 0xff) as u8;
     s[i + 1] = ((v >> 8) & 0xff) as u8;
     s[i + 2] = ((v >> 16) & 0xff) as u8;
     s[i + 3] = ((v >> 24) & 0xff) as u8;
     s[i + 4] = ((v >> 32) & 0xff) as u8;
+    s[i + 5] = ((v >> 40) & 0xff) as u8;
+    s[i + 6] = ((v >> 48) & 0xff) as u8;
+    s[i + 7] = ((v >> 56) & 0xff) as u8;
 }
 
-// The 40 digits of x, where those of v stand from place r on, n of them.
+// The 64 digits of x, where those of v stand from place r on, n of them.
 fn replaced(x: u64, r: u32, n: u32, v: u32) -> u64
-    requires { ⌜ (r < 8) × (n ≤ 32) × (x < 2 ^ 40) ⌝ }
-    ensures { λ y. ⌜ digitsOf 40 y ≡ take r (digitsOf 40 x) ++ digitsOf n v ++ drop (r + n) (digitsOf 40 x) ⌝ }
+    requires { ⌜ (r < 8) × (n ≤ 32) ⌝ }
+    ensures { λ y. ⌜ digitsOf 64 y ≡ take r (digitsOf 64 x) ++ digitsOf n v ++ drop (r + n) (digitsOf 64 x) ⌝ }
 {
     let before = x % (1u64 << r);
     let field = (v as u64) % (1u64 << n);
@@ -122,8 +128,8 @@ pub fn field(s: &[u8], at: usize, w: u32) -> u32
 {
     let n = width(w);
     let i = at / 8;
-    if has_five(s, i) {
-        let x = five(s, i) >> (at % 8);
+    if has_eight(s, i) {
+        let x = eight(s, i) >> (at % 8);
         (x % (1u64 << n)) as u32
     } else {
         field_by_bits(s, at, n)
@@ -149,10 +155,10 @@ pub fn put_field(s: &mut [u8], at: usize, w: u32, v: u32)
 {
     let n = width(w);
     let i = at / 8;
-    if has_five(s, i) {
-        let x = five(s, i);
+    if has_eight(s, i) {
+        let x = eight(s, i);
         let y = replaced(x, (at % 8) as u32, n, v);
-        put_five(s, i, y);
+        put_eight(s, i, y);
     } else {
         put_by_bits(s, at, n, v);
     }
