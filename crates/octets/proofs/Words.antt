@@ -1,20 +1,20 @@
 -- Many bits at once: octets as one number, digits in parts, and a field put into them. Assumes nothing.
 use mathlib.Core.Path.{_≡_, refl, sym, ap, ap₂, _∙_, subst}
-use mathlib.Core.Bool.{true, false}
+use mathlib.Core.Bool.{false}
 use mathlib.Core.List.{List, [], _∷_, _++_, append-assoc, append-nil}
 use Prim.Native.Nat.{ℕ, zero, suc, _+_, _-_, _*_, _/_, _%_, _^_, _≤_, _<_, zero-le, suc-le-suc}
-use native.Mathlib.Nat.{div-one, zero-add, suc-add, mod-lt, mod-eq-of-lt}
+use native.Mathlib.Nat.{div-one, zero-add, suc-add, mod-lt}
 use native.Mathlib.Decide.{decLe}
 use native.Mathlib.Omega.{arith}
 use lib.Arith.{digits-lt}
 use borrow.Author.Tests.{le-leb, lt-leb}
 use lib.Dec.{lit≤, leb}
-use lib.Pow.{high, low, pow-pos, pow-mono, pow-add, shl-exact, shr-shr, shr-lt}
-use lib.Bits.{bitAnd, bitOr, and-mask, mask-lt, or-shifted}
+use lib.Pow.{high, low, pow-pos, pow-mono, pow-add, shl-exact, shr-lt}
+use lib.Bits.{bitAnd, bitOr, and-mask, or-shifted}
 use lib.ListN.{length, getD, take, drop, set, length-append, length-drop, take-append-drop}
-use lib.Seq.{length-take-le, take-nil, take-at, drop-at, take-take, drop-drop, take-add, drop-cons, sets, length-sets, sets-eq}
+use lib.Seq.{length-take-le, take-nil, take-at, drop-at, take-take, drop-drop, take-add, take-append-le, drop-append-le, drop-cons, sets, length-sets, sets-eq}
 use Rattle.octets.specs.Bits.{digitsOf, valueOf, bitsOf, octetsOf, part, laid}
-use Rattle.octets.proofs.Digits.{Bits, take-bits, drop-bits, digits-length, digits-bits, digits-take, digits-mod-pow, digits-value, shr-suc, value-append, value-digits, value-part}
+use Rattle.octets.proofs.Digits.{Bits, take-bits, drop-bits, digits-length, digits-bits, digits-take, digits-mod-pow, digits-value, shr-suc, value-digits, value-part}
 use Rattle.octets.proofs.Laws.{Octets, bits-length, bits-bits, octets-are, octets-length, bits-octets, sets-below, sets-append}
 
 -- ---- digits in parts
@@ -67,137 +67,83 @@ bits-sets s os i h =
     (bits-parts s (i + length os) h .1 ∙ ap (λ (k : ℕ). drop k (bitsOf s)) n)
     ∙ sym (sets-eq (bitsOf os) (bitsOf s) (8 * i) (omega (arith, bits-length os, bits-length s)))
 
--- ---- eight octets as one number
+-- ---- bits taken n at a time
 
--- an octet above k digits
-above : (k hi lo : ℕ) → hi < 2 ^ 8 → lo < 2 ^ k → 8 + k ≤ 64 → bitOr (hi * 2 ^ k % 2 ^ 64) lo ≡ hi * 2 ^ k + lo
-above k hi lo h l n = ap (λ (x : ℕ). bitOr x lo) (shl-exact 8 k 64 h n) ∙ or-shifted hi k lo l
+-- what comes next, behind what was taken
+pub part-more : (B : List ℕ) (at m n k : ℕ) → m + n ≡ k → part at m B ++ part (at + m) n B ≡ part at k B
+part-more B at m n k e =
+    ap (λ (l : List ℕ). part at m B ++ take n l) (sym (drop-drop m at B)) ∙ sym (take-add m n (drop at B)) ∙ ap (λ (i : ℕ). part at i B) e
 
--- and its digits above theirs
-above-digits : (k n hi lo : ℕ) (os : List ℕ) → n ≡ k + 8 → n ≤ 64 → hi < 2 ^ 8 → lo < 2 ^ k → digitsOf k lo ≡ bitsOf os
-    → digitsOf n (bitOr (hi * 2 ^ k % 2 ^ 64) lo) ≡ bitsOf (os ++ (hi ∷ []))
+-- the digits of a field are its bits
+pub field-digits : (s : List ℕ) (at n : ℕ) → at + n ≤ 8 * length s → digitsOf n (valueOf (part at n (bitsOf s))) ≡ part at n (bitsOf s)
+field-digits s at n h =
+    let P = part at n (bitsOf s) in
+    let e : length P ≡ n = length-take-le n (drop at (bitsOf s)) (omega (arith, length-drop at (bitsOf s), bits-length s)) in
+    ap (λ (k : ℕ). digitsOf k (valueOf P)) (sym e) ∙ digits-value P (take-bits n (drop at (bitsOf s)) (drop-bits at (bitsOf s) (bits-bits s)))
+
+-- ---- octets as one number: n digits above k, and where they stand
+
+octet-digits : (s : List ℕ) (i : ℕ) → i < length s → digitsOf 8 (getD s i 0) ≡ part (8 * i) 8 (bitsOf s)
 unfolding bitsOf
-above-digits k n hi lo os e m h l f =
-    ap (digitsOf n) (above k hi lo h l (omega arith)) ∙ digits-join k 8 n hi lo e l
-    ∙ ap₂ (λ (x y : List ℕ). x ++ y) f (sym (append-nil (digitsOf 8 hi))) ∙ sym (bits-append os (hi ∷ []))
+octet-digits s i h =
+    sym (append-nil (digitsOf 8 (getD s i 0))) ∙ ap bitsOf (sym (ap (take 1) (drop-cons s i 0 h))) ∙ octets-part s i 1 (omega arith)
 
-above-lt : (k n hi lo : ℕ) → n ≡ 8 + k → n ≤ 64 → hi < 2 ^ 8 → lo < 2 ^ k → bitOr (hi * 2 ^ k % 2 ^ 64) lo < 2 ^ n
-above-lt k n hi lo e m h l =
-    subst (λ (x : ℕ). x < 2 ^ n) (sym (above k hi lo h l (omega arith)))
-    (subst (λ (x : ℕ). hi * 2 ^ k + lo < x) (sym (ap (λ (i : ℕ). 2 ^ i) e ∙ pow-add 2 8 k)) (digits-lt h l))
+module _ (s : List ℕ) (k n m p q hi lo : ℕ) (e : m ≡ k + n) (h : m ≤ 64) (hh : hi < 2 ^ n) (hl : lo < 2 ^ k) (e′ : p + k ≡ q)
+    (f : digitsOf k lo ≡ part p k (bitsOf s)) (g : digitsOf n hi ≡ part q n (bitsOf s)) where
+  -- as the code joins them
+  abbrev joined : ℕ
+  joined = bitOr (hi * 2 ^ k % 2 ^ 64) lo
 
-one-octet : (a : ℕ) → digitsOf 8 a ≡ bitsOf (a ∷ [])
-unfolding bitsOf
-one-octet a = sym (append-nil (digitsOf 8 a))
+  joined-is : joined ≡ hi * 2 ^ k + lo
+  joined-is = ap (λ (x : ℕ). bitOr x lo) (shl-exact n k 64 hh (omega arith)) ∙ or-shifted hi k lo hl
 
--- as the code joins them
-pub joined-digits : (a b c d e f g h : ℕ) → a < 2 ^ 8 → b < 2 ^ 8 → c < 2 ^ 8 → d < 2 ^ 8 → e < 2 ^ 8 → f < 2 ^ 8 → g < 2 ^ 8 → h < 2 ^ 8
-    → digitsOf 64 (bitOr (h * 2 ^ 56 % 2 ^ 64) (bitOr (g * 2 ^ 48 % 2 ^ 64) (bitOr (f * 2 ^ 40 % 2 ^ 64) (bitOr (e * 2 ^ 32 % 2 ^ 64) (bitOr (d * 2 ^ 24 % 2 ^ 64) (bitOr (c * 2 ^ 16 % 2 ^ 64) (bitOr (b * 2 ^ 8 % 2 ^ 64) a))))))) ≡ bitsOf (a ∷ b ∷ c ∷ d ∷ e ∷ f ∷ g ∷ h ∷ [])
-joined-digits a b c d e f g h ha hb hc hd he hf hg hh =
-    let v2 = bitOr (b * 2 ^ 8 % 2 ^ 64) a in
-    let v3 = bitOr (c * 2 ^ 16 % 2 ^ 64) v2 in
-    let v4 = bitOr (d * 2 ^ 24 % 2 ^ 64) v3 in
-    let v5 = bitOr (e * 2 ^ 32 % 2 ^ 64) v4 in
-    let v6 = bitOr (f * 2 ^ 40 % 2 ^ 64) v5 in
-    let v7 = bitOr (g * 2 ^ 48 % 2 ^ 64) v6 in
-    let l2 : v2 < 2 ^ 16 = above-lt 8 16 b a refl (lit≤ tt) hb ha in
-    let l3 : v3 < 2 ^ 24 = above-lt 16 24 c v2 refl (lit≤ tt) hc l2 in
-    let l4 : v4 < 2 ^ 32 = above-lt 24 32 d v3 refl (lit≤ tt) hd l3 in
-    let l5 : v5 < 2 ^ 40 = above-lt 32 40 e v4 refl (lit≤ tt) he l4 in
-    let l6 : v6 < 2 ^ 48 = above-lt 40 48 f v5 refl (lit≤ tt) hf l5 in
-    let l7 : v7 < 2 ^ 56 = above-lt 48 56 g v6 refl (lit≤ tt) hg l6 in
-    let d2 = above-digits 8 16 b a (a ∷ []) refl (lit≤ tt) hb ha (one-octet a) in
-    let d3 = above-digits 16 24 c v2 (a ∷ b ∷ []) refl (lit≤ tt) hc l2 d2 in
-    let d4 = above-digits 24 32 d v3 (a ∷ b ∷ c ∷ []) refl (lit≤ tt) hd l3 d3 in
-    let d5 = above-digits 32 40 e v4 (a ∷ b ∷ c ∷ d ∷ []) refl (lit≤ tt) he l4 d4 in
-    let d6 = above-digits 40 48 f v5 (a ∷ b ∷ c ∷ d ∷ e ∷ []) refl (lit≤ tt) hf l5 d5 in
-    let d7 = above-digits 48 56 g v6 (a ∷ b ∷ c ∷ d ∷ e ∷ f ∷ []) refl (lit≤ tt) hg l6 d6 in
-    above-digits 56 64 h v7 (a ∷ b ∷ c ∷ d ∷ e ∷ f ∷ g ∷ []) refl (lit≤ tt) hh l7 d7
+  pub joined-digits : (joined < 2 ^ m) × (digitsOf m joined ≡ part p m (bitsOf s))
+  joined-digits =
+      let c : n + k ≡ m = omega arith in (
+        subst (λ (x : ℕ). x < 2 ^ m) (sym joined-is) (subst (λ (i : ℕ). hi * 2 ^ k + lo < 2 ^ i) c (subst (λ (x : ℕ). hi * 2 ^ k + lo < x) (sym (pow-add 2 n k)) (digits-lt hh hl))),
+        ap (digitsOf m) joined-is ∙ digits-join k n m hi lo e hl
+            ∙ ap₂ (λ (x y : List ℕ). x ++ y) f (g ∙ ap (λ (i : ℕ). part i n (bitsOf s)) (sym e′))
+            ∙ part-more (bitsOf s) p k n m (sym e),
+      )
 
-pub eight-octets : (s : List ℕ) (i : ℕ) → i + 8 ≤ length s
-    → bitsOf (getD s i 0 ∷ getD s (i + 1) 0 ∷ getD s (i + 2) 0 ∷ getD s (i + 3) 0 ∷ getD s (i + 4) 0 ∷ getD s (i + 5) 0 ∷ getD s (i + 6) 0 ∷ getD s (i + 7) 0 ∷ []) ≡ part (8 * i) 64 (bitsOf s)
-eight-octets s i h =
-    let o : ℕ → ℕ = λ k. getD s k 0 in
-    let e1 : suc i ≡ i + 1 = omega arith in
-    let e2 : suc (i + 1) ≡ i + 2 = omega arith in
-    let e3 : suc (i + 2) ≡ i + 3 = omega arith in
-    let e4 : suc (i + 3) ≡ i + 4 = omega arith in
-    let e5 : suc (i + 4) ≡ i + 5 = omega arith in
-    let e6 : suc (i + 5) ≡ i + 6 = omega arith in
-    let e7 : suc (i + 6) ≡ i + 7 = omega arith in
-    let e8 : suc (i + 7) ≡ i + 8 = omega arith in
-    let d7 : take 1 (drop (i + 7) s) ≡ o (i + 7) ∷ [] = ap (take 1) (drop-cons s (i + 7) 0 (omega arith)) in
-    let d6 : take 2 (drop (i + 6) s) ≡ o (i + 6) ∷ o (i + 7) ∷ [] =
-    ap (take 2) (drop-cons s (i + 6) 0 (omega arith)) ∙ ap (λ (n : ℕ). o (i + 6) ∷ take 1 (drop n s)) e7 ∙ ap (λ (l : List ℕ). o (i + 6) ∷ l) d7 in
-    let d5 : take 3 (drop (i + 5) s) ≡ o (i + 5) ∷ o (i + 6) ∷ o (i + 7) ∷ [] =
-    ap (take 3) (drop-cons s (i + 5) 0 (omega arith)) ∙ ap (λ (n : ℕ). o (i + 5) ∷ take 2 (drop n s)) e6 ∙ ap (λ (l : List ℕ). o (i + 5) ∷ l) d6 in
-    let d4 : take 4 (drop (i + 4) s) ≡ o (i + 4) ∷ o (i + 5) ∷ o (i + 6) ∷ o (i + 7) ∷ [] =
-    ap (take 4) (drop-cons s (i + 4) 0 (omega arith)) ∙ ap (λ (n : ℕ). o (i + 4) ∷ take 3 (drop n s)) e5 ∙ ap (λ (l : List ℕ). o (i + 4) ∷ l) d5 in
-    let d3 : take 5 (drop (i + 3) s) ≡ o (i + 3) ∷ o (i + 4) ∷ o (i + 5) ∷ o (i + 6) ∷ o (i + 7) ∷ [] =
-    ap (take 5) (drop-cons s (i + 3) 0 (omega arith)) ∙ ap (λ (n : ℕ). o (i + 3) ∷ take 4 (drop n s)) e4 ∙ ap (λ (l : List ℕ). o (i + 3) ∷ l) d4 in
-    let d2 : take 6 (drop (i + 2) s) ≡ o (i + 2) ∷ o (i + 3) ∷ o (i + 4) ∷ o (i + 5) ∷ o (i + 6) ∷ o (i + 7) ∷ [] =
-    ap (take 6) (drop-cons s (i + 2) 0 (omega arith)) ∙ ap (λ (n : ℕ). o (i + 2) ∷ take 5 (drop n s)) e3 ∙ ap (λ (l : List ℕ). o (i + 2) ∷ l) d3 in
-    let d1 : take 7 (drop (i + 1) s) ≡ o (i + 1) ∷ o (i + 2) ∷ o (i + 3) ∷ o (i + 4) ∷ o (i + 5) ∷ o (i + 6) ∷ o (i + 7) ∷ [] =
-    ap (take 7) (drop-cons s (i + 1) 0 (omega arith)) ∙ ap (λ (n : ℕ). o (i + 1) ∷ take 6 (drop n s)) e2 ∙ ap (λ (l : List ℕ). o (i + 1) ∷ l) d2 in
-    let d0 : take 8 (drop i s) ≡ o i ∷ o (i + 1) ∷ o (i + 2) ∷ o (i + 3) ∷ o (i + 4) ∷ o (i + 5) ∷ o (i + 6) ∷ o (i + 7) ∷ [] =
-    ap (take 8) (drop-cons s i 0 (omega arith)) ∙ ap (λ (n : ℕ). o i ∷ take 7 (drop n s)) e1 ∙ ap (λ (l : List ℕ). o i ∷ l) d1 in
-    ap bitsOf (sym d0) ∙ octets-part s i 8 h
+-- two octets
+pub two-octets : (s : List ℕ) (i : ℕ) → Octets s → i + 2 ≤ length s
+    → (bitOr (getD s (i + 1) 0 * 2 ^ 8 % 2 ^ 64) (getD s i 0) < 2 ^ 16)
+    × (digitsOf 16 (bitOr (getD s (i + 1) 0 * 2 ^ 8 % 2 ^ 64) (getD s i 0)) ≡ part (8 * i) 16 (bitsOf s))
+two-octets s i o h =
+    let e : 8 * i + 8 ≡ 8 * (i + 1) = omega arith in
+    joined-digits s 8 8 16 (8 * i) (8 * (i + 1)) (getD s (i + 1) 0) (getD s i 0) refl (lit≤ tt) (o (i + 1)) (o i) e (octet-digits s i (omega arith)) (octet-digits s (i + 1) (omega arith))
 
 -- ---- and back
 
-module _ (v : ℕ) where
-  -- the octets that the code puts
-  abbrev cut : List ℕ
-  cut = bitAnd v 255 ∷ bitAnd (v / 2 ^ 8) 255 ∷ bitAnd (v / 2 ^ 16) 255 ∷ bitAnd (v / 2 ^ 24) 255 ∷ bitAnd (v / 2 ^ 32) 255 ∷ bitAnd (v / 2 ^ 40) 255 ∷ bitAnd (v / 2 ^ 48) 255 ∷ bitAnd (v / 2 ^ 56) 255 ∷ []
+octets-append : (m n : ℕ) (a b : List ℕ) → length a ≡ 8 * m → octetsOf (m + n) (a ++ b) ≡ octetsOf m a ++ octetsOf n b
+unfolding octetsOf
+octets-append zero n [] b e = ap (λ (k : ℕ). octetsOf k b) (zero-add n)
+octets-append zero n (x ∷ a) b e = absurd (omega arith)
+octets-append (suc m) n a b e =
+    let l : 8 ≤ length a = omega arith in
+    ap (λ (k : ℕ). octetsOf k (a ++ b)) (suc-add m n)
+    ∙ ap₂ (λ (x y : List ℕ). valueOf x ∷ octetsOf (m + n) y) (take-append-le 8 a b l) (drop-append-le 8 a b l)
+    ∙ ap (λ (y : List ℕ). valueOf (take 8 a) ∷ y) (octets-append m n (drop 8 a) b (length-drop 8 a ∙ omega arith))
 
-  octet-digits : (x : ℕ) → digitsOf 8 (bitAnd x 255) ≡ digitsOf 8 x
-  octet-digits x = ap (digitsOf 8) (and-mask x 8) ∙ digits-mod-pow 8 x
+-- the low m octets of v, and the n above them
+pub sets-more : (s : List ℕ) (i m n v : ℕ)
+    → sets (sets s i (octetsOf m (digitsOf (8 * m) v))) (i + m) (octetsOf n (digitsOf (8 * n) (v / 2 ^ (8 * m)))) ≡ sets s i (octetsOf (m + n) (digitsOf (8 * (m + n)) v))
+sets-more s i m n v =
+    let a = digitsOf (8 * m) v in
+    let b = digitsOf (8 * n) (v / 2 ^ (8 * m)) in
+    ap (λ (k : ℕ). sets (sets s i (octetsOf m a)) (i + k) (octetsOf n b)) (sym (octets-length m a))
+    ∙ sym (sets-append s i (octetsOf m a) (octetsOf n b))
+    ∙ ap (sets s i) (sym (octets-append m n a b (digits-length (8 * m) v)) ∙ ap (octetsOf (m + n)) (sym (digits-cut (8 * m) (8 * n) (8 * (m + n)) v (omega arith))))
 
-  cut-digits : bitsOf cut ≡ digitsOf 64 v
-  unfolding bitsOf
-  cut-digits =
-      let next : (k n m j : ℕ) → m ≡ 8 + n → k + 8 ≡ j → digitsOf m (v / 2 ^ k) ≡ digitsOf 8 (v / 2 ^ k) ++ digitsOf n (v / 2 ^ j) =
-      λ k n m j e f. digits-cut 8 n m (v / 2 ^ k) e ∙ ap (λ (x : ℕ). digitsOf 8 (v / 2 ^ k) ++ digitsOf n x) (shr-shr v k 8 ∙ ap (λ (i : ℕ). v / 2 ^ i) f) in
-      let d7 : digitsOf 8 (bitAnd (v / 2 ^ 56) 255) ++ [] ≡ digitsOf 8 (v / 2 ^ 56) = append-nil (digitsOf 8 (bitAnd (v / 2 ^ 56) 255)) ∙ octet-digits (v / 2 ^ 56) in
-      let d6 = ap₂ (λ (a b : List ℕ). a ++ b) (octet-digits (v / 2 ^ 48)) d7 ∙ sym (next 48 8 16 56 refl refl) in
-      let d5 = ap₂ (λ (a b : List ℕ). a ++ b) (octet-digits (v / 2 ^ 40)) d6 ∙ sym (next 40 16 24 48 refl refl) in
-      let d4 = ap₂ (λ (a b : List ℕ). a ++ b) (octet-digits (v / 2 ^ 32)) d5 ∙ sym (next 32 24 32 40 refl refl) in
-      let d3 = ap₂ (λ (a b : List ℕ). a ++ b) (octet-digits (v / 2 ^ 24)) d4 ∙ sym (next 24 32 40 32 refl refl) in
-      let d2 = ap₂ (λ (a b : List ℕ). a ++ b) (octet-digits (v / 2 ^ 16)) d3 ∙ sym (next 16 40 48 24 refl refl) in
-      let d1 = ap₂ (λ (a b : List ℕ). a ++ b) (octet-digits (v / 2 ^ 8)) d2 ∙ sym (next 8 48 56 16 refl refl) in
-      ap₂ (λ (a b : List ℕ). a ++ b) (octet-digits v) d1 ∙ sym (digits-cut 8 56 64 v refl)
+-- one octet
+one-octet : (v : ℕ) → octetsOf 1 (digitsOf 8 v) ≡ bitAnd v 255 ∷ []
+unfolding octetsOf
+one-octet v = ap (λ (l : List ℕ). valueOf l ∷ []) (digits-take 8 8 v (lit≤ tt)) ∙ ap (λ (x : ℕ). x ∷ []) (value-digits 8 v ∙ sym (and-mask v 8))
 
-  cut-octets : Octets cut
-  cut-octets zero = mask-lt v 8
-  cut-octets (suc zero) = mask-lt (v / 2 ^ 8) 8
-  cut-octets (suc (suc zero)) = mask-lt (v / 2 ^ 16) 8
-  cut-octets (suc (suc (suc zero))) = mask-lt (v / 2 ^ 24) 8
-  cut-octets (suc (suc (suc (suc zero)))) = mask-lt (v / 2 ^ 32) 8
-  cut-octets (suc (suc (suc (suc (suc zero))))) = mask-lt (v / 2 ^ 40) 8
-  cut-octets (suc (suc (suc (suc (suc (suc zero)))))) = mask-lt (v / 2 ^ 48) 8
-  cut-octets (suc (suc (suc (suc (suc (suc (suc zero))))))) = mask-lt (v / 2 ^ 56) 8
-  cut-octets (suc (suc (suc (suc (suc (suc (suc (suc i)))))))) = suc-le-suc zero-le
-
-  pub stored : (s : List ℕ) (i : ℕ)
-      → set (set (set (set (set (set (set (set s i (bitAnd v 255)) (i + 1) (bitAnd (v / 2 ^ 8) 255)) (i + 2) (bitAnd (v / 2 ^ 16) 255)) (i + 3) (bitAnd (v / 2 ^ 24) 255)) (i + 4) (bitAnd (v / 2 ^ 32) 255)) (i + 5) (bitAnd (v / 2 ^ 40) 255)) (i + 6) (bitAnd (v / 2 ^ 48) 255)) (i + 7) (bitAnd (v / 2 ^ 56) 255)
-      ≡ sets s i (octetsOf 8 (digitsOf 64 v))
-  stored s i =
-      let m : ℕ → ℕ = λ k. bitAnd (v / 2 ^ k) 255 in
-      let e1 : i + 1 ≡ suc i = omega arith in
-      let e2 : i + 2 ≡ suc (suc i) = omega arith in
-      let e3 : i + 3 ≡ suc (suc (suc i)) = omega arith in
-      let e4 : i + 4 ≡ suc (suc (suc (suc i))) = omega arith in
-      let e5 : i + 5 ≡ suc (suc (suc (suc (suc i)))) = omega arith in
-      let e6 : i + 6 ≡ suc (suc (suc (suc (suc (suc i))))) = omega arith in
-      let e7 : i + 7 ≡ suc (suc (suc (suc (suc (suc (suc i)))))) = omega arith in
-      ap (λ (p : ℕ). set (set (set (set (set (set (set (set s i (bitAnd v 255)) p (m 8)) (i + 2) (m 16)) (i + 3) (m 24)) (i + 4) (m 32)) (i + 5) (m 40)) (i + 6) (m 48)) (i + 7) (m 56)) e1 ∙
-      ap (λ (p : ℕ). set (set (set (set (set (set (set (set s i (bitAnd v 255)) (suc i) (m 8)) p (m 16)) (i + 3) (m 24)) (i + 4) (m 32)) (i + 5) (m 40)) (i + 6) (m 48)) (i + 7) (m 56)) e2 ∙
-      ap (λ (p : ℕ). set (set (set (set (set (set (set (set s i (bitAnd v 255)) (suc i) (m 8)) (suc (suc i)) (m 16)) p (m 24)) (i + 4) (m 32)) (i + 5) (m 40)) (i + 6) (m 48)) (i + 7) (m 56)) e3 ∙
-      ap (λ (p : ℕ). set (set (set (set (set (set (set (set s i (bitAnd v 255)) (suc i) (m 8)) (suc (suc i)) (m 16)) (suc (suc (suc i))) (m 24)) p (m 32)) (i + 5) (m 40)) (i + 6) (m 48)) (i + 7) (m 56)) e4 ∙
-      ap (λ (p : ℕ). set (set (set (set (set (set (set (set s i (bitAnd v 255)) (suc i) (m 8)) (suc (suc i)) (m 16)) (suc (suc (suc i))) (m 24)) (suc (suc (suc (suc i)))) (m 32)) p (m 40)) (i + 6) (m 48)) (i + 7) (m 56)) e5 ∙
-      ap (λ (p : ℕ). set (set (set (set (set (set (set (set s i (bitAnd v 255)) (suc i) (m 8)) (suc (suc i)) (m 16)) (suc (suc (suc i))) (m 24)) (suc (suc (suc (suc i)))) (m 32)) (suc (suc (suc (suc (suc i))))) (m 40)) p (m 48)) (i + 7) (m 56)) e6 ∙
-      ap (λ (p : ℕ). set (set (set (set (set (set (set (set s i (bitAnd v 255)) (suc i) (m 8)) (suc (suc i)) (m 16)) (suc (suc (suc i))) (m 24)) (suc (suc (suc (suc i)))) (m 32)) (suc (suc (suc (suc (suc i))))) (m 40)) (suc (suc (suc (suc (suc (suc i)))))) (m 48)) p (m 56)) e7 ∙
-      ap (sets s i) (octets-are cut (digitsOf 64 v) 8 refl cut-octets cut-digits)
+pub two-put : (s : List ℕ) (i v : ℕ) → set (set s i (bitAnd v 255)) (i + 1) (bitAnd (v / 2 ^ 8) 255) ≡ sets s i (octetsOf 2 (digitsOf 16 v))
+two-put s i v =
+    sym (ap₂ (λ (x y : List ℕ). sets (sets s i x) (i + 1) y) (one-octet v) (one-octet (v / 2 ^ 8))) ∙ sets-more s i 1 1 v
 
 octets-octets : (n : ℕ) (bs : List ℕ) → Bits bs → Octets (octetsOf n bs)
 unfolding octetsOf
@@ -325,20 +271,6 @@ module _ (x r n v : ℕ) (hr : r < 8) (hn : n ≤ 32) (hx : x < 2 ^ 64) where
       (ap (digitsOf k) lower-is ∙ digits-join r n k (v % 2 ^ n) (x % 2 ^ r) refl (mod-lt x (pow-pos r))
       ∙ ap₂ (λ (a b : List ℕ). a ++ b) (digits-mod-pow r x ∙ sym (digits-take r 64 x (omega arith))) (digits-mod-pow n v))
       (sym (digits-drop k (64 - k) 64 x q))
-
--- ---- bits taken n at a time
-
--- what comes next, behind what was taken
-pub part-more : (B : List ℕ) (at m n k : ℕ) → m + n ≡ k → part at m B ++ part (at + m) n B ≡ part at k B
-part-more B at m n k e =
-    ap (λ (l : List ℕ). part at m B ++ take n l) (sym (drop-drop m at B)) ∙ sym (take-add m n (drop at B)) ∙ ap (λ (i : ℕ). part at i B) e
-
--- the digits of a field are its bits
-pub field-digits : (s : List ℕ) (at n : ℕ) → at + n ≤ 8 * length s → digitsOf n (valueOf (part at n (bitsOf s))) ≡ part at n (bitsOf s)
-field-digits s at n h =
-    let P = part at n (bitsOf s) in
-    let e : length P ≡ n = length-take-le n (drop at (bitsOf s)) (omega (arith, length-drop at (bitsOf s), bits-length s)) in
-    ap (λ (k : ℕ). digitsOf k (valueOf P)) (sym e) ∙ digits-value P (take-bits n (drop at (bitsOf s)) (drop-bits at (bitsOf s) (bits-bits s)))
 
 -- ---- whether there are eight octets from octet i on, as the code asks it
 

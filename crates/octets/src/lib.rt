@@ -65,20 +65,52 @@ fn has_eight(s: &[u8], i: usize) -> bool
     8 <= s.len() - i
 }
 
-// The eight octets from octet i on as one number, the first lowest.
+// The two octets from octet i on as one number, the first lowest.
+fn two(s: &[u8], i: usize) -> u64
+    requires { ⌜ i + 2 ≤ length (now s) ⌝ }
+    ensures { λ r. ⌜ (r < 2 ^ 16) × (digitsOf 16 r ≡ part (8 * i) 16 (bitsOf (now (s .entry)))) ⌝ }
+{
+    let low = s[i] as u64;
+    let high = s[i + 1] as u64;
+    (high << 8) | low
+}
+
+// The four octets from octet i on.
+fn four(s: &[u8], i: usize) -> u64
+    requires { ⌜ i + 4 ≤ length (now s) ⌝ }
+    ensures { λ r. ⌜ (r < 2 ^ 32) × (digitsOf 32 r ≡ part (8 * i) 32 (bitsOf (now (s .entry)))) ⌝ }
+{
+    let low = two(s, i);
+    let high = two(s, i + 2);
+    (high << 16) | low
+}
+
+// The eight octets from octet i on.
 fn eight(s: &[u8], i: usize) -> u64
     requires { ⌜ i + 8 ≤ length (now s) ⌝ }
-    ensures { λ r. ⌜ digitsOf 64 r ≡ part (8 * i) 64 (bitsOf (now (s .entry))) ⌝ }
+    ensures { λ r. ⌜ (r < 2 ^ 64) × (digitsOf 64 r ≡ part (8 * i) 64 (bitsOf (now (s .entry)))) ⌝ }
 {
-    let a = s[i] as u64;
-    let b = s[i + 1] as u64;
-    let c = s[i + 2] as u64;
-    let d = s[i + 3] as u64;
-    let e = s[i + 4] as u64;
-    let f = s[i + 5] as u64;
-    let g = s[i + 6] as u64;
-    let h = s[i + 7] as u64;
-    (h << 56) | ((g << 48) | ((f << 40) | ((e << 32) | ((d << 24) | ((c << 16) | ((b << 8) | a))))))
+    let low = four(s, i);
+    let high = four(s, i + 4);
+    (high << 32) | low
+}
+
+// The two octets from octet i on become the two low ones of v.
+fn put_two(s: &mut [u8], i: usize, v: u64)
+    requires { ⌜ i + 2 ≤ length (now s) ⌝ }
+    ensures { λ r. ⌜ now (s .exit) ≡ sets (now (s .entry)) i (octetsOf 2 (digitsOf 16 v)) ⌝ }
+{
+    s[i] = (v & 0xff) as u8;
+    s[i + 1] = ((v >> 8) & 0xff) as u8;
+}
+
+// The four octets from octet i on become the four low ones of v.
+fn put_four(s: &mut [u8], i: usize, v: u64)
+    requires { ⌜ i + 4 ≤ length (now s) ⌝ }
+    ensures { λ r. ⌜ now (s .exit) ≡ sets (now (s .entry)) i (octetsOf 4 (digitsOf 32 v)) ⌝ }
+{
+    put_two(s, i, v);
+    put_two(s, i + 2, v >> 16);
 }
 
 // The eight octets from octet i on become those of v.
@@ -86,14 +118,8 @@ fn put_eight(s: &mut [u8], i: usize, v: u64)
     requires { ⌜ i + 8 ≤ length (now s) ⌝ }
     ensures { λ r. ⌜ now (s .exit) ≡ sets (now (s .entry)) i (octetsOf 8 (digitsOf 64 v)) ⌝ }
 {
-    s[i] = (v & 0xff) as u8;
-    s[i + 1] = ((v >> 8) & 0xff) as u8;
-    s[i + 2] = ((v >> 16) & 0xff) as u8;
-    s[i + 3] = ((v >> 24) & 0xff) as u8;
-    s[i + 4] = ((v >> 32) & 0xff) as u8;
-    s[i + 5] = ((v >> 40) & 0xff) as u8;
-    s[i + 6] = ((v >> 48) & 0xff) as u8;
-    s[i + 7] = ((v >> 56) & 0xff) as u8;
+    put_four(s, i, v);
+    put_four(s, i + 4, v >> 32);
 }
 
 // The 64 digits of x, where those of v stand from place r on, n of them.

@@ -2,10 +2,9 @@
 use borrow.Author.Needs.{needs}
 use borrow.Author.Tests.{leb-true}
 use mathlib.Core.Path.{_≡_, sym, ap, subst, _∙_}
-use Prim.Native.Nat.{ℕ, _+_, _*_, _/_, _%_, _^_, _≤_, _<_, min}
+use Prim.Native.Nat.{ℕ, _*_, _/_, _%_, _^_, _≤_, _<_}
 use native.Mathlib.Omega.{arith}
 use native.Mathlib.Nat.{mod-lt}
-use lib.ListN.{length}
 use lib.Pow.{pow-pos, pow-mono}
 use Rattle.octets.specs.Bits.{bitsOf, valueOf, part}
 use Rattle.octets.proofs.Words.{size-is, field-in}
@@ -57,7 +56,7 @@ returns c =
     let a = c .before .before .before .before .before .args in
     let n = c .before .before .before .width in
     ap (λ (s : ℕ). c .eight .result / 2 ^ (a .at % 8) % s) (size c)
-    ∙ field-in (bitsOf (a .s .now)) (a .at) (n .result) (width-le c) (c .eight .result) (c .eight .ensures)
+    ∙ field-in (bitsOf (a .s .now)) (a .at) (n .result) (width-le c) (c .eight .result) (c .eight .ensures .1)
     ∙ ap (λ (k : ℕ). valueOf (part (a .at) k (bitsOf (a .s .now)))) (n .ensures)
 
 returns-2 : tie.Need-returns-2

@@ -1,9 +1,5 @@
 -- `octets::has_eight` meets its contract.
 use borrow.Author.Needs.{needs}
-use mathlib.Core.Path.{sym, _∙_}
-use borrow.Author.Tests.{le-leb, lt-leb}
-use native.Mathlib.Omega.{arith}
-use native.Mathlib.Decide.{decLe}
 use Rattle.octets.proofs.Words.{eight-there, eight-not}
 use Rattle.octets.proofs.has_eight.Statement.{statement}
 use Rattle.octets.proofs.has_eight.Tie as tie

@@ -1,12 +1,12 @@
 -- `octets::put_field` meets its contract: eight octets hold the field, or it is put bit by bit.
 use borrow.Author.Needs.{needs}
 use borrow.Author.Tests.{leb-true}
-use mathlib.Core.Path.{_≡_, sym, ap, subst, _∙_}
+use mathlib.Core.Path.{sym, ap, _∙_}
 use mathlib.Core.List.{List, _++_}
-use Prim.Native.Nat.{ℕ, _+_, _*_, _/_, _%_, _^_, _≤_, _<_, min}
+use Prim.Native.Nat.{ℕ, _+_, _%_, _≤_}
 use native.Mathlib.Omega.{arith}
 use lib.ListN.{take, drop}
-use Rattle.octets.specs.Bits.{bitsOf, digitsOf, laid}
+use Rattle.octets.specs.Bits.{digitsOf, laid}
 use Rattle.octets.proofs.Words.{field-laid}
 use Rattle.octets.proofs.put_field.Statement.{statement}
 use Rattle.octets.proofs.put_field.Tie as tie
@@ -47,7 +47,7 @@ returns c =
     let there = leb-true _ _ (sym (u .before .before .before .before .has-eight .ensures) ∙ u .before .before .before .if1 .taken) in
     c .before .before .put-eight .ensures
     ∙ field-laid s (a .at) (n .result) (a .v) (u .replaced .result) le (λ i. omega (arith, z .slice-known .given i)) there
-    (u .replaced .ensures ∙ ap (λ (l : List ℕ). take (a .at % 8) l ++ digitsOf (n .result) (a .v) ++ drop (a .at % 8 + n .result) l) (eight .ensures))
+    (u .replaced .ensures ∙ ap (λ (l : List ℕ). take (a .at % 8) l ++ digitsOf (n .result) (a .v) ++ drop (a .at % 8 + n .result) l) (eight .ensures .1))
     ∙ ap (λ (k : ℕ). laid s (a .at) (digitsOf k (a .v))) (n .ensures)
 
 same-length-2 : tie.Need-same-length-2
