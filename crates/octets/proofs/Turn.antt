@@ -1,12 +1,12 @@
 -- Laws of digits taken from the other end. Assumes nothing.
-use mathlib.Core.Path.{_≡_, refl, sym, ap, ap₂, _∙_, subst}
-use mathlib.Core.List.{List, [], _∷_, _++_, reverse, reverse-append, reverse-cons, reverse-reverse}
-use Prim.Native.Nat.{ℕ, zero, suc, _+_, _*_, _/_, _%_, _^_, _≤_, _<_}
+use mathlib.Core.Path.{_≡_, refl, sym, ap, ap₂, _∙_}
+use mathlib.Core.List.{List, [], _∷_, reverse, reverse-append, reverse-cons, reverse-reverse}
+use Prim.Native.Nat.{ℕ, zero, suc, _+_, _*_, _/_, _%_, _^_, _<_}
 use native.Mathlib.Nat.{mod-eq-of-lt, div-eq-of-lt}
 use native.Mathlib.Omega.{arith}
 use lib.Arith.{digits-div, digits-mod}
-use lib.Bits.{bitXor, differ, xor-block, xor-shr}
-use lib.ListN.{length, length-reverse}
+use lib.Bits.{bitXor, xor-block, xor-shr}
+use lib.ListN.{length-reverse}
 use lib.Pow.{pow-pos}
 use Rattle.octets.specs.Bits.{digitsOf, valueOf}
 use Rattle.octets.proofs.Xor.{odd, bit, bit-xor}

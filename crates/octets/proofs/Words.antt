@@ -1,20 +1,20 @@
 -- Many bits at once: octets as one number, digits in parts, and a field put into them. Assumes nothing.
 use mathlib.Core.Path.{_≡_, refl, sym, ap, ap₂, _∙_, subst}
-use mathlib.Core.Bool.{true, false}
+use mathlib.Core.Bool.{false}
 use mathlib.Core.List.{List, [], _∷_, _++_, append-assoc, append-nil}
 use Prim.Native.Nat.{ℕ, zero, suc, _+_, _-_, _*_, _/_, _%_, _^_, _≤_, _<_, zero-le, suc-le-suc}
-use native.Mathlib.Nat.{div-one, zero-add, suc-add, mod-lt, mod-eq-of-lt}
+use native.Mathlib.Nat.{div-one, zero-add, suc-add, mod-lt}
 use native.Mathlib.Decide.{decLe}
 use native.Mathlib.Omega.{arith}
 use lib.Arith.{digits-lt}
 use borrow.Author.Tests.{le-leb, lt-leb}
 use lib.Dec.{lit≤, leb}
-use lib.Pow.{high, low, pow-pos, pow-mono, pow-add, shl-exact, shr-shr, shr-lt}
-use lib.Bits.{bitAnd, bitOr, and-mask, mask-lt, or-shifted}
+use lib.Pow.{high, low, pow-pos, pow-mono, pow-add, shl-exact, shr-lt}
+use lib.Bits.{bitAnd, bitOr, and-mask, or-shifted}
 use lib.ListN.{length, getD, take, drop, set, length-append, length-drop, take-append-drop}
-use lib.Seq.{length-take-le, take-nil, take-at, drop-at, take-take, drop-drop, take-add, drop-cons, sets, length-sets, sets-eq}
+use lib.Seq.{length-take-le, take-nil, take-at, drop-at, take-take, drop-drop, take-add, take-append-le, drop-append-le, drop-cons, sets, length-sets, sets-eq}
 use Rattle.octets.specs.Bits.{digitsOf, valueOf, bitsOf, octetsOf, part, laid}
-use Rattle.octets.proofs.Digits.{Bits, take-bits, drop-bits, digits-length, digits-bits, digits-take, digits-mod-pow, digits-value, shr-suc, value-append, value-digits, value-part}
+use Rattle.octets.proofs.Digits.{Bits, take-bits, drop-bits, digits-length, digits-bits, digits-take, digits-mod-pow, digits-value, shr-suc, value-digits, value-part}
 use Rattle.octets.proofs.Laws.{Octets, bits-length, bits-bits, octets-are, octets-length, bits-octets, sets-below, sets-append}
 
 -- ---- digits in parts
@@ -67,111 +67,83 @@ bits-sets s os i h =
     (bits-parts s (i + length os) h .1 ∙ ap (λ (k : ℕ). drop k (bitsOf s)) n)
     ∙ sym (sets-eq (bitsOf os) (bitsOf s) (8 * i) (omega (arith, bits-length os, bits-length s)))
 
--- ---- five octets as one number
+-- ---- bits taken n at a time
 
-none : valueOf (bitsOf []) ≡ 0
-unfolding bitsOf valueOf
-none = refl
+-- what comes next, behind what was taken
+pub part-more : (B : List ℕ) (at m n k : ℕ) → m + n ≡ k → part at m B ++ part (at + m) n B ≡ part at k B
+part-more B at m n k e =
+    ap (λ (l : List ℕ). part at m B ++ take n l) (sym (drop-drop m at B)) ∙ sym (take-add m n (drop at B)) ∙ ap (λ (i : ℕ). part at i B) e
 
--- an octet above k digits
-above : (k hi lo : ℕ) → hi < 2 ^ 8 → lo < 2 ^ k → 8 + k ≤ 64 → bitOr (hi * 2 ^ k % 2 ^ 64) lo ≡ hi * 2 ^ k + lo
-above k hi lo h l n = ap (λ (x : ℕ). bitOr x lo) (shl-exact 8 k 64 h n) ∙ or-shifted hi k lo l
+-- the digits of a field are its bits
+pub field-digits : (s : List ℕ) (at n : ℕ) → at + n ≤ 8 * length s → digitsOf n (valueOf (part at n (bitsOf s))) ≡ part at n (bitsOf s)
+field-digits s at n h =
+    let P = part at n (bitsOf s) in
+    let e : length P ≡ n = length-take-le n (drop at (bitsOf s)) (omega (arith, length-drop at (bitsOf s), bits-length s)) in
+    ap (λ (k : ℕ). digitsOf k (valueOf P)) (sym e) ∙ digits-value P (take-bits n (drop at (bitsOf s)) (drop-bits at (bitsOf s) (bits-bits s)))
 
-octet-value : (o : ℕ) (os : List ℕ) → o < 2 ^ 8 → valueOf (bitsOf (o ∷ os)) ≡ valueOf (bitsOf os) * 2 ^ 8 + o
+-- ---- octets as one number: n digits above k, and where they stand
+
+octet-digits : (s : List ℕ) (i : ℕ) → i < length s → digitsOf 8 (getD s i 0) ≡ part (8 * i) 8 (bitsOf s)
 unfolding bitsOf
-octet-value o os h =
-    value-append (digitsOf 8 o) (bitsOf os)
-    ∙ ap₂ (λ (n x : ℕ). valueOf (bitsOf os) * 2 ^ n + x) (digits-length 8 o) (value-digits 8 o ∙ mod-eq-of-lt h)
+octet-digits s i h =
+    sym (append-nil (digitsOf 8 (getD s i 0))) ∙ ap bitsOf (sym (ap (take 1) (drop-cons s i 0 h))) ∙ octets-part s i 1 (omega arith)
 
-module _ (a b c d e : ℕ) (ha : a < 2 ^ 8) (hb : b < 2 ^ 8) (hc : c < 2 ^ 8) (hd : d < 2 ^ 8) (he : e < 2 ^ 8) where
-  -- as the code makes it
-  abbrev pub joined : ℕ
-  joined = bitOr (e * 2 ^ 32 % 2 ^ 64) (bitOr (d * 2 ^ 24 % 2 ^ 64) (bitOr (c * 2 ^ 16 % 2 ^ 64) (bitOr (b * 2 ^ 8 % 2 ^ 64) a)))
+module _ (s : List ℕ) (k n m p q hi lo : ℕ) (e : m ≡ k + n) (h : m ≤ 64) (hh : hi < 2 ^ n) (hl : lo < 2 ^ k) (e′ : p + k ≡ q)
+    (f : digitsOf k lo ≡ part p k (bitsOf s)) (g : digitsOf n hi ≡ part q n (bitsOf s)) where
+  -- as the code joins them
+  abbrev joined : ℕ
+  joined = bitOr (hi * 2 ^ k % 2 ^ 64) lo
 
-  abbrev sum : ℕ
-  sum = e * 2 ^ 32 + (d * 2 ^ 24 + (c * 2 ^ 16 + (b * 2 ^ 8 + a)))
+  joined-is : joined ≡ hi * 2 ^ k + lo
+  joined-is = ap (λ (x : ℕ). bitOr x lo) (shl-exact n k 64 hh (omega arith)) ∙ or-shifted hi k lo hl
 
-  joined-sum : joined ≡ sum
-  joined-sum =
-      let two : bitOr (b * 2 ^ 8 % 2 ^ 64) a ≡ b * 2 ^ 8 + a = above 8 b a hb ha (lit≤ tt) in
-      let three : bitOr (c * 2 ^ 16 % 2 ^ 64) (b * 2 ^ 8 + a) ≡ c * 2 ^ 16 + (b * 2 ^ 8 + a) = above 16 c (b * 2 ^ 8 + a) hc (omega arith) (lit≤ tt) in
-      let four : bitOr (d * 2 ^ 24 % 2 ^ 64) (c * 2 ^ 16 + (b * 2 ^ 8 + a)) ≡ d * 2 ^ 24 + (c * 2 ^ 16 + (b * 2 ^ 8 + a)) =
-      above 24 d (c * 2 ^ 16 + (b * 2 ^ 8 + a)) hd (omega arith) (lit≤ tt) in
-      ap (λ (x : ℕ). bitOr (e * 2 ^ 32 % 2 ^ 64) (bitOr (d * 2 ^ 24 % 2 ^ 64) (bitOr (c * 2 ^ 16 % 2 ^ 64) x))) two
-      ∙ ap (λ (x : ℕ). bitOr (e * 2 ^ 32 % 2 ^ 64) (bitOr (d * 2 ^ 24 % 2 ^ 64) x)) three
-      ∙ ap (λ (x : ℕ). bitOr (e * 2 ^ 32 % 2 ^ 64) x) four
-      ∙ above 32 e (d * 2 ^ 24 + (c * 2 ^ 16 + (b * 2 ^ 8 + a))) he (omega arith) (lit≤ tt)
-
-  pub joined-lt : joined < 2 ^ 40
-  joined-lt = subst (λ (x : ℕ). x < 2 ^ 40) (sym joined-sum) (omega arith)
-
-  pub joined-digits : digitsOf 40 joined ≡ bitsOf (a ∷ b ∷ c ∷ d ∷ e ∷ [])
+  pub joined-digits : (joined < 2 ^ m) × (digitsOf m joined ≡ part p m (bitsOf s))
   joined-digits =
-      let L = a ∷ b ∷ c ∷ d ∷ e ∷ [] in
-      let v : sum ≡ valueOf (bitsOf L) =
-      omega (arith, octet-value a (b ∷ c ∷ d ∷ e ∷ []) ha, octet-value b (c ∷ d ∷ e ∷ []) hb, octet-value c (d ∷ e ∷ []) hc, octet-value d (e ∷ []) hd, octet-value e [] he, none) in
-      ap (digitsOf 40) (joined-sum ∙ v) ∙ ap (λ (n : ℕ). digitsOf n (valueOf (bitsOf L))) (sym (bits-length L)) ∙ digits-value (bitsOf L) (bits-bits L)
+      let c : n + k ≡ m = omega arith in (
+        subst (λ (x : ℕ). x < 2 ^ m) (sym joined-is) (subst (λ (i : ℕ). hi * 2 ^ k + lo < 2 ^ i) c (subst (λ (x : ℕ). hi * 2 ^ k + lo < x) (sym (pow-add 2 n k)) (digits-lt hh hl))),
+        ap (digitsOf m) joined-is ∙ digits-join k n m hi lo e hl
+            ∙ ap₂ (λ (x y : List ℕ). x ++ y) f (g ∙ ap (λ (i : ℕ). part i n (bitsOf s)) (sym e′))
+            ∙ part-more (bitsOf s) p k n m (sym e),
+      )
 
-pub five-octets : (s : List ℕ) (i : ℕ) → i + 5 ≤ length s
-    → bitsOf (getD s i 0 ∷ getD s (i + 1) 0 ∷ getD s (i + 2) 0 ∷ getD s (i + 3) 0 ∷ getD s (i + 4) 0 ∷ []) ≡ part (8 * i) 40 (bitsOf s)
-five-octets s i h =
-    let e1 : suc i ≡ i + 1 = omega arith in
-    let e2 : suc (i + 1) ≡ i + 2 = omega arith in
-    let e3 : suc (i + 2) ≡ i + 3 = omega arith in
-    let e4 : suc (i + 3) ≡ i + 4 = omega arith in
-    let o : ℕ → ℕ = λ k. getD s k 0 in
-    ap bitsOf
-    (sym (ap (take 5) (drop-cons s i 0 (omega arith) ∙ ap (λ (n : ℕ). o i ∷ drop n s) e1)
-    ∙ ap (λ (l : List ℕ). o i ∷ take 4 l) (drop-cons s (i + 1) 0 (omega arith) ∙ ap (λ (n : ℕ). o (i + 1) ∷ drop n s) e2)
-    ∙ ap (λ (l : List ℕ). o i ∷ o (i + 1) ∷ take 3 l) (drop-cons s (i + 2) 0 (omega arith) ∙ ap (λ (n : ℕ). o (i + 2) ∷ drop n s) e3)
-    ∙ ap (λ (l : List ℕ). o i ∷ o (i + 1) ∷ o (i + 2) ∷ take 2 l) (drop-cons s (i + 3) 0 (omega arith) ∙ ap (λ (n : ℕ). o (i + 3) ∷ drop n s) e4)
-    ∙ ap (λ (l : List ℕ). o i ∷ o (i + 1) ∷ o (i + 2) ∷ o (i + 3) ∷ take 1 l) (drop-cons s (i + 4) 0 (omega arith))))
-    ∙ octets-part s i 5 h
+-- two octets
+pub two-octets : (s : List ℕ) (i : ℕ) → Octets s → i + 2 ≤ length s
+    → (bitOr (getD s (i + 1) 0 * 2 ^ 8 % 2 ^ 64) (getD s i 0) < 2 ^ 16)
+    × (digitsOf 16 (bitOr (getD s (i + 1) 0 * 2 ^ 8 % 2 ^ 64) (getD s i 0)) ≡ part (8 * i) 16 (bitsOf s))
+two-octets s i o h =
+    let e : 8 * i + 8 ≡ 8 * (i + 1) = omega arith in
+    joined-digits s 8 8 16 (8 * i) (8 * (i + 1)) (getD s (i + 1) 0) (getD s i 0) refl (lit≤ tt) (o (i + 1)) (o i) e (octet-digits s i (omega arith)) (octet-digits s (i + 1) (omega arith))
 
 -- ---- and back
 
-module _ (v : ℕ) where
-  -- the octets that the code puts
-  abbrev cut : List ℕ
-  cut = bitAnd v 255 ∷ bitAnd (v / 2 ^ 8) 255 ∷ bitAnd (v / 2 ^ 16) 255 ∷ bitAnd (v / 2 ^ 24) 255 ∷ bitAnd (v / 2 ^ 32) 255 ∷ []
+octets-append : (m n : ℕ) (a b : List ℕ) → length a ≡ 8 * m → octetsOf (m + n) (a ++ b) ≡ octetsOf m a ++ octetsOf n b
+unfolding octetsOf
+octets-append zero n [] b e = ap (λ (k : ℕ). octetsOf k b) (zero-add n)
+octets-append zero n (x ∷ a) b e = absurd (omega arith)
+octets-append (suc m) n a b e =
+    let l : 8 ≤ length a = omega arith in
+    ap (λ (k : ℕ). octetsOf k (a ++ b)) (suc-add m n)
+    ∙ ap₂ (λ (x y : List ℕ). valueOf x ∷ octetsOf (m + n) y) (take-append-le 8 a b l) (drop-append-le 8 a b l)
+    ∙ ap (λ (y : List ℕ). valueOf (take 8 a) ∷ y) (octets-append m n (drop 8 a) b (length-drop 8 a ∙ omega arith))
 
-  octet-digits : (x : ℕ) → digitsOf 8 (bitAnd x 255) ≡ digitsOf 8 x
-  octet-digits x = ap (digitsOf 8) (and-mask x 8) ∙ digits-mod-pow 8 x
+-- the low m octets of v, and the n above them
+pub sets-more : (s : List ℕ) (i m n v : ℕ)
+    → sets (sets s i (octetsOf m (digitsOf (8 * m) v))) (i + m) (octetsOf n (digitsOf (8 * n) (v / 2 ^ (8 * m)))) ≡ sets s i (octetsOf (m + n) (digitsOf (8 * (m + n)) v))
+sets-more s i m n v =
+    let a = digitsOf (8 * m) v in
+    let b = digitsOf (8 * n) (v / 2 ^ (8 * m)) in
+    ap (λ (k : ℕ). sets (sets s i (octetsOf m a)) (i + k) (octetsOf n b)) (sym (octets-length m a))
+    ∙ sym (sets-append s i (octetsOf m a) (octetsOf n b))
+    ∙ ap (sets s i) (sym (octets-append m n a b (digits-length (8 * m) v)) ∙ ap (octetsOf (m + n)) (sym (digits-cut (8 * m) (8 * n) (8 * (m + n)) v (omega arith))))
 
-  cut-digits : bitsOf cut ≡ digitsOf 40 v
-  unfolding bitsOf
-  cut-digits =
-      let next : (k n m j : ℕ) → m ≡ 8 + n → k + 8 ≡ j → digitsOf m (v / 2 ^ k) ≡ digitsOf 8 (v / 2 ^ k) ++ digitsOf n (v / 2 ^ j) =
-      λ k n m j e f. digits-cut 8 n m (v / 2 ^ k) e ∙ ap (λ (x : ℕ). digitsOf 8 (v / 2 ^ k) ++ digitsOf n x) (shr-shr v k 8 ∙ ap (λ (i : ℕ). v / 2 ^ i) f) in
-      ap₂ (λ (a b : List ℕ). a ++ b) (octet-digits v)
-      (ap₂ (λ (a b : List ℕ). a ++ b) (octet-digits (v / 2 ^ 8))
-      (ap₂ (λ (a b : List ℕ). a ++ b) (octet-digits (v / 2 ^ 16))
-      (ap₂ (λ (a b : List ℕ). a ++ b) (octet-digits (v / 2 ^ 24)) (append-nil (digitsOf 8 (bitAnd (v / 2 ^ 32) 255)) ∙ octet-digits (v / 2 ^ 32))
-      ∙ sym (next 24 8 16 32 refl refl))
-      ∙ sym (next 16 16 24 24 refl refl))
-      ∙ sym (next 8 24 32 16 refl refl))
-      ∙ sym (digits-cut 8 32 40 v refl)
+-- one octet
+one-octet : (v : ℕ) → octetsOf 1 (digitsOf 8 v) ≡ bitAnd v 255 ∷ []
+unfolding octetsOf
+one-octet v = ap (λ (l : List ℕ). valueOf l ∷ []) (digits-take 8 8 v (lit≤ tt)) ∙ ap (λ (x : ℕ). x ∷ []) (value-digits 8 v ∙ sym (and-mask v 8))
 
-  cut-octets : Octets cut
-  cut-octets zero = mask-lt v 8
-  cut-octets (suc zero) = mask-lt (v / 2 ^ 8) 8
-  cut-octets (suc (suc zero)) = mask-lt (v / 2 ^ 16) 8
-  cut-octets (suc (suc (suc zero))) = mask-lt (v / 2 ^ 24) 8
-  cut-octets (suc (suc (suc (suc zero)))) = mask-lt (v / 2 ^ 32) 8
-  cut-octets (suc (suc (suc (suc (suc i))))) = suc-le-suc zero-le
-
-  pub stored : (s : List ℕ) (i : ℕ)
-      → set (set (set (set (set s i (bitAnd v 255)) (i + 1) (bitAnd (v / 2 ^ 8) 255)) (i + 2) (bitAnd (v / 2 ^ 16) 255)) (i + 3) (bitAnd (v / 2 ^ 24) 255)) (i + 4) (bitAnd (v / 2 ^ 32) 255)
-      ≡ sets s i (octetsOf 5 (digitsOf 40 v))
-  stored s i =
-      let e1 : i + 1 ≡ suc i = omega arith in
-      let e2 : i + 2 ≡ suc (suc i) = omega arith in
-      let e3 : i + 3 ≡ suc (suc (suc i)) = omega arith in
-      let e4 : i + 4 ≡ suc (suc (suc (suc i))) = omega arith in
-      let m : ℕ → ℕ = λ k. bitAnd (v / 2 ^ k) 255 in
-      ap₂ (λ (p q : ℕ). set (set (set (set (set s i (bitAnd v 255)) p (m 8)) q (m 16)) (i + 3) (m 24)) (i + 4) (m 32)) e1 e2
-      ∙ ap₂ (λ (p q : ℕ). set (set (set (set (set s i (bitAnd v 255)) (suc i) (m 8)) (suc (suc i)) (m 16)) p (m 24)) q (m 32)) e3 e4
-      ∙ ap (sets s i) (octets-are cut (digitsOf 40 v) 5 refl cut-octets cut-digits)
+pub two-put : (s : List ℕ) (i v : ℕ) → set (set s i (bitAnd v 255)) (i + 1) (bitAnd (v / 2 ^ 8) 255) ≡ sets s i (octetsOf 2 (digitsOf 16 v))
+two-put s i v =
+    sym (ap₂ (λ (x y : List ℕ). sets (sets s i x) (i + 1) y) (one-octet v) (one-octet (v / 2 ^ 8))) ∙ sets-more s i 1 1 v
 
 octets-octets : (n : ℕ) (bs : List ℕ) → Bits bs → Octets (octetsOf n bs)
 unfolding octetsOf
@@ -188,7 +160,7 @@ octets-laid s bs i n o h e l =
     octets-are (sets s i O) (sets (bitsOf s) (8 * i) bs) (length s) (length-sets s i O) (sets-below 256 s i O o (octets-octets n bs h))
     (bits-sets s O i f ∙ ap (sets (bitsOf s) (8 * i)) (bits-octets n bs e h))
 
--- ---- a field read and put, by what stands in the five octets that hold it
+-- ---- a field read and put, by what stands in the eight octets that hold it
 
 pub drop-take : (i k : ℕ) (l : List ℕ) → drop i (take (i + k) l) ≡ take k (drop i l)
 drop-take zero k l = ap (λ (n : ℕ). take n l) (zero-add k)
@@ -204,7 +176,7 @@ sets-own l i n h =
     ∙ take-append-drop (i + n) l
 
 module _ (B : List ℕ) (at n : ℕ) (h : n ≤ 32) where
-  -- the first bit of the five octets, and how far behind it the place lies
+  -- the first bit of the eight octets, and how far behind it the place lies
   abbrev first : ℕ
   first = 8 * (at / 8)
 
@@ -214,28 +186,28 @@ module _ (B : List ℕ) (at n : ℕ) (h : n ≤ 32) where
   here : first + inner ≡ at
   here = omega arith
 
-  -- of the 40 bits those from k on
-  rest-of : (k : ℕ) → k ≤ 40 → drop k (part first 40 B) ≡ part (first + k) (40 - k) B
+  -- of the 64 bits those from k on
+  rest-of : (k : ℕ) → k ≤ 64 → drop k (part first 64 B) ≡ part (first + k) (64 - k) B
   rest-of k l =
-      let e : 40 ≡ k + (40 - k) = omega arith in
-      ap (λ (m : ℕ). drop k (take m (drop first B))) e ∙ drop-take k (40 - k) (drop first B) ∙ ap (take (40 - k)) (drop-drop k first B)
+      let e : 64 ≡ k + (64 - k) = omega arith in
+      ap (λ (m : ℕ). drop k (take m (drop first B))) e ∙ drop-take k (64 - k) (drop first B) ∙ ap (take (64 - k)) (drop-drop k first B)
 
-  pub field-in : (x : ℕ) → digitsOf 40 x ≡ part first 40 B → x / 2 ^ inner % 2 ^ n ≡ valueOf (part at n B)
+  pub field-in : (x : ℕ) → digitsOf 64 x ≡ part first 64 B → x / 2 ^ inner % 2 ^ n ≡ valueOf (part at n B)
   field-in x e =
       let r = inner in
-      let q : 40 ≡ r + (40 - r) = omega arith in
+      let q : 64 ≡ r + (64 - r) = omega arith in
       sym (value-digits n (x / 2 ^ r))
       ∙ ap valueOf
-      (sym (digits-take n (40 - r) (x / 2 ^ r) (omega arith))
-      ∙ ap (take n) (sym (digits-drop r (40 - r) 40 x q) ∙ ap (drop r) e ∙ rest-of r (omega arith))
-      ∙ take-take n (40 - r) (drop (first + r) B) (omega arith)
+      (sym (digits-take n (64 - r) (x / 2 ^ r) (omega arith))
+      ∙ ap (take n) (sym (digits-drop r (64 - r) 64 x q) ∙ ap (drop r) e ∙ rest-of r (omega arith))
+      ∙ take-take n (64 - r) (drop (first + r) B) (omega arith)
       ∙ ap (λ (k : ℕ). part k n B) here)
 
-  field-put : (v : ℕ) → first + 40 ≤ length B
-      → sets B first (take inner (part first 40 B) ++ digitsOf n v ++ drop (inner + n) (part first 40 B)) ≡ sets B at (digitsOf n v)
+  field-put : (v : ℕ) → first + 64 ≤ length B
+      → sets B first (take inner (part first 64 B) ++ digitsOf n v ++ drop (inner + n) (part first 64 B)) ≡ sets B at (digitsOf n v)
   field-put v l =
       let r = inner in
-      let D = part first 40 B in
+      let D = part first 64 B in
       let P = part first r B in
       let ds = digitsOf n v in
       let C = sets B at ds in
@@ -243,7 +215,7 @@ module _ (B : List ℕ) (at n : ℕ) (h : n ≤ 32) where
       let lP : length P ≡ r = length-take-le r (drop first B) (omega (arith, length-drop first B)) in
       let lC : length C ≡ length B = length-sets B at ds in
       let fit : at + length ds ≤ length B = omega (arith, here) in
-      let m = 40 - (r + n) in
+      let m = 64 - (r + n) in
       let start : sets B first (P ++ ds) ≡ C =
       sets-append B first P ds ∙ ap₂ (λ (x : List ℕ) (k : ℕ). sets x k ds) (sets-own B first r (omega arith)) (ap (λ (k : ℕ). first + k) lP ∙ here) in
       let place : first + length (P ++ ds) ≡ at + n = ap (λ (k : ℕ). first + k) (length-append P ds) ∙ omega (arith, here) in
@@ -252,7 +224,7 @@ module _ (B : List ℕ) (at n : ℕ) (h : n ≤ 32) where
       ∙ drop-at (take at B ++ ds) (drop (at + n) B) (at + n) (length-append (take at B) ds ∙ omega (arith, length-take-le at B (omega arith))) in
       let Q : drop (r + n) D ≡ part (at + n) m C =
       rest-of (r + n) (omega arith) ∙ ap (λ (k : ℕ). part k m B) (behind r n here) ∙ ap (take m) (sym same) in
-      ap (λ (x : List ℕ). sets B first (x ++ ds ++ drop (r + n) D)) (take-take r 40 (drop first B) (omega arith))
+      ap (λ (x : List ℕ). sets B first (x ++ ds ++ drop (r + n) D)) (take-take r 64 (drop first B) (omega arith))
       ∙ sets-append B first (P ++ ds) (drop (r + n) D)
       ∙ ap₂ (λ (x : List ℕ) (k : ℕ). sets x k (drop (r + n) D)) start place
       ∙ ap (sets C (at + n)) Q
@@ -261,18 +233,18 @@ module _ (B : List ℕ) (at n : ℕ) (h : n ≤ 32) where
       behind : (r n : ℕ) → first + r ≡ at → first + (r + n) ≡ at + n
       behind r n e = omega arith
 
--- the five octets that hold a field, with the field replaced, are the field laid
-pub field-laid : (s : List ℕ) (at n v y : ℕ) → n ≤ 32 → Octets s → at / 8 + 5 ≤ length s
-    → digitsOf 40 y ≡ take (at % 8) (part (8 * (at / 8)) 40 (bitsOf s)) ++ digitsOf n v ++ drop (at % 8 + n) (part (8 * (at / 8)) 40 (bitsOf s))
-    → sets s (at / 8) (octetsOf 5 (digitsOf 40 y)) ≡ laid s at (digitsOf n v)
+-- the eight octets that hold a field, with the field replaced, are the field laid
+pub field-laid : (s : List ℕ) (at n v y : ℕ) → n ≤ 32 → Octets s → at / 8 + 8 ≤ length s
+    → digitsOf 64 y ≡ take (at % 8) (part (8 * (at / 8)) 64 (bitsOf s)) ++ digitsOf n v ++ drop (at % 8 + n) (part (8 * (at / 8)) 64 (bitsOf s))
+    → sets s (at / 8) (octetsOf 8 (digitsOf 64 y)) ≡ laid s at (digitsOf n v)
 unfolding laid
 field-laid s at n v y h o l e =
-    octets-laid s (digitsOf 40 y) (at / 8) 5 o (digits-bits 40 y) (digits-length 40 y) l
+    octets-laid s (digitsOf 64 y) (at / 8) 8 o (digits-bits 64 y) (digits-length 64 y) l
     ∙ ap (octetsOf (length s)) (ap (sets (bitsOf s) (8 * (at / 8))) e ∙ field-put (bitsOf s) at n h v (omega (arith, bits-length s)))
 
 -- ---- the digits of a number with a field of them replaced, as the code does it
 
-module _ (x r n v : ℕ) (hr : r < 8) (hn : n ≤ 32) (hx : x < 2 ^ 40) where
+module _ (x r n v : ℕ) (hr : r < 8) (hn : n ≤ 32) (hx : x < 2 ^ 64) where
   abbrev lower : ℕ
   lower = bitOr (v % 2 ^ n * 2 ^ r % 2 ^ 64) (x % 2 ^ r)
 
@@ -287,44 +259,30 @@ module _ (x r n v : ℕ) (hr : r < 8) (hn : n ≤ 32) (hx : x < 2 ^ 40) where
       (subst (λ (k : ℕ). v % 2 ^ n * 2 ^ r + x % 2 ^ r < 2 ^ k) e (subst (λ (y : ℕ). v % 2 ^ n * 2 ^ r + x % 2 ^ r < y) (sym (pow-add 2 n r))
       (digits-lt (mod-lt v (pow-pos n)) (mod-lt x (pow-pos r)))))
 
-  pub replaced-is : digitsOf 40 (bitOr (x / 2 ^ (r + n) * 2 ^ (r + n) % 2 ^ 64) lower) ≡ take r (digitsOf 40 x) ++ digitsOf n v ++ drop (r + n) (digitsOf 40 x)
+  pub replaced-is : digitsOf 64 (bitOr (x / 2 ^ (r + n) * 2 ^ (r + n) % 2 ^ 64) lower) ≡ take r (digitsOf 64 x) ++ digitsOf n v ++ drop (r + n) (digitsOf 64 x)
   replaced-is =
       let k = r + n in
-      let q : 40 ≡ k + (40 - k) = omega arith in
-      let o : 40 - k + k ≡ 40 = omega arith in
-      let hi : x / 2 ^ k < 2 ^ (40 - k) = shr-lt (40 - k) k (subst (λ (m : ℕ). x < 2 ^ m) (sym o) hx) in
-      ap (digitsOf 40) (ap (λ (y : ℕ). bitOr y lower) (shl-exact (40 - k) k 64 hi (omega arith)) ∙ or-shifted (x / 2 ^ k) k lower lower-lt)
-      ∙ digits-join k (40 - k) 40 (x / 2 ^ k) lower q lower-lt
+      let q : 64 ≡ k + (64 - k) = omega arith in
+      let o : 64 - k + k ≡ 64 = omega arith in
+      let hi : x / 2 ^ k < 2 ^ (64 - k) = shr-lt (64 - k) k (subst (λ (m : ℕ). x < 2 ^ m) (sym o) hx) in
+      ap (digitsOf 64) (ap (λ (y : ℕ). bitOr y lower) (shl-exact (64 - k) k 64 hi (omega arith)) ∙ or-shifted (x / 2 ^ k) k lower lower-lt)
+      ∙ digits-join k (64 - k) 64 (x / 2 ^ k) lower q lower-lt
       ∙ ap₂ (λ (a b : List ℕ). a ++ b)
       (ap (digitsOf k) lower-is ∙ digits-join r n k (v % 2 ^ n) (x % 2 ^ r) refl (mod-lt x (pow-pos r))
-      ∙ ap₂ (λ (a b : List ℕ). a ++ b) (digits-mod-pow r x ∙ sym (digits-take r 40 x (omega arith))) (digits-mod-pow n v))
-      (sym (digits-drop k (40 - k) 40 x q))
+      ∙ ap₂ (λ (a b : List ℕ). a ++ b) (digits-mod-pow r x ∙ sym (digits-take r 64 x (omega arith))) (digits-mod-pow n v))
+      (sym (digits-drop k (64 - k) 64 x q))
 
--- ---- bits taken n at a time
+-- ---- whether there are eight octets from octet i on, as the code asks it
 
--- what comes next, behind what was taken
-pub part-more : (B : List ℕ) (at m n k : ℕ) → m + n ≡ k → part at m B ++ part (at + m) n B ≡ part at k B
-part-more B at m n k e =
-    ap (λ (l : List ℕ). part at m B ++ take n l) (sym (drop-drop m at B)) ∙ sym (take-add m n (drop at B)) ∙ ap (λ (i : ℕ). part at i B) e
+pub eight-not : (i n : ℕ) → n < i → false ≡ leb (i + 8) n
+eight-not i n h = sym (lt-leb (i + 8) n (omega arith))
 
--- the digits of a field are its bits
-pub field-digits : (s : List ℕ) (at n : ℕ) → at + n ≤ 8 * length s → digitsOf n (valueOf (part at n (bitsOf s))) ≡ part at n (bitsOf s)
-field-digits s at n h =
-    let P = part at n (bitsOf s) in
-    let e : length P ≡ n = length-take-le n (drop at (bitsOf s)) (omega (arith, length-drop at (bitsOf s), bits-length s)) in
-    ap (λ (k : ℕ). digitsOf k (valueOf P)) (sym e) ∙ digits-value P (take-bits n (drop at (bitsOf s)) (drop-bits at (bitsOf s) (bits-bits s)))
-
--- ---- whether there are five octets from octet i on, as the code asks it
-
-pub five-not : (i n : ℕ) → n < i → false ≡ leb (i + 5) n
-five-not i n h = sym (lt-leb (i + 5) n (omega arith))
-
-pub five-there : (i n : ℕ) → i ≤ n → leb 5 (n - i) ≡ leb (i + 5) n
-five-there i n h = pick (decLe 5 (n - i))
+pub eight-there : (i n : ℕ) → i ≤ n → leb 8 (n - i) ≡ leb (i + 8) n
+eight-there i n h = pick (decLe 8 (n - i))
   where
-    pick : Dec (5 ≤ n - i) → leb 5 (n - i) ≡ leb (i + 5) n
-    pick (yes l) = le-leb 5 (n - i) l ∙ sym (le-leb (i + 5) n (omega arith))
-    pick (no l) = lt-leb 5 (n - i) (omega arith) ∙ sym (lt-leb (i + 5) n (omega arith))
+    pick : Dec (8 ≤ n - i) → leb 8 (n - i) ≡ leb (i + 8) n
+    pick (yes l) = le-leb 8 (n - i) l ∙ sym (le-leb (i + 8) n (omega arith))
+    pick (no l) = lt-leb 8 (n - i) (omega arith) ∙ sym (lt-leb (i + 8) n (omega arith))
 
 -- ---- a power of two, as the code shifts it
 

@@ -55,45 +55,77 @@ fn width(w: u32) -> u32
     if w < WIDEST { w } else { WIDEST }
 }
 
-// Whether there are five octets from octet i on: a field of 32 bits that begins in octet i ends in the fifth at the latest.
-fn has_five(s: &[u8], i: usize) -> bool
-    ensures { λ r. ⌜ r ≡ leb (i + 5) (length (now (s .entry))) ⌝ }
+// Whether there are eight octets from octet i on: a field of 32 bits that begins in octet i lies in them.
+fn has_eight(s: &[u8], i: usize) -> bool
+    ensures { λ r. ⌜ r ≡ leb (i + 8) (length (now (s .entry))) ⌝ }
 {
     if s.len() < i {
         return false;
     }
-    5 <= s.len() - i
+    8 <= s.len() - i
 }
 
-// The five octets from octet i on as one number, the first lowest.
-fn five(s: &[u8], i: usize) -> u64
-    requires { ⌜ i + 5 ≤ length (now s) ⌝ }
-    ensures { λ r. ⌜ (r < 2 ^ 40) × (digitsOf 40 r ≡ part (8 * i) 40 (bitsOf (now (s .entry)))) ⌝ }
+// The two octets from octet i on as one number, the first lowest.
+fn two(s: &[u8], i: usize) -> u64
+    requires { ⌜ i + 2 ≤ length (now s) ⌝ }
+    ensures { λ r. ⌜ (r < 2 ^ 16) × (digitsOf 16 r ≡ part (8 * i) 16 (bitsOf (now (s .entry)))) ⌝ }
 {
-    let a = s[i] as u64;
-    let b = s[i + 1] as u64;
-    let c = s[i + 2] as u64;
-    let d = s[i + 3] as u64;
-    let e = s[i + 4] as u64;
-    (e << 32) | ((d << 24) | ((c << 16) | ((b << 8) | a)))
+    let low = s[i] as u64;
+    let high = s[i + 1] as u64;
+    (high << 8) | low
 }
 
-// The five octets from octet i on become those of v.
-fn put_five(s: &mut [u8], i: usize, v: u64)
-    requires { ⌜ i + 5 ≤ length (now s) ⌝ }
-    ensures { λ r. ⌜ now (s .exit) ≡ sets (now (s .entry)) i (octetsOf 5 (digitsOf 40 v)) ⌝ }
+// The four octets from octet i on.
+fn four(s: &[u8], i: usize) -> u64
+    requires { ⌜ i + 4 ≤ length (now s) ⌝ }
+    ensures { λ r. ⌜ (r < 2 ^ 32) × (digitsOf 32 r ≡ part (8 * i) 32 (bitsOf (now (s .entry)))) ⌝ }
+{
+    let low = two(s, i);
+    let high = two(s, i + 2);
+    (high << 16) | low
+}
+
+// The eight octets from octet i on.
+fn eight(s: &[u8], i: usize) -> u64
+    requires { ⌜ i + 8 ≤ length (now s) ⌝ }
+    ensures { λ r. ⌜ (r < 2 ^ 64) × (digitsOf 64 r ≡ part (8 * i) 64 (bitsOf (now (s .entry)))) ⌝ }
+{
+    let low = four(s, i);
+    let high = four(s, i + 4);
+    (high << 32) | low
+}
+
+// The two octets from octet i on become the two low ones of v.
+fn put_two(s: &mut [u8], i: usize, v: u64)
+    requires { ⌜ i + 2 ≤ length (now s) ⌝ }
+    ensures { λ r. ⌜ now (s .exit) ≡ sets (now (s .entry)) i (octetsOf 2 (digitsOf 16 v)) ⌝ }
 {
     s[i] = (v & 0xff) as u8;
     s[i + 1] = ((v >> 8) & 0xff) as u8;
-    s[i + 2] = ((v >> 16) & 0xff) as u8;
-    s[i + 3] = ((v >> 24) & 0xff) as u8;
-    s[i + 4] = ((v >> 32) & 0xff) as u8;
 }
 
-// The 40 digits of x, where those of v stand from place r on, n of them.
+// The four octets from octet i on become the four low ones of v.
+fn put_four(s: &mut [u8], i: usize, v: u64)
+    requires { ⌜ i + 4 ≤ length (now s) ⌝ }
+    ensures { λ r. ⌜ now (s .exit) ≡ sets (now (s .entry)) i (octetsOf 4 (digitsOf 32 v)) ⌝ }
+{
+    put_two(s, i, v);
+    put_two(s, i + 2, v >> 16);
+}
+
+// The eight octets from octet i on become those of v.
+fn put_eight(s: &mut [u8], i: usize, v: u64)
+    requires { ⌜ i + 8 ≤ length (now s) ⌝ }
+    ensures { λ r. ⌜ now (s .exit) ≡ sets (now (s .entry)) i (octetsOf 8 (digitsOf 64 v)) ⌝ }
+{
+    put_four(s, i, v);
+    put_four(s, i + 4, v >> 32);
+}
+
+// The 64 digits of x, where those of v stand from place r on, n of them.
 fn replaced(x: u64, r: u32, n: u32, v: u32) -> u64
-    requires { ⌜ (r < 8) × (n ≤ 32) × (x < 2 ^ 40) ⌝ }
-    ensures { λ y. ⌜ digitsOf 40 y ≡ take r (digitsOf 40 x) ++ digitsOf n v ++ drop (r + n) (digitsOf 40 x) ⌝ }
+    requires { ⌜ (r < 8) × (n ≤ 32) ⌝ }
+    ensures { λ y. ⌜ digitsOf 64 y ≡ take r (digitsOf 64 x) ++ digitsOf n v ++ drop (r + n) (digitsOf 64 x) ⌝ }
 {
     let before = x % (1u64 << r);
     let field = (v as u64) % (1u64 << n);
@@ -122,8 +154,8 @@ pub fn field(s: &[u8], at: usize, w: u32) -> u32
 {
     let n = width(w);
     let i = at / 8;
-    if has_five(s, i) {
-        let x = five(s, i) >> (at % 8);
+    if has_eight(s, i) {
+        let x = eight(s, i) >> (at % 8);
         (x % (1u64 << n)) as u32
     } else {
         field_by_bits(s, at, n)
@@ -149,10 +181,10 @@ pub fn put_field(s: &mut [u8], at: usize, w: u32, v: u32)
 {
     let n = width(w);
     let i = at / 8;
-    if has_five(s, i) {
-        let x = five(s, i);
+    if has_eight(s, i) {
+        let x = eight(s, i);
         let y = replaced(x, (at % 8) as u32, n, v);
-        put_five(s, i, y);
+        put_eight(s, i, y);
     } else {
         put_by_bits(s, at, n, v);
     }

@@ -1,8 +1,8 @@
 -- Many bits at once. Once over the number of bits taken together (`block-out`, `block-after`): the bits of a block are the digits of a number, and
 -- so are those of the line before it, so that the recurrence is a sum of shifted numbers. Assumes nothing.
-use mathlib.Core.Path.{_≡_, refl, sym, ap, ap₂, _∙_, subst}
-use mathlib.Core.List.{List, [], _∷_, _++_, reverse, reverse-append, reverse-reverse}
-use Prim.Native.Nat.{ℕ, zero, suc, _+_, _-_, _*_, _/_, _%_, _^_, _≤_, _<_}
+use mathlib.Core.Path.{_≡_, refl, sym, ap, ap₂, _∙_}
+use mathlib.Core.List.{List, _++_, reverse, reverse-append, reverse-reverse}
+use Prim.Native.Nat.{ℕ, _+_, _-_, _*_, _/_, _%_, _^_, _≤_, _<_}
 use native.Mathlib.Nat.{mul-assoc, mod-eq-of-lt}
 use native.Mathlib.Omega.{arith}
 use lib.Dec.{lit≤}
@@ -17,7 +17,7 @@ use Rattle.octets.proofs.Laws.{bits-length, laid-next}
 use Rattle.octets.proofs.Words.{digits-cut, digits-join, part-more}
 use Rattle.octets.proofs.Xor.{xor-assoc, xor-swap, bit, back}
 use Rattle.octets.proofs.Shift.{sh, sh-far, trinomial, squared, trinomial-xor, trinomial-sh, doubled}
-use Rattle.scrambler.specs.Line.{sum3, line, Scrambles, Descrambles, newest}
+use Rattle.scrambler.specs.Line.{sum3, line, newest}
 use Rattle.scrambler.specs.Run.{Way, scramble, descramble, runOf, afterOf}
 use Rattle.scrambler.proofs.Laws.{xor3, run-length, run-bits, run-append, after-append}
 use Rattle.scrambler.proofs.Exactly.{run-descrambles, descrambles-run, scrambles-run, descrambled-state, scrambled-state, sum3-twice}

@@ -1,11 +1,10 @@
--- `octets::field` meets its contract: five octets hold the field, or it is read bit by bit.
+-- `octets::field` meets its contract: eight octets hold the field, or it is read bit by bit.
 use borrow.Author.Needs.{needs}
 use borrow.Author.Tests.{leb-true}
 use mathlib.Core.Path.{_≡_, sym, ap, subst, _∙_}
-use Prim.Native.Nat.{ℕ, _+_, _*_, _/_, _%_, _^_, _≤_, _<_, min}
+use Prim.Native.Nat.{ℕ, _*_, _/_, _%_, _^_, _≤_, _<_}
 use native.Mathlib.Omega.{arith}
 use native.Mathlib.Nat.{mod-lt}
-use lib.ListN.{length}
 use lib.Pow.{pow-pos, pow-mono}
 use Rattle.octets.specs.Bits.{bitsOf, valueOf, part}
 use Rattle.octets.proofs.Words.{size-is, field-in}
@@ -15,17 +14,17 @@ use Rattle.octets.proofs.field.Tie as tie
 width-requires : tie.Need-width-requires
 width-requires c κs = search needs
 
-has-five-requires : tie.Need-has-five-requires
-has-five-requires c κs = search needs
+has-eight-requires : tie.Need-has-eight-requires
+has-eight-requires c κs = search needs
 
-five-requires : tie.Need-five-requires
-five-requires c κs = leb-true _ _ (sym (c .before .has-five .ensures) ∙ c .if1 .taken)
+eight-requires : tie.Need-eight-requires
+eight-requires c κs = leb-true _ _ (sym (c .before .has-eight .ensures) ∙ c .if1 .taken)
 
 -- the width as it counts, and the size that it gives
-width-le : (c : tie.After-five) → c .before .before .before .width .result ≤ 32
+width-le : (c : tie.After-eight) → c .before .before .before .width .result ≤ 32
 width-le c = omega (arith, c .before .before .before .width .ensures)
 
-size : (c : tie.After-five) → 1 * 2 ^ c .before .before .before .width .result % 2 ^ 64 ≡ 2 ^ c .before .before .before .width .result
+size : (c : tie.After-eight) → 1 * 2 ^ c .before .before .before .width .result % 2 ^ 64 ≡ 2 ^ c .before .before .before .width .result
 size c = size-is (c .before .before .before .width .result) (width-le c)
 
 shr-x : tie.Need-shr-x
@@ -43,7 +42,7 @@ rem-result c = omega (arith, size c, pow-pos (c .before .before .before .width .
 cast-result-2 : tie.Need-cast-result-2
 cast-result-2 c =
     let n = c .before .before .before .width .result in
-    let x = c .five .result / 2 ^ (c .before .before .before .before .before .args .at % 8) in
+    let x = c .eight .result / 2 ^ (c .before .before .before .before .before .args .at % 8) in
     let l : x % 2 ^ n < 2 ^ n = mod-lt x (pow-pos n) in
     let m : 2 ^ n ≤ 2 ^ 32 = pow-mono (width-le c) in
     let e : x % (1 * 2 ^ n % 2 ^ 64) ≡ x % 2 ^ n = ap (λ (s : ℕ). x % s) (size c) in
@@ -56,8 +55,8 @@ returns : tie.Need-returns
 returns c =
     let a = c .before .before .before .before .before .args in
     let n = c .before .before .before .width in
-    ap (λ (s : ℕ). c .five .result / 2 ^ (a .at % 8) % s) (size c)
-    ∙ field-in (bitsOf (a .s .now)) (a .at) (n .result) (width-le c) (c .five .result) (c .five .ensures .1)
+    ap (λ (s : ℕ). c .eight .result / 2 ^ (a .at % 8) % s) (size c)
+    ∙ field-in (bitsOf (a .s .now)) (a .at) (n .result) (width-le c) (c .eight .result) (c .eight .ensures .1)
     ∙ ap (λ (k : ℕ). valueOf (part (a .at) k (bitsOf (a .s .now)))) (n .ensures)
 
 returns-2 : tie.Need-returns-2
@@ -70,8 +69,8 @@ field-spec =
     tie.close
     (tie.spec
     width-requires
-    has-five-requires
-    five-requires
+    has-eight-requires
+    eight-requires
     shr-x
     cast-result
     shl-result

@@ -5,7 +5,7 @@ use Prim.Native.Nat.{ℕ, suc, _+_, _-_, _*_, _^_, _≤_, _<_}
 use native.Mathlib.Omega.{arith}
 use lib.ListN.{drop}
 use lib.Pow.{pow-mono}
-use Rattle.octets.specs.Bits.{bitsOf, bitOf, valueOf, part}
+use Rattle.octets.specs.Bits.{bitsOf, valueOf, part}
 use Rattle.octets.proofs.Digits.{drop-bits, value-part, value-head}
 use Rattle.octets.proofs.Laws.{bits-bits}
 use Rattle.octets.proofs.field_by_bits.Statement.{statement}

@@ -1,12 +1,12 @@
--- `octets::put_field` meets its contract: five octets hold the field, or it is put bit by bit.
+-- `octets::put_field` meets its contract: eight octets hold the field, or it is put bit by bit.
 use borrow.Author.Needs.{needs}
 use borrow.Author.Tests.{leb-true}
-use mathlib.Core.Path.{_≡_, sym, ap, subst, _∙_}
+use mathlib.Core.Path.{sym, ap, _∙_}
 use mathlib.Core.List.{List, _++_}
-use Prim.Native.Nat.{ℕ, _+_, _*_, _/_, _%_, _^_, _≤_, _<_, min}
+use Prim.Native.Nat.{ℕ, _+_, _%_, _≤_}
 use native.Mathlib.Omega.{arith}
 use lib.ListN.{take, drop}
-use Rattle.octets.specs.Bits.{bitsOf, digitsOf, laid}
+use Rattle.octets.specs.Bits.{digitsOf, laid}
 use Rattle.octets.proofs.Words.{field-laid}
 use Rattle.octets.proofs.put_field.Statement.{statement}
 use Rattle.octets.proofs.put_field.Tie as tie
@@ -14,20 +14,20 @@ use Rattle.octets.proofs.put_field.Tie as tie
 width-requires : tie.Need-width-requires
 width-requires c κs = search needs
 
-has-five-requires : tie.Need-has-five-requires
-has-five-requires c κs = search needs
+has-eight-requires : tie.Need-has-eight-requires
+has-eight-requires c κs = search needs
 
-five-requires : tie.Need-five-requires
-five-requires c κs = leb-true _ _ (sym (c .before .before .has-five .ensures) ∙ c .before .if1 .taken)
+eight-requires : tie.Need-eight-requires
+eight-requires c κs = leb-true _ _ (sym (c .before .before .has-eight .ensures) ∙ c .before .if1 .taken)
 
 cast-replaced : tie.Need-cast-replaced
 cast-replaced c = omega arith
 
 replaced-requires : tie.Need-replaced-requires
-replaced-requires c κs = (omega arith, omega (arith, c .before .before .before .before .before .width .ensures), c .five .ensures .0)
+replaced-requires c κs = (omega arith, omega (arith, c .before .before .before .before .before .width .ensures))
 
-put-five-requires : tie.Need-put-five-requires
-put-five-requires c κs = leb-true _ _ (sym (c .before .before .before .before .before .has-five .ensures) ∙ c .before .before .before .before .if1 .taken)
+put-eight-requires : tie.Need-put-eight-requires
+put-eight-requires c κs = leb-true _ _ (sym (c .before .before .before .before .before .has-eight .ensures) ∙ c .before .before .before .before .if1 .taken)
 
 put-by-bits-requires : tie.Need-put-by-bits-requires
 put-by-bits-requires c κs = search needs
@@ -38,16 +38,16 @@ same-length c = search needs
 returns : tie.Need-returns
 returns c =
     let u = c .before .before .before .before in
-    let five = u .before .five in
+    let eight = u .before .eight in
     let z = u .before .before .before .before .before .before .before in
     let a = z .before .args in
     let s = a .s .now in
     let n = u .before .before .before .before .before .before .width in
     let le : n .result ≤ 32 = omega (arith, n .ensures) in
-    let there = leb-true _ _ (sym (u .before .before .before .before .has-five .ensures) ∙ u .before .before .before .if1 .taken) in
-    c .before .before .put-five .ensures
+    let there = leb-true _ _ (sym (u .before .before .before .before .has-eight .ensures) ∙ u .before .before .before .if1 .taken) in
+    c .before .before .put-eight .ensures
     ∙ field-laid s (a .at) (n .result) (a .v) (u .replaced .result) le (λ i. omega (arith, z .slice-known .given i)) there
-    (u .replaced .ensures ∙ ap (λ (l : List ℕ). take (a .at % 8) l ++ digitsOf (n .result) (a .v) ++ drop (a .at % 8 + n .result) l) (five .ensures .1))
+    (u .replaced .ensures ∙ ap (λ (l : List ℕ). take (a .at % 8) l ++ digitsOf (n .result) (a .v) ++ drop (a .at % 8 + n .result) l) (eight .ensures .1))
     ∙ ap (λ (k : ℕ). laid s (a .at) (digitsOf k (a .v))) (n .ensures)
 
 same-length-2 : tie.Need-same-length-2
@@ -63,11 +63,11 @@ put-field-spec =
     tie.close
     (tie.spec
     width-requires
-    has-five-requires
-    five-requires
+    has-eight-requires
+    eight-requires
     cast-replaced
     replaced-requires
-    put-five-requires
+    put-eight-requires
     put-by-bits-requires
     same-length
     returns

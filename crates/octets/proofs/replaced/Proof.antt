@@ -1,6 +1,6 @@
 -- `octets::replaced` meets its contract.
 use borrow.Author.Needs.{needs}
-use mathlib.Core.Path.{_≡_, ap, ap₂, _∙_}
+use mathlib.Core.Path.{ap₂, _∙_}
 use Prim.Native.Nat.{ℕ, _+_, _*_, _/_, _%_, _^_, _≤_}
 use native.Mathlib.Omega.{arith}
 use lib.Bits.{bitOr}
@@ -47,9 +47,9 @@ returns : tie.Need-returns
 returns c =
     let a = c .args in
     let h : a .r ≤ 32 = omega arith in
-    ap₂ (λ (p q : ℕ). digitsOf 40 (bitOr (a .x / 2 ^ (a .r + a .n) * 2 ^ (a .r + a .n) % 2 ^ 64) (bitOr (a .v % p * 2 ^ a .r % 2 ^ 64) (a .x % q))))
+    ap₂ (λ (p q : ℕ). digitsOf 64 (bitOr (a .x / 2 ^ (a .r + a .n) * 2 ^ (a .r + a .n) % 2 ^ 64) (bitOr (a .v % p * 2 ^ a .r % 2 ^ 64) (a .x % q))))
     (size-is (a .n) (c .pre .1)) (size-is (a .r) h)
-    ∙ replaced-is (a .x) (a .r) (a .n) (a .v) (c .pre .0) (c .pre .1) (c .pre .2)
+    ∙ replaced-is (a .x) (a .r) (a .n) (a .v) (c .pre .0) (c .pre .1) (omega arith)
 
 pub replaced-spec : {M : Type 1} → statement M
 replaced-spec =

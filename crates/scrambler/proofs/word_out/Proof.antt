@@ -8,7 +8,7 @@ use lib.Bits.{bitXor}
 use Rattle.octets.specs.Bits.{digitsOf}
 use Rattle.octets.proofs.Turn.{turnOf}
 use Rattle.scrambler.specs.Run.{onLine, runOf, afterOf, wayOf}
-use Rattle.scrambler.proofs.Block.{earlier, word-back, word-forth}
+use Rattle.scrambler.proofs.Block.{word-back, word-forth}
 use Rattle.scrambler.proofs.word_out.Statement.{statement}
 use Rattle.scrambler.proofs.word_out.Tie as tie
 
