@@ -164,6 +164,7 @@ pub fn field(s: &[u8], at: usize, w: u32) -> u32
 
 // The field of w bits from place `at` on becomes the w low digits of v, bit by bit.
 fn put_by_bits(s: &mut [u8], at: usize, w: u32, v: u32)
+    requires { ⌜ w ≤ 32 ⌝ }
     ensures { λ r. ⌜ now (s .exit) ≡ laid (now (s .entry)) at (digitsOf w v) ⌝ }
 {
     let mut rest = v;

@@ -30,7 +30,7 @@ put-eight-requires : tie.Need-put-eight-requires
 put-eight-requires c κs = leb-true _ _ (sym (c .before .before .before .before .before .has-eight .ensures) ∙ c .before .before .before .before .if1 .taken)
 
 put-by-bits-requires : tie.Need-put-by-bits-requires
-put-by-bits-requires c κs = search needs
+put-by-bits-requires c κs = omega (arith, c .before .before .before .before .width .ensures)
 
 same-length : tie.Need-same-length
 same-length c = search needs
