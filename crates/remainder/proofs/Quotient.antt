@@ -153,7 +153,8 @@ rows v a b c A p q B r =
     let z = bitXor c q in
     let w = bitXor B r in
     ap₂ (λ (m n : ℕ). bitXor (bitXor m n) (bitXor (bitXor z r) 0))
-    (xor-swap (bitXor (bitXor v a) b) c (bitXor (bitXor a A) p) q ∙ ap (λ (n : ℕ). bitXor n z) (xor-swap (bitXor v a) b (bitXor a A) p ∙ ap (λ (n : ℕ). bitXor n y) (mid v a A)))
+    (xor-swap (bitXor (bitXor v a) b) c (bitXor (bitXor a A) p) q
+    ∙ ap (λ (n : ℕ). bitXor n z) (xor-swap (bitXor v a) b (bitXor a A) p ∙ ap (λ (n : ℕ). bitXor n y) (mid v a A)))
     (xor-assoc y B r)
     ∙ ap₂ bitXor (xor-assoc (bitXor x y) z (bitXor y w) ∙ ap (bitXor (bitXor x y)) (xor-comm z (bitXor y w)) ∙ sym (xor-assoc (bitXor x y) (bitXor y w) z)
     ∙ ap (λ (n : ℕ). bitXor n z) (mid x y w)) (xor-zero-r (bitXor z r))

@@ -172,7 +172,8 @@ module _ (tap u : ℕ) where
 
 -- ---- the run over n bits more, behind the first m
 
-module _ (way : Way) (tap start : ℕ) (s : List ℕ) (at m n j : ℕ) (e : m + n ≡ j) (h : at + m ≤ 8 * length s) (st : ℕ) (g : st ≡ afterOf way tap start (part at m (bitsOf s))) where
+module _ (way : Way) (tap start : ℕ) (s : List ℕ) (at m n j : ℕ) (e : m + n ≡ j) (h : at + m ≤ 8 * length s) (st : ℕ)
+    (g : st ≡ afterOf way tap start (part at m (bitsOf s))) where
   abbrev taken : List ℕ
   taken = part at m (bitsOf s)
 

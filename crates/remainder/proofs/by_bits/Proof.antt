@@ -26,7 +26,8 @@ loop-holds : tie.Need-loop-holds Inv-loop μ-loop
 loop-holds c =
     let a = c .before .args in
     let e : 0 ≡ a .from - a .from = omega arith in
-    (omega arith, omega arith, register-none (a .start) ∙ ap (λ (n : ℕ). registerOf 16 generator (a .start) (take n (part (a .at + a .from) (a .n - a .from) (bitsOf (a .s .now))))) e)
+    let P = part (a .at + a .from) (a .n - a .from) (bitsOf (a .s .now)) in
+    (omega arith, omega arith, register-none (a .start) ∙ ap (λ (n : ℕ). registerOf 16 generator (a .start) (take n P)) e)
 
 has-requires : tie.Need-has-requires Inv-loop μ-loop
 has-requires c κs = search needs
@@ -56,7 +57,8 @@ step-requires c κs =
     let z = c .before .before .before .before .before .before in
     let a = z .args in
     let l = c .before .before .before .before .loop in
-    (lit≤ tt, lit≤ tt, subst (λ (r : ℕ). r < 2 ^ 16) (sym (l .inv .2)) (taken-lt (a .s .now) (a .at + a .from) (a .start) (z .pre .0) (a .n - a .from) (l .k - a .from)), bit-lt c, generator-degree)
+    let lt = taken-lt (a .s .now) (a .at + a .from) (a .start) (z .pre .0) (a .n - a .from) (l .k - a .from) in
+    (lit≤ tt, lit≤ tt, subst (λ (r : ℕ). r < 2 ^ 16) (sym (l .inv .2)) lt, bit-lt c, generator-degree)
 
 add-k : tie.Need-add-k Inv-loop μ-loop
 add-k c = omega arith

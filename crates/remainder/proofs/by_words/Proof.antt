@@ -67,7 +67,8 @@ loop-again c =
     let l = c .before .before .before .loop in
     let h = there (l .k) (a .count) (c .before .before .loop-test .taken) (z .pre .1) .1 in (
       omega arith,
-      c .word-step .ensures ∙ word-more (a .s .now) (a .at) (a .register) (z .pre .0) (l .k) (l .turned) (c .before .field .result) (l .inv .1) (omega arith) (c .before .field .ensures),
+      c .word-step .ensures
+          ∙ word-more (a .s .now) (a .at) (a .register) (z .pre .0) (l .k) (l .turned) (c .before .field .result) (l .inv .1) (omega arith) (c .before .field .ensures),
     )
 
 turned-requires-2 : tie.Need-turned-requires-2 Inv-loop μ-loop
@@ -79,9 +80,8 @@ returns c =
     let a = z .args in
     let l = c .before .before .loop in
     let e : l .k ≡ a .count = omega arith in
-    c .turned2 .ensures ∙ ap (turnOf 16) (l .inv .1)
-    ∙ turn-turn 16 (registerOf 16 generator (a .register) (part (a .at) (32 * l .k) (bitsOf (a .s .now)))) (so-far-lt (a .s .now) (a .at) (a .register) (z .pre .0) (32 * l .k))
-    ∙ ap (λ (n : ℕ). registerOf 16 generator (a .register) (part (a .at) (32 * n) (bitsOf (a .s .now)))) e
+    let R : ℕ → ℕ = λ n. registerOf 16 generator (a .register) (part (a .at) (32 * n) (bitsOf (a .s .now))) in
+    c .turned2 .ensures ∙ ap (turnOf 16) (l .inv .1) ∙ turn-turn 16 (R (l .k)) (so-far-lt (a .s .now) (a .at) (a .register) (z .pre .0) (32 * l .k)) ∙ ap R e
 
 pub by-words-spec : {M : Type 1} → statement M
 by-words-spec =
