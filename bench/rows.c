@@ -179,12 +179,12 @@ static void read_cards(const struct library *library)
     read_frames(library, cards, CARDS);
 }
 
-static void scramble(const struct library *library, uint32_t end)
+/* Every frame through the scrambler or the descrambler, the state handed on. */
+static void through(__typeof__(sdsl_scramble_frame) *pass, uint32_t end, uint8_t (*frames)[SDSL_FRAME_OCTETS])
 {
     struct sdsl_scrambled next = {0, SDSL_SCRAMBLER_START};
     for (size_t i = 0; i < BATCH; i++) {
-        next = library->scramble_frame(end, next.state, training[i], SDSL_FRAME_OCTETS, results.octets + i * SDSL_FRAME_OCTETS,
-                                       SDSL_FRAME_OCTETS);
+        next = pass(end, next.state, frames[i], SDSL_FRAME_OCTETS, results.octets + i * SDSL_FRAME_OCTETS, SDSL_FRAME_OCTETS);
         results.numbers[2 * i] = next.answer;
         results.numbers[2 * i + 1] = next.state;
     }
@@ -192,33 +192,22 @@ static void scramble(const struct library *library, uint32_t end)
 
 static void scramble_ltu(const struct library *library)
 {
-    scramble(library, SDSL_LTU);
+    through(library->scramble_frame, SDSL_LTU, training);
 }
 
 static void scramble_ntu(const struct library *library)
 {
-    scramble(library, SDSL_NTU);
-}
-
-static void descramble(const struct library *library, uint32_t end)
-{
-    struct sdsl_scrambled next = {0, SDSL_SCRAMBLER_START};
-    for (size_t i = 0; i < BATCH; i++) {
-        next = library->descramble_frame(end, next.state, line[end][i], SDSL_FRAME_OCTETS, results.octets + i * SDSL_FRAME_OCTETS,
-                                         SDSL_FRAME_OCTETS);
-        results.numbers[2 * i] = next.answer;
-        results.numbers[2 * i + 1] = next.state;
-    }
+    through(library->scramble_frame, SDSL_NTU, training);
 }
 
 static void descramble_ltu(const struct library *library)
 {
-    descramble(library, SDSL_LTU);
+    through(library->descramble_frame, SDSL_LTU, line[SDSL_LTU]);
 }
 
 static void descramble_ntu(const struct library *library)
 {
-    descramble(library, SDSL_NTU);
+    through(library->descramble_frame, SDSL_NTU, line[SDSL_NTU]);
 }
 
 static void encode_run(const struct library *library)

@@ -12,6 +12,7 @@
  *   to work in place, lend a copy.
  * - The library has no state of its own, takes no lock and allocates nothing: any thread may call anything at any time. States
  *   (scrambler, register, history, supervisor) are the caller's: keep what comes back and lend it to the next call.
+ * - It asks for memcpy, memmove and memset of the C library, and for nothing else.
  *
  * Bits in octets. Bit n of the paper, n from 1, has weight 1 << ((n - 1) % 8) in octet (n - 1) / 8. The first bit on the line is
  * bit 1. This holds for frames, for vendor data and for the scrambler's runs.

@@ -1,49 +1,16 @@
-"""The lister's cases, from document 01 alone: frames are laid bit by bit, check bits divided out by hand, and the text put together here.
+"""The lister's cases, from document 01 alone: frames by tests/frames.py, and the text put together here.
 The command to run is given as arguments.
 """
+import pathlib
 import random
 import subprocess
 import sys
 
+sys.path.insert(0, str(pathlib.Path(__file__).resolve().parents[1]))
+from frames import FINAL, TRAINING, divided, frame, frame_bits, in_octets, payload, wrong  # noqa: E402
+
 SEED = 20261116
-TRAINING = "11111001101011"
-FINAL = "11010110011111"
 LEAST, MOST = -2097152, 2097151
-
-
-def lowest_first(n, width):
-    """The bits of n, two's complement where it is below zero, least bit first."""
-    return [(n >> k) & 1 for k in range(width)]
-
-
-def divided(message):
-    """Schoolbook division by D^16 + D^12 + D^5 + 1 of the message times D^16: the remainder's 16 bits, that of D^15 first."""
-    rest = message + [0] * 16
-    for k in range(len(message)):
-        if rest[k]:
-            for power in (16, 12, 5, 0):
-                rest[k + 16 - power] ^= 1
-    return rest[-16:]
-
-
-def payload(coefficients, a, b, vendor, reserved):
-    bits = []
-    for k in range(180):
-        bits += lowest_first(coefficients[k] if k < len(coefficients) else 0, 22)
-    bits += lowest_first(a, 21) + lowest_first(b, 21)
-    for octet in vendor:
-        bits += lowest_first(octet, 8)
-    return bits + reserved
-
-
-def frame_bits(sync, message):
-    bits = [int(bit) for bit in sync] + message + divided(message) + [0] * 5
-    assert len(bits) == 4232
-    return bits
-
-
-def in_octets(bits):
-    return bytes(sum(bits[8 * k + j] << j for j in range(8)) for k in range(len(bits) // 8))
 
 
 def check_digits(message):
@@ -68,14 +35,6 @@ def training(coefficients, a, b, vendor):
 
 def final(message, vendor):
     return in_octets(frame_bits(FINAL, message)), "kind final\n" + last_lines(vendor, message)
-
-
-def wrong(octets, *flips):
-    """The octets with the paper's bits, counted from 1, turned over."""
-    changed = bytearray(octets)
-    for n in flips:
-        changed[(n - 1) // 8] ^= 1 << (n - 1) % 8
-    return bytes(changed)
 
 
 failures = 0

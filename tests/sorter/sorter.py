@@ -1,4 +1,4 @@
-"""The sorter's cases, from document 01 alone: frames are laid bit by bit, check bits divided out by hand, and the texts put together here.
+"""The sorter's cases, from document 01 alone: frames by tests/frames.py, and the texts put together here.
 The command to run is given as arguments.
 """
 import os
@@ -11,9 +11,10 @@ import tempfile
 import threading
 import time
 
+sys.path.insert(0, str(pathlib.Path(__file__).resolve().parents[1]))
+from frames import FINAL, TRAINING, frame, payload, wrong  # noqa: E402
+
 SEED = 20261117
-TRAINING = "11111001101011"
-FINAL = "11010110011111"
 MEANING = {
     1: "a lent buffer has the wrong length",
     5: "the sync word is neither of the two",
@@ -26,46 +27,8 @@ VENDOR = bytes(range(0xF0, 0x100))
 
 # ---- frames
 
-def lowest_first(n, width):
-    """The bits of n, two's complement where it is below zero, least bit first."""
-    return [(n >> k) & 1 for k in range(width)]
-
-
-def remainder(message):
-    """The message times D^16 as one whole number, divided by D^16 + D^12 + D^5 + 1: what is left, c1 first."""
-    divisor = 1 << 16 | 1 << 12 | 1 << 5 | 1
-    rest = int("".join(map(str, message)), 2) << 16
-    while rest.bit_length() > 16:
-        rest ^= divisor << rest.bit_length() - 17
-    return [int(bit) for bit in f"{rest:016b}"]
-
-
-def frame(sync, message):
-    assert len(message) == 4197
-    bits = [int(bit) for bit in sync] + message + remainder(message) + [0] * 5
-    return bytes(sum(bits[8 * k + j] << j for j in range(8)) for k in range(529))
-
-
-def payload(coefficients, a, b, vendor, reserved=()):
-    bits = []
-    for k in range(180):
-        bits += lowest_first(coefficients[k] if k < len(coefficients) else 0, 22)
-    bits += lowest_first(a, 21) + lowest_first(b, 21)
-    for octet in vendor:
-        bits += lowest_first(octet, 8)
-    return bits + list(reserved) + [0] * (67 - len(reserved))
-
-
 def training(coefficients, a, b, vendor=VENDOR):
     return frame(TRAINING, payload(coefficients, a, b, vendor))
-
-
-def wrong(octets, *flips):
-    """The octets with the paper's bits, counted from 1, turned over."""
-    changed = bytearray(octets)
-    for n in flips:
-        changed[(n - 1) // 8] ^= 1 << (n - 1) % 8
-    return bytes(changed)
 
 
 def turned(word):

@@ -5,9 +5,9 @@ use Prim.Native.Nat.{ℕ, suc, _+_, _≤_, _<_, min}
 use native.Mathlib.Decide.{decLe}
 use native.Mathlib.Omega.{arith}
 use lib.ListN.{length, take, drop, set, length-append}
-use lib.Seq.{sets, length-sets, set-out}
+use lib.Seq.{sets, length-sets, set-out, take-all, take-at}
 use Rattle.octets.proofs.Laws.{sets-append}
-use Rattle.ascii.specs.Promises.{Put}
+use Rattle.ascii.specs.Promises.{Put, Told}
 
 -- past the end nothing is set
 sets-out : (l : List ℕ) (i : ℕ) (vs : List ℕ) → length l ≤ i → sets l i vs ≡ l
@@ -74,9 +74,16 @@ put-as {s} {t} {at} {n} p e = rw e at p
 pub put-length : {s t : List ℕ} {at n : ℕ} (xs : List ℕ) → Put s at xs n t → length t ≡ length s
 put-length {s} {t} {at} {n} xs p = ap length (p .laid) ∙ length-sets s at xs
 
--- text put from the first place on
-pub put-first : (text s t : List ℕ) (r : ℕ) → Put s 0 text r t → (r ≡ min (length text) (length s)) × (t ≡ take r text ++ drop r s)
-put-first text s t r p = (e, p .laid ∙ sets-first s text ∙ ap (λ (n : ℕ). take n text ++ drop n s) (sym e))
+-- a text put from the first place on is told
+pub told : (text s t : List ℕ) (r : ℕ) → Put s 0 text r t → Told text s r t
+told text s t r p = record { count = e; room-left = p .laid ∙ sets-first s text ∙ ap (λ (n : ℕ). take n text ++ drop n s) (sym e) }
   where
     e : r ≡ min (length text) (length s)
     e = omega (arith, p .behind)
+
+-- where the text fits the room it stands whole at its start
+pub told-whole : (text room : List ℕ) (r : ℕ) (exit : List ℕ) → Told text room r exit → length text ≤ length room → take r exit ≡ text
+told-whole text room r exit p h =
+    let e : r ≡ length text = omega (arith, p .count) in
+    let t : take r text ≡ text = take-all r text (omega arith) in
+    ap (take r) (p .room-left ∙ ap (λ (l : List ℕ). l ++ drop r room) t) ∙ take-at text (drop r room) r (sym e)

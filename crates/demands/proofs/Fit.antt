@@ -7,7 +7,6 @@ use Prim.Native.Nat.{ℕ, zero, suc, _/_, _≤_}
 use native.Mathlib.Omega.{arith}
 use borrow.Author.Tests.{eq-eqb, eqb-true, leb-true, ltb-false, not-false}
 use lib.Dec.{eqb, ltb}
-use lib.IntN.{ℤ}
 use lib.ListN.{length, drop, take}
 use Rattle.answer.specs.Answer.{answer}
 use Rattle.answer.proofs.Laws.{none, passed}

@@ -1,18 +1,15 @@
 -- What follows from the demands, for a library of any make that meets them. Assumes nothing.
-use mathlib.Core.Path.{_≡_, refl, sym, ap, ap₂, _∙_, subst}
-use mathlib.Core.Bool.{Bool, true, false, not, _&&_}
+use mathlib.Core.Path.{_≡_, refl, sym, ap, ap₂, _∙_}
+use mathlib.Core.Bool.{true, not, _&&_}
 use mathlib.Core.Logic.{_⊎_}
-use mathlib.Core.List.{List, [], _∷_}
-use Prim.Native.Nat.{ℕ, zero, suc, _*_, _^_, _≤_, _<_}
-use native.Mathlib.Nat.{le-trans}
+use mathlib.Core.List.{List, []}
+use Prim.Native.Nat.{ℕ, zero, suc, _*_, _≤_, _<_}
 use native.Mathlib.Omega.{arith}
-use borrow.Author.Tests.{eq-eqb, eqb-true, le-leb, le-ltb, not-false}
-use lib.Dec.{eqb, ltb, lit≤}
-use lib.IntN.{ℤ, pos, negsuc}
-use lib.ListN.{length, getD, drop, take}
-use lib.Pow.{pow-mono}
-use lib.Seq.{length-take-le, take-all}
-use lib.Signed.{mag}
+use borrow.Author.Tests.{eq-eqb, eqb-true, le-leb, not-false}
+use lib.Dec.{eqb, lit≤}
+use lib.IntN.{ℤ}
+use lib.ListN.{length, drop, take}
+use lib.Seq.{take-all}
 use Rattle.answer.specs.Answer.{answer}
 use Rattle.answer.proofs.Laws.{none, passed}
 use Rattle.octets.specs.Bits.{valueOf, bitsOf, octetsOf, part}
@@ -21,13 +18,13 @@ use Rattle.ranges.specs.Ranges.{isCoefficient, every}
 use Rattle.ranges.proofs.Laws.{mag-range, mag-at}
 use Rattle.octets.proofs.Complement.{signed-range}
 use Rattle.octets.proofs.Digits.{Bits, drop-bits, value-part}
-use Rattle.octets.proofs.Laws.{octets-length, bits-length, bits-bits, bits-octets, octets-bits}
+use Rattle.octets.proofs.Laws.{octets-length, bits-length, bits-bits, octets-bits}
 use Rattle.octets.proofs.Numbers.{numbers-length}
 use Rattle.remainder.specs.Errors.{flipped}
 use Rattle.layout.specs.Places.{coefficients, wordA, wordB, vendor}
-use Rattle.layout.specs.Frame.{trainingSync, finalSync, used, trainingBits, frameBits, fieldOf, coefficientsOf}
-use Rattle.layout.specs.Refusals.{bitRefusals, hasSync, writeRefusals, checkRefusals}
-use Rattle.layout.proofs.RoundTrip.{training-laid, a-back, b-back, used-back, vendor-back, sound, field-length, field-bits, final-free, laid-in, training-again}
+use Rattle.layout.specs.Frame.{trainingSync, finalSync, trainingBits, frameBits, fieldOf, coefficientsOf}
+use Rattle.layout.specs.Refusals.{bitRefusals, hasSync, writeRefusals}
+use Rattle.layout.proofs.RoundTrip.{training-laid, a-back, b-back, used-back, vendor-back, sound, field-bits, final-free, laid-in, training-again}
 use Rattle.layout.proofs.Laws.{final-length, final-bits}
 use Rattle.layout.proofs.OneBit.{one-bit}
 use Rattle.distance.specs.Errors.{Few, Burst}

@@ -1,30 +1,29 @@
 -- What one card writes or scrambles, the other gets back: for libraries of any two makes that are exact to the paper. Assumes nothing.
 use mathlib.Core.Path.{_≡_, refl, sym, ap, ap₂, _∙_, subst}
-use mathlib.Core.Bool.{Bool, true, false, not}
-use mathlib.Core.List.{List, [], _∷_, _++_}
-use Prim.Native.Nat.{ℕ, _+_, _*_, _≤_, _<_, _^_}
+use mathlib.Core.Bool.{true, not}
+use mathlib.Core.List.{List, [], _∷_}
+use Prim.Native.Nat.{ℕ, _+_, _*_, _≤_, _^_}
 use native.Mathlib.Omega.{arith}
 use borrow.Author.Tests.{eq-eqb, eqb-true, ltb-false, not-false}
 use lib.Dec.{eqb, ltb, leb}
-use lib.IntN.{ℤ, pos}
-use lib.ListN.{length, drop, take, replicate}
+use lib.IntN.{ℤ}
+use lib.ListN.{length, drop}
 use lib.Seq.{sets-eq, take-at, length-take-le}
 use Rattle.answer.specs.Answer.{answer, held}
 use Rattle.answer.proofs.Laws.{none as none-applies, passed, given as held-given}
 use Rattle.octets.specs.Bits.{valueOf, bitsOf, octetsOf, part, laid}
 use Rattle.octets.proofs.Digits.{Bits, take-bits, drop-bits}
 use Rattle.octets.proofs.Laws.{bits-bits, bits-length, octets-length, laid-length, laid-bits}
-use Rattle.octets.proofs.Numbers.{numbers-length}
 use Rattle.layout.specs.Places.{wordA, wordB, vendor, pad}
 use Rattle.layout.specs.Frame.{used, trainingBits, finalBits, fieldOf, coefficientsOf}
 use Rattle.layout.specs.Refusals.{bitRefusals, hasSync}
 use Rattle.layout.proofs.RoundTrip.{training-laid, training-answers, a-back, b-back, used-back, vendor-back, final-laid, final-answers, final-vendor}
 use Rattle.numbers.specs.Promises.{numbersOf, numberOctets}
-use Rattle.scrambler.specs.Line.{tapOf, Scrambles, Descrambles, newest}
+use Rattle.scrambler.specs.Line.{tapOf, newest}
 use Rattle.scrambler.specs.Run.{scramble, descramble, runOf}
-use Rattle.scrambler.specs.Promises.{runRefusals, frameRefusals, frameOut}
+use Rattle.scrambler.specs.Promises.{frameOut}
 use Rattle.scrambler.specs.declared.Scrambler.{Scrambler}
-use Rattle.scrambler.proofs.Laws.{tap-range, run-bits, run-length, run-sound, frame-sound}
+use Rattle.scrambler.proofs.Laws.{tap-range, run-bits}
 use Rattle.scrambler.proofs.Exactly.{scrambles-run, descrambles-run, back as comes-back}
 use Rattle.scrambler.proofs.Frames.{received, pad-out, frame-back}
 use Rattle.ranges.specs.Ranges.{every}
@@ -35,7 +34,7 @@ use Rattle.precoder.proofs.Signals.{input-is}
 use Rattle.precoder.proofs.Back.{outputs-sent, sent-unique, outputs-length, run-done, run-back as run-back-of}
 use Rattle.precoder.proofs.Turns.{lengths-are}
 use Rattle.numbers.proofs.Laws.{octets-many, octets-kept}
-use Rattle.demands.specs.Library.{Outcome, None, none, WriteCall, ReadCall, Fields, Rooms, RunCall, FrameCall, Line, PrecodeCall, Signal, Library}
+use Rattle.demands.specs.Library.{Outcome, None, none, WriteCall, ReadCall, RunCall, FrameCall, Line, PrecodeCall, Signal, Library}
 use Rattle.demands.specs.One.{writeChecks, readChecks, runChecks, frameChecks, precodeChecks}
 use Rattle.demands.specs.Two.{Right, Octets, done, given, clocked, around, Frames, Scrambling, Precoding, Exact, Back}
 use Rattle.demands.proofs.Fit.{many, lengths-fit, training-fit, read-right}

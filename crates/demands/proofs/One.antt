@@ -5,16 +5,14 @@ use mathlib.Core.List.{List, [], _∷_}
 use Prim.Native.Nat.{ℕ, zero, suc, _≤_, zero-le}
 use borrow.Author.Tests.{leb-true}
 use lib.Dec.{leb, eqb, ltb}
-use lib.Ieee.{Float, binary32, ofBits}
-use lib.IntN.{ℤ, pos}
+use lib.IntN.{pos}
 use Rattle.answer.specs.Answer.{Refusal, answer, held, inOrder}
 use Rattle.answer.proofs.Laws.{kept}
 use Rattle.octets.specs.Bits.{valueOf}
 use Rattle.layout.specs.Places.{wordA, wordB}
 use Rattle.layout.specs.Frame.{trainingSync, fieldOf}
-use Rattle.layout.specs.Refusals.{checkRefusals, hasSync}
+use Rattle.layout.specs.Refusals.{hasSync}
 use Rattle.layout.proofs.Order.{check-order}
-use Rattle.scrambler.specs.declared.Ran.{Ran}
 use Rattle.scrambler.specs.Run.{Way}
 use Rattle.scrambler.proofs.One.{run-order as scrambler-order, frame-order}
 use Rattle.symbol.specs.declared.Encoder.{Encoder}
@@ -25,23 +23,22 @@ use Rattle.signal.proofs.Exact.{exact-zero, exact-unique}
 use Rattle.precoder.proofs.Order.{run-order as precoder-order}
 use Rattle.startup.specs.declared.Supervisor.{Supervisor as State}
 use Rattle.startup.specs.declared.Run.{Run as StartupRun}
-use Rattle.startup.specs.Step.{startRefusals, stepRefusals, stateRefusals, startOf, stepOf}
-use Rattle.startup.specs.Run.{eventOf, goesOn, opens, ends, noted, takenOf, runFrom, begun, runOf}
+use Rattle.startup.specs.Step.{stateRefusals, stepOf}
+use Rattle.startup.specs.Run.{eventOf, goesOn, opens, ends, noted, takenOf, runFrom, begun}
 use Rattle.startup.proofs.One.{start-in-order, step-in-order, state-in-order}
 use Rattle.reader.specs.declared.Found.{Found}
 use Rattle.reader.specs.Promises.{foundOf}
 use Rattle.host.specs.declared.frames.FrameFields.{FrameFields}
 use Rattle.host.specs.declared.scrambling.Scrambled.{Scrambled}
-use Rattle.host.specs.declared.supervisor.Supervisor.{Supervisor}
 use Rattle.host.specs.declared.supervisor.Stepped.{Stepped}
 use Rattle.host.specs.declared.supervisor.Run.{Run}
 use Rattle.host.specs.Supervisor.{stateIn, stateOf, runFieldsOf}
 use Rattle.host.specs.Frames.{fieldsOf}
 use Rattle.host.specs.Symbols.{encoder}
 use Rattle.host.proofs.One.{frame-write-order, frame-read-order}
-use Rattle.demands.specs.Library.{Outcome, None, none, Library, Line, RunCall, FrameCall}
+use Rattle.demands.specs.Library.{Outcome, None, none, Library}
 use Rattle.demands.specs.Contracts.{Keeps}
-use Rattle.demands.specs.One.{Answers, One, noState, readChecks, runChecks, frameChecks}
+use Rattle.demands.specs.One.{Answers, One, readChecks, runChecks, frameChecks}
 
 -- checks in the order of the table answer with a number of the table
 ordered : (low n : ℕ) (t : Bool) (ts : List Refusal) → inOrder low (record { number = n; applies = t } ∷ ts) ≡ true → (leb n 8 ≡ true) × (inOrder n ts ≡ true)

@@ -1,15 +1,13 @@
 -- No version that document 01 rejects meets its demand. Assumes nothing.
-use mathlib.Core.Path.{_≡_, refl, sym, ap, _∙_, subst}
+use mathlib.Core.Path.{_≡_, refl, sym, _∙_, subst}
 use mathlib.Core.Bool.{true, false, true≢false}
-use mathlib.Core.Logic.{_⊎_, inl, inr, ⊎-elim}
+use mathlib.Core.Logic.{_⊎_, inl, ⊎-elim}
 use mathlib.Core.List.{List, [], _∷_}
-use Prim.Native.Nat.{ℕ, zero, suc, _≤_, _<_}
+use Prim.Native.Nat.{ℕ, suc, _≤_}
 use native.Mathlib.Omega.{arith}
 use lib.Dec.{lit≤}
-use lib.IntN.{ℤ, pos}
-use lib.ListN.{length, getD, replicate}
-use Rattle.startup.specs.Attempts.{at, count, Card, ltu, need, shown, Uncut, StillOpen, fresh, told, OpensAt, opens}
-use Rattle.startup.specs.Three.{Make, Follows, FirstShows, phaseAt, replyTo}
+use Rattle.startup.specs.Attempts.{at, count, ltu, need, shown, Uncut, StillOpen, fresh, told, OpensAt, opens}
+use Rattle.startup.specs.Three.{Make, Follows, phaseAt, replyTo}
 use Rattle.startup.proofs.Counts.{in-order-le}
 use Rattle.startup.proofs.Fate.{open-now}
 use Rattle.startup.proofs.Simulates.{sound}

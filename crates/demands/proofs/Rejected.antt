@@ -1,18 +1,17 @@
 -- No library that document 01 rejects meets demands 1 and 2. Assumes nothing.
 use mathlib.Core.Path.{_≡_, refl, sym, ap, _∙_}
-use mathlib.Core.Bool.{Bool, true, false, not}
+use mathlib.Core.Bool.{not}
 use mathlib.Core.List.{List, [], _∷_, reverse}
-use Prim.Native.Nat.{ℕ, zero, suc, _<_}
+use Prim.Native.Nat.{ℕ, zero, suc}
 use native.Mathlib.Omega.{arith}
 use borrow.Author.Tests.{eq-eqb}
-use lib.Dec.{lit≤, eqb}
-use lib.IntN.{ℤ, pos}
+use lib.Dec.{lit≤}
+use lib.IntN.{pos}
 use lib.ListN.{length, drop, getD, replicate}
 use Rattle.answer.specs.Answer.{answer}
 use Rattle.answer.proofs.Laws.{passed}
-use Rattle.octets.specs.Bits.{digitsOf, valueOf, bitsOf, octetsOf, part, laid}
+use Rattle.octets.specs.Bits.{digitsOf, valueOf, bitsOf, octetsOf, laid}
 use Rattle.octets.specs.Signed.{signedOf, twosOf, numberBits, numbersIn}
-use Rattle.octets.proofs.Numbers.{numbers-length}
 use Rattle.octets.proofs.Digits.{take-bits}
 use Rattle.octets.proofs.Laws.{bits-bits, octets-length}
 use Rattle.layout.specs.Places.{wordA, wordB}
@@ -24,18 +23,18 @@ use Rattle.layout.proofs.RoundTrip.{training-laid, final-laid, final-answers}
 use Rattle.numbers.specs.Promises.{numbersOf, numberOctets}
 use Rattle.scrambler.specs.Run.{Way, scramble, descramble, runOf}
 use Rattle.scrambler.proofs.Exactly.{scrambles-run, descrambles-run}
-use Rattle.ranges.specs.Ranges.{every, between}
+use Rattle.ranges.specs.Ranges.{every}
 use Rattle.symbol.specs.Levels.{placeIn}
 use Rattle.symbol.specs.Encoder.{symbolsIn}
 use Rattle.host.specs.declared.supervisor.Supervisor.{Supervisor}
 use Rattle.precoder.specs.Precoder.{exactSum}
 use Rattle.precoder.specs.Runs.{outputsOf}
 use Rattle.precoder.proofs.Back.{sent-unique, outputs-sent}
-use Rattle.demands.specs.Library.{Outcome, None, none, WriteCall, ReadCall, Fields, Rooms, RunCall, FrameCall, Line, EncodeCall, EncodeRunCall, PrecodeCall, StartCall, StepCall, CodesCall, Signal, Library}
-use Rattle.demands.specs.One.{One, writeChecks, runChecks, frameChecks, precodeChecks}
+use Rattle.demands.specs.Library.{Outcome, None, WriteCall, ReadCall, Fields, Rooms, RunCall, FrameCall, Line, EncodeCall, EncodeRunCall, PrecodeCall, StartCall, StepCall, CodesCall, Signal, Library}
+use Rattle.demands.specs.One.{One, writeChecks, frameChecks, precodeChecks}
 use Rattle.demands.specs.Two.{Right, Octets, done, Two}
 use Rattle.demands.proofs.Fit.{many}
-use Rattle.demands.specs.Wrong.{Refuses, NoneRefuses, OneFrame, WriterIdle, ReaderIdle, ScramblerIdle, PrecoderIdle, CopiesTheRest, TurnsA, TurnsB}
+use Rattle.demands.specs.Wrong.{NoneRefuses, OneFrame, WriterIdle, ReaderIdle, ScramblerIdle, PrecoderIdle, CopiesTheRest, TurnsA, TurnsB}
 
 -- ---- calls to which no check applies
 
@@ -82,10 +81,6 @@ six-ones = record { end = 0; state = 0; input = 255 ∷ []; bits = 6; output = 0
 
 abbrev ones : List ℕ
 ones = 1 ∷ 1 ∷ 1 ∷ 1 ∷ 1 ∷ 1 ∷ []
-
-given-is : part 0 6 (bitsOf (255 ∷ [])) ≡ ones
-unfolding bitsOf digitsOf
-given-is = refl
 
 abbrev empty-frame : FrameCall
 empty-frame = record { end = 0; state = 0; frame = zeros 529; output = zeros 529 }

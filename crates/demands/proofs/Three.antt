@@ -1,15 +1,15 @@
 -- Demand 3 holds of the supervisor of every library that keeps our contracts. Assumes nothing.
 use mathlib.Core.Path.{_≡_, refl, sym, ap, _∙_, subst}
 use mathlib.Core.Bool.{cond}
-use mathlib.Core.Logic.{_⊎_, inl, inr, ⊎-elim, _↔_}
+use mathlib.Core.Logic.{_⊎_, inl, inr, ⊎-elim}
 use mathlib.Core.List.{List, [], _∷_}
-use Prim.Native.Nat.{ℕ, suc, _≤_, _<_}
+use Prim.Native.Nat.{ℕ, suc}
 use lib.Dec.{eqb}
 use lib.ListN.{take}
 use Rattle.startup.specs.declared.Supervisor.{Supervisor as State}
 use Rattle.startup.specs.Attempts.{at, Card, card, meant}
-use Rattle.startup.specs.Step.{startOf, stepOf}
-use Rattle.startup.specs.Three.{Reply, Make, stepsBy, phaseAt, replyTo, FirstShows, Follows, Demand3, Taken, ours}
+use Rattle.startup.specs.Step.{startOf}
+use Rattle.startup.specs.Three.{Reply, Make, stepsBy, phaseAt, replyTo, FirstShows, Follows, ours}
 use Rattle.startup.proofs.Three.{demand3}
 use Rattle.host.specs.declared.supervisor.Supervisor.{Supervisor}
 use Rattle.host.specs.declared.supervisor.Stepped.{Stepped}

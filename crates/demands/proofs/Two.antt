@@ -1,19 +1,18 @@
 -- The first sentence of demand 2 holds of every library that keeps our contracts. Assumes nothing.
-use mathlib.Core.Path.{_≡_, refl, sym, ap, ap₂, _∙_, subst}
-use mathlib.Core.Bool.{Bool, true, false, cond, not}
+use mathlib.Core.Path.{_≡_, refl, sym, ap, _∙_, subst}
+use mathlib.Core.Bool.{Bool, true, cond}
 use mathlib.Core.Logic.{_⊎_, inl, inr}
 use mathlib.Core.List.{List, [], _∷_}
-use Prim.Native.Nat.{ℕ, zero, suc, _≤_, _<_, _^_}
+use Prim.Native.Nat.{ℕ, _≤_}
 use borrow.Author.Tests.{le-ltb}
 use lib.Dec.{eqb, ltb, lit≤}
-use lib.IntN.{ℤ, pos}
-use lib.ListN.{length, drop}
-use Rattle.answer.specs.Answer.{answer, held}
+use lib.IntN.{ℤ}
+use lib.ListN.{drop}
+use Rattle.answer.specs.Answer.{answer}
 use Rattle.answer.proofs.Laws.{given as held-given, passed}
 use Rattle.octets.specs.Bits.{valueOf, bitsOf, octetsOf, part, laid}
 use Rattle.octets.proofs.Digits.{Bits, take-bits, drop-bits}
-use Rattle.octets.proofs.Laws.{bits-bits, bits-length}
-use Rattle.octets.proofs.Numbers.{numbers-length}
+use Rattle.octets.proofs.Laws.{bits-bits}
 use Rattle.remainder.specs.Division.{Remainder, generator, polynomial}
 use Rattle.remainder.proofs.Division.{exists}
 use Rattle.remainder.proofs.Errors.{generator-degree}
@@ -22,9 +21,8 @@ use Rattle.layout.specs.Frame.{trainingBits, finalBits, fieldOf, messageOf, coe
 use Rattle.layout.specs.Refusals.{bitRefusals}
 use Rattle.layout.proofs.RoundTrip.{training-laid, training-answers, final-laid, final-answers, sound}
 use Rattle.numbers.specs.Promises.{numbersOf, numberOctets}
-use Rattle.scrambler.specs.Line.{tapOf, Scrambles, Descrambles, newest}
+use Rattle.scrambler.specs.Line.{tapOf}
 use Rattle.scrambler.specs.Run.{Way, scramble, descramble, runOf, afterOf}
-use Rattle.scrambler.specs.declared.Ran.{Ran}
 use Rattle.scrambler.specs.declared.Scrambler.{Scrambler}
 use Rattle.scrambler.proofs.Laws.{tap-range, run-sound, frame-sound}
 use Rattle.scrambler.proofs.Exactly.{run-scrambles, run-descrambles, scrambled-state, descrambled-state}
@@ -44,12 +42,12 @@ use Rattle.host.specs.declared.frames.FrameFields.{FrameFields}
 use Rattle.host.specs.Frames.{fieldsOf, coefficientOctets}
 use Rattle.reader.specs.declared.Found.{Found}
 use Rattle.reader.specs.Promises.{foundOf, vendorOctets}
-use Rattle.demands.specs.Library.{Outcome, None, none, WriteCall, ReadCall, Fields, Rooms, RunCall, FrameCall, PrecodeCall, Library}
+use Rattle.demands.specs.Library.{Outcome, None, none, WriteCall, ReadCall, Fields, Rooms, RunCall, FrameCall, Library}
 use Rattle.demands.specs.Contracts.{Keeps}
 use Rattle.demands.specs.One.{writeChecks, readChecks, runChecks, frameChecks}
 use Rattle.demands.specs.Two.{Right, done, given, clocked, around, Frames, Scrambling, Symbols, Precoding, Exact}
 use Rattle.demands.proofs.One.{only, found-answer}
-use Rattle.demands.proofs.Fit.{many, lengths-fit, training-fit, kind-fit, Fit}
+use Rattle.demands.proofs.Fit.{many, lengths-fit, training-fit, kind-fit}
 
 -- an outcome that is done
 pub same : {N M : Type 0} {o : Outcome N M} {n : N} {m : M} → o .answer ≡ 0 → o .numbers ≡ n → o .memory ≡ m → o ≡ done n m

@@ -1,6 +1,6 @@
 -- A library of any make: each function of sdsl.h as a function from what is handed in to what comes back, so a call always ends, with one result.
 -- Octets and numbers of C are natural numbers here, and whole numbers where they are signed; a buffer is the list of its octets.
-use mathlib.Core.List.{List, []}
+use mathlib.Core.List.{List}
 use Prim.Native.Nat.{ℕ}
 use lib.Ieee.{Float}
 use lib.IntN.{ℤ}

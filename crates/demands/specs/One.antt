@@ -2,10 +2,10 @@
 -- of document 01's table. A refused call changes no lent memory and no state, and no caller has to check first."
 use mathlib.Core.Path.{_≡_}
 use mathlib.Core.Bool.{true}
-use mathlib.Core.List.{List, [], _∷_}
-use Prim.Native.Nat.{ℕ, _≤_}
-use lib.Ieee.{Float, binary32, ofBits}
-use lib.IntN.{ℤ, pos}
+use mathlib.Core.List.{List, _∷_}
+use Prim.Native.Nat.{_≤_}
+use lib.Ieee.{binary32, ofBits}
+use lib.IntN.{pos}
 use Rattle.answer.specs.Answer.{Refusal, wrongLength, answer, inOrder}
 use Rattle.layout.specs.Refusals.{writeRefusals, checkRefusals}
 use Rattle.scrambler.specs.Run.{Way}
@@ -20,7 +20,7 @@ use Rattle.host.specs.declared.supervisor.Supervisor.{Supervisor}
 use Rattle.host.specs.Frames.{frameReadRefusals}
 use Rattle.host.specs.Symbols.{encoder}
 use Rattle.host.specs.Supervisor.{stateIn}
-use Rattle.demands.specs.Library.{Outcome, None, none, WriteCall, ReadCall, Fields, Rooms, RunCall, FrameCall, Line, EncodeCall, Symbol, EncodeRunCall, Codes, PrecodeCall, Signal, StartCall, StepCall, Shown, CodesCall, Attempts, Library}
+use Rattle.demands.specs.Library.{Outcome, none, WriteCall, ReadCall, RunCall, FrameCall, EncodeCall, EncodeRunCall, PrecodeCall, Library}
 
 -- a function answers by document 01's table: by these checks, what its memory holds before, and nothing in its other numbers
 pub record Answers {C N M : Type 0} (f : C → Outcome N M) (checks : C → List Refusal) (before : C → M) (nothing : N) : Type 0 where

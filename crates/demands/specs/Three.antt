@@ -6,7 +6,7 @@ use mathlib.Core.List.{List}
 use Prim.Native.Nat.{ℕ, _≤_}
 use Rattle.startup.specs.Three.{Make, Demand3, Taken}
 use Rattle.host.specs.declared.supervisor.Supervisor.{Supervisor}
-use Rattle.demands.specs.Library.{StartCall, StepCall, Library}
+use Rattle.demands.specs.Library.{Library}
 
 -- THE DEMAND: for either end, every silence that a start takes, and every list
 abbrev pub Three : {S : Type 0} → Make S → Type 0

@@ -2,7 +2,7 @@
 -- as document 01 sets them out. What one card writes or scrambles, the other gets back unchanged."
 use mathlib.Core.Path.{_≡_}
 use mathlib.Core.Bool.{true, false}
-use mathlib.Core.List.{List, [], _∷_, _++_}
+use mathlib.Core.List.{List, _∷_, _++_}
 use Prim.Native.Nat.{ℕ, _≤_, _<_}
 use lib.IntN.{ℤ}
 use lib.ListN.{length, getD, replicate}
@@ -14,14 +14,14 @@ use Rattle.layout.specs.Frame.{trainingSync, used, trainingBits, finalBits, fie
 use Rattle.layout.specs.Refusals.{hasSync}
 use Rattle.numbers.specs.Promises.{numbersOf, numberOctets}
 use Rattle.scrambler.specs.Line.{tapOf, Scrambles, Descrambles, newest}
-use Rattle.scrambler.specs.Run.{Way, scramble, descramble}
-use Rattle.symbol.specs.Levels.{activationLevels, dataLevels, levelAt, activationTests, dataTests, backTests}
+use Rattle.scrambler.specs.Run.{scramble, descramble}
+use Rattle.symbol.specs.Levels.{activationLevels, dataLevels, levelAt, activationTests, dataTests}
 use Rattle.symbol.specs.Encoder.{codeOf, codesOf, x1, sentAfter, heldIn, registerOf}
 use Rattle.ranges.specs.Ranges.{every}
 use Rattle.signal.specs.Signal.{isSignal}
 use Rattle.signal.specs.Shaper.{Exactly, shaperTests}
 use Rattle.precoder.specs.Runs.{SendsAll, pastAfterAll}
-use Rattle.demands.specs.Library.{Outcome, None, none, WriteCall, ReadCall, Fields, Rooms, RunCall, FrameCall, Line, EncodeCall, Symbol, EncodeRunCall, Codes, PrecodeCall, Signal, Library}
+use Rattle.demands.specs.Library.{Outcome, none, WriteCall, ReadCall, RunCall, FrameCall, EncodeCall, EncodeRunCall, PrecodeCall, Library}
 use Rattle.demands.specs.One.{writeChecks, readChecks, runChecks, frameChecks, encodeChecks, encodeRunChecks, precodeChecks}
 
 -- no check of document 01's table applies

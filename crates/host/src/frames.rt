@@ -1,5 +1,4 @@
 // Activation frames for C: coefficients are 720 octets, four each, low octet first.
-ghost use mathlib.Core.Path.{_≡_};
 ghost use Rattle.host.specs.Frames.{FrameWritten, FrameRead};
 ghost use Rattle.reader.specs.Promises.{Checked};
 

@@ -1,13 +1,13 @@
 -- Each field of a frame stands at its place. Assumes nothing.
-use mathlib.Core.Path.{_≡_, refl, sym, ap, ap₂, _∙_, subst}
-use mathlib.Core.List.{List, [], _∷_, _++_, append-assoc}
-use Prim.Native.Nat.{ℕ, zero, suc, _+_, _-_, _*_, _^_, _≤_, _<_}
+use mathlib.Core.Path.{_≡_, refl, ap, _∙_}
+use mathlib.Core.List.{List, _++_}
+use Prim.Native.Nat.{ℕ, _+_, _-_, _*_, _≤_}
 use native.Mathlib.Omega.{arith}
 use lib.Dec.{lit≤}
-use lib.IntN.{ℤ, pos}
-use lib.ListN.{length, take, drop, replicate, length-append, length-replicate}
+use lib.IntN.{ℤ}
+use lib.ListN.{length, replicate}
 use lib.Seq.{take-at, take-all}
-use Rattle.octets.specs.Bits.{digitsOf, valueOf, bitsOf, part}
+use Rattle.octets.specs.Bits.{digitsOf, bitsOf, part}
 use Rattle.octets.proofs.Digits.{digits-length}
 use Rattle.octets.proofs.Laws.{bits-length}
 use Rattle.octets.proofs.Fields.{part-behind, part-before, part-is}
@@ -15,7 +15,7 @@ use Rattle.remainder.specs.Division.{checkBits}
 use Rattle.layout.specs.Places.{sync, coefficients, wordA, wordB, vendor, reserved, check, pad}
 use Rattle.layout.specs.Frame.{coefficientBits, message, checkOf, frameBits, fieldOf, messageOf}
 use Rattle.octets.proofs.Numbers.{number-length}
-use Rattle.layout.proofs.Laws.{tail-length, message-length, check-length}
+use Rattle.layout.proofs.Laws.{message-length, check-length}
 
 module _ (word m : List ℕ) (s : length word ≡ 14) (l : length m ≡ 4197) where
   abbrev F : List ℕ

@@ -10,7 +10,7 @@ use native.Mathlib.Omega.{arith}
 use borrow.Author.Tests.{eqb-true, eqb-false, not-true}
 use lib.Dec.{lit≤, eqb}
 use lib.ListN.{length, getD, take, drop, set, replicate, length-set, getD-replicate}
-use lib.Seq.{getD-take, getD-drop, getD-set-same, take-set-le, take-set-lt, drop-set-lt, drop-set-add, take-add, drop-drop}
+use lib.Seq.{getD-take, getD-drop, getD-set-same, take-set-lt, drop-set-add, take-add, drop-drop}
 use Rattle.answer.specs.Answer.{answer}
 use Rattle.octets.specs.Bits.{valueOf, part}
 use Rattle.octets.proofs.Digits.{Bits}
@@ -33,15 +33,6 @@ part-flipped B at n i h =
     ap (take n) (drop-set-add at B i (1 - getD B (at + i) 0))
     ∙ take-set-lt n (drop at B) i (1 - getD B (at + i) 0) h
     ∙ ap (λ (x : ℕ). set (part at n B) i (1 - x)) (sym e)
-
--- it lies before the part, or behind it
-part-apart : (B : List ℕ) (at n i : ℕ) → (i < at) ⊎ (at + n ≤ i) → part at n (flipped B i) ≡ part at n B
-part-apart B at n i (inl h) = ap (take n) (drop-set-lt at B i (1 - getD B i 0) h)
-part-apart B at n i (inr h) =
-    let e : i ≡ at + (i - at) = omega arith in
-    ap (λ (k : ℕ). take n (drop at (set B k (1 - getD B i 0)))) e
-    ∙ ap (take n) (drop-set-add at B (i - at) (1 - getD B i 0))
-    ∙ take-set-le n (drop at B) (i - at) (1 - getD B i 0) (omega arith)
 
 -- ---- sync
 

@@ -1,7 +1,7 @@
 -- The listing fits a room of 4,096 octets, so that nothing is cut there. Assumes nothing.
-use mathlib.Core.Path.{_≡_, sym, ap, _∙_}
+use mathlib.Core.Path.{_≡_}
 use mathlib.Core.Bool.{Bool, true, false, cond, _&&_}
-use mathlib.Core.List.{List, [], _∷_, _++_}
+use mathlib.Core.List.{List, [], _∷_}
 use Prim.Native.Nat.{ℕ, zero, suc, _+_, _*_, _^_, _≤_, _<_}
 use Prim.Native.String.{String}
 use native.Mathlib.Omega.{arith}
@@ -9,7 +9,7 @@ use borrow.Author.Tests.{leb-true}
 use lib.Dec.{leb, lit<, lit≤}
 use lib.IntN.{ℤ, pos, negsuc}
 use lib.ListN.{length, getD, take, drop, length-append}
-use lib.Seq.{length-take-le, take-all, take-at}
+use lib.Seq.{length-take-le}
 use lib.Signed.{mag}
 use Rattle.answer.specs.Answer.{Refusal, answer, inOrder}
 use Rattle.octets.specs.Bits.{valueOf, bitsOf}
@@ -27,6 +27,7 @@ use Rattle.reader.specs.Promises.{vendorOctets}
 use Rattle.ascii.specs.Text.{text, decimal, signed, hex}
 use Rattle.ascii.proofs.Numbers.{decimal-length, hexes-length}
 use Rattle.listing.specs.Listing.{highest, numberLine, coefficientLine, coefficientLines, vendorLine, checkLine, trainingText, finalText, listed, listing}
+use Rattle.ascii.proofs.Room.{told-whole}
 use Rattle.listing.specs.Promises.{Listed}
 use Rattle.ranges.proofs.Laws.{both}
 use Rattle.listing.proofs.Laws.{highest-within}
@@ -129,7 +130,4 @@ fits octets = go (answer (checkRefusals octets)) (answer-small 1 (checkRefusals 
 
 -- with a room of 4,096 octets the whole listing stands at its start
 pub whole : (octets room : List ℕ) (r : ℕ) (exit : List ℕ) → Listed octets room r exit → length room ≡ 4096 → take r exit ≡ listing octets
-whole octets room r exit p h =
-    let e : r ≡ length (listing octets) = omega (arith, p .count, fits octets) in
-    let t : take r (listing octets) ≡ listing octets = take-all r (listing octets) (omega arith) in
-    ap (take r) (p .room-left ∙ ap (λ (l : List ℕ). l ++ drop r room) t) ∙ take-at (listing octets) (drop r room) r (sym e)
+whole octets room r exit p h = told-whole (listing octets) room r exit p (omega (arith, fits octets))

@@ -25,9 +25,6 @@ use Rattle.layout.specs.Refusals.{hasSync, bitRefusals, checkRefusals, readRefu
 use Rattle.reader.specs.declared.Found.{Found}
 use Rattle.reader.specs.Promises.{foundOf, coefficientsLeft, vendorOctets, Read}
 use Rattle.ascii.specs.Text.{text, decimal}
-use Rattle.ascii.specs.Promises.{Put}
-use Rattle.ascii.proofs.Room.{put-first}
-use Rattle.listing.specs.Promises.{Listed}
 use Rattle.listing.specs.Listing.{isZero, allZero, highest, numberLine, coefficientLine, coefficientLines, trainingText, finalText, listed, listing}
 
 -- ---- the highest non-zero coefficient
@@ -215,9 +212,3 @@ module _ (f : List ℕ) (cs : List ℤ) (v : List ℕ) (lc : length cs ≡ 180) 
           go : (t : Bool) → r ≡ cond t T F → finalText v′ c ≡ cond t training final
           go true p = absurd (k (ap (λ (x : Found). x .kind) p))
           go false p = ap₂ finalText vendor-is e
-
--- a listing put from the first place on
-pub put-listing : (octets s t : List ℕ) (r : ℕ) → Put s 0 (listing octets) r t → Listed octets s r t
-put-listing octets s t r p =
-    let w = put-first (listing octets) s t r p in
-    record { count = w .0; room-left = w .1 }

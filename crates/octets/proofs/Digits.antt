@@ -1,14 +1,14 @@
 -- Laws of binary digits and the numbers that they make. Assumes nothing.
 use mathlib.Core.Path.{_≡_, refl, sym, ap, ap₂, _∙_, subst}
 use mathlib.Core.List.{List, [], _∷_, _++_, reverse, reverse-cons, reverse-append}
-use Prim.Native.Nat.{ℕ, zero, suc, _+_, _-_, _*_, _/_, _%_, _^_, _≤_, _<_, zero-le, suc-le-suc, min}
-use native.Mathlib.Nat.{le-of-suc-le-suc, not-suc-le-zero, pow-suc, mul-comm, mul-assoc, div-div-eq-div-mul, mod-lt, mod-eq-of-lt, div-one, mod-one}
+use Prim.Native.Nat.{ℕ, zero, suc, _+_, _-_, _*_, _/_, _%_, _^_, _≤_, _<_, zero-le, suc-le-suc}
+use native.Mathlib.Nat.{le-of-suc-le-suc, not-suc-le-zero, pow-suc, mul-comm, mul-assoc, div-div-eq-div-mul, mod-lt, div-one, mod-one}
 use native.Mathlib.Numerals.{add-one}
 use native.Mathlib.Omega.{arith}
 use lib.Arith.{digits-div, digits-mod, mod-mul}
-use lib.Pow.{pow-pos, pow-mono}
-use lib.Bits.{bitAnd, bitXor, differ, and-mask, xor-step, xor-zero-r, shifted-half, shifted-even}
-use lib.ListN.{length, getD, take, drop, set, length-append, length-reverse, replicate}
+use lib.Pow.{pow-pos}
+use lib.Bits.{bitXor, differ, xor-step, xor-zero-r, shifted-half, shifted-even}
+use lib.ListN.{length, getD, take, drop, set, length-reverse, replicate}
 use lib.Seq.{getD-drop, take-nil}
 use Rattle.octets.proofs.Xor.{differ-lt}
 use Rattle.octets.specs.Bits.{digitsOf, valueOf}

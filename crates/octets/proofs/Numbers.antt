@@ -6,10 +6,10 @@ use native.Mathlib.Nat.{mod-eq-of-lt, mul-suc, mul-zero}
 use native.Mathlib.Numerals.{add-one}
 use native.Mathlib.Omega.{arith}
 use lib.IntN.{ℤ, pos}
-use lib.ListN.{length, getD, take, drop, set, length-append, length-drop, take-append-drop}
-use lib.Seq.{take-at, drop-at, drop-drop, length-take-le, take-suc, take-suc-set}
+use lib.ListN.{length, getD, take, drop, length-append, length-drop, take-append-drop}
+use lib.Seq.{take-at, drop-at, length-take-le, take-suc}
 use lib.Signed.{mag}
-use Rattle.octets.specs.Bits.{digitsOf, valueOf, part, laid}
+use Rattle.octets.specs.Bits.{digitsOf, valueOf, laid}
 use Rattle.octets.specs.Signed.{signedOf, twosOf, numberBits, numbersIn}
 use Rattle.octets.proofs.Digits.{Bits, nil-bits, append-bits, take-bits, drop-bits, digits-length, digits-bits, digits-value, value-digits, value-lt}
 use Rattle.octets.proofs.Complement.{twos-lt, signed-twos, twos-signed}
@@ -60,29 +60,6 @@ module _ (w : ℕ) where
   unfolding numbersIn
   numbers-length zero bits = refl
   numbers-length (suc n) bits = ap suc (numbers-length n (drop w bits))
-
-  pub numbers-none : (bits : List ℕ) → [] ≡ numbersIn w 0 bits
-  unfolding numbersIn
-  numbers-none bits = refl
-
-  more : (n : ℕ) (bits : List ℕ) → numbersIn w (suc n) bits ≡ numbersIn w n bits ++ (signedOf w (valueOf (part (w * n) w bits)) ∷ [])
-  unfolding numbersIn
-  more zero bits = ap (λ (i : ℕ). signedOf w (valueOf (take w (drop i bits))) ∷ []) (sym (mul-zero w))
-  more (suc n) bits =
-      let e : w + w * n ≡ w * suc n = omega (arith, mul-suc w n) in
-      ap (λ (l : List ℤ). signedOf w (valueOf (take w bits)) ∷ l)
-      (more n (drop w bits)
-      ∙ ap (λ (x : List ℕ). numbersIn w n (drop w bits) ++ (signedOf w (valueOf (take w x)) ∷ [])) (drop-drop (w * n) w bits ∙ ap (λ (i : ℕ). drop i bits) e))
-
-  -- one number more, read into its place
-  pub numbers-next : (bits : List ℕ) (into : List ℤ) (k : ℕ) (z : ℤ) → k < length into → take k into ≡ numbersIn w k bits
-      → z ≡ signedOf w (valueOf (part (w * k) w bits)) → take (k + 1) (set into k z) ≡ numbersIn w (k + 1) bits
-  numbers-next bits into k z h e g =
-      ap (λ (n : ℕ). take n (set into k z)) (add-one k)
-      ∙ take-suc-set into k z h
-      ∙ ap₂ (λ (x : List ℤ) (y : ℤ). x ++ (y ∷ [])) e g
-      ∙ sym (more k bits)
-      ∙ ap (λ (n : ℕ). numbersIn w n bits) (sym (add-one k))
 
   -- there and back
   module _ (hw : 1 ≤ w) where

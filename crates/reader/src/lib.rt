@@ -1,6 +1,6 @@
 // Checking and reading an activation frame (document 01, "The activation frame").
 ghost use mathlib.Core.Path.{_≡_};
-ghost use mathlib.Core.Bool.{not, _||_};
+ghost use mathlib.Core.Bool.{_||_};
 ghost use lib.ListN.{length};
 ghost use Rattle.answer.specs.Answer.{answer};
 ghost use Rattle.octets.specs.Bits.{valueOf, bitsOf};

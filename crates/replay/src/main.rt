@@ -194,6 +194,7 @@ fn room() -> [u8; 1048577]
     [0; 1048577]
 }
 
+// The end and the silence are arguments, the log is standard input; the story goes to standard output.
 fn main() {
     let begun = Story::start(end_given(), silence_given());
     if begun.answer == answer::UNKNOWN {

@@ -7,14 +7,14 @@ use native.Mathlib.Nat.{le-of-suc-le-suc, not-suc-le-zero, mod-eq-of-lt}
 use native.Mathlib.Decide.{decLt}
 use native.Mathlib.Omega.{arith}
 use lib.Arith.{digits-div, digits-mod}
-use lib.Dec.{lit≤, lit<}
-use lib.ListN.{length, getD, take, drop, length-append, length-reverse, List·getD-append}
+use lib.Dec.{lit≤}
+use lib.ListN.{length, getD, take, length-append, length-reverse, List·getD-append}
 use lib.Seq.{getD-append-add, getD-append-seam, take-all, take-append-le, ext-getD}
 use Rattle.octets.specs.Bits.{digitsOf, valueOf}
-use Rattle.octets.proofs.Digits.{Bits, digits-length, digits-bits, digits-at, digits-more, digits-mod-pow, value-digits, cons-bits}
+use Rattle.octets.proofs.Digits.{Bits, digits-length, digits-at, digits-more, digits-mod-pow, value-digits}
 use Rattle.scrambler.specs.Line.{sum3, line, Scrambles, Descrambles, newest}
-use Rattle.scrambler.specs.Run.{Way, scramble, descramble, outOf, onLine, pushed, nextOf, runOf, afterOf}
-use Rattle.scrambler.proofs.Laws.{sum3-lt, run-length, run-bits}
+use Rattle.scrambler.specs.Run.{Way, scramble, descramble, outOf, pushed, runOf, afterOf}
+use Rattle.scrambler.proofs.Laws.{sum3-lt, run-length}
 
 -- ---- the line and the state
 

@@ -1,10 +1,9 @@
 -- A whole frame scrambled and descrambled is the frame again, with the sender's next state. Assumes nothing.
-use mathlib.Core.Path.{_≡_, refl, sym, ap, ap₂, _∙_}
-use mathlib.Core.List.{List, _++_, append-assoc}
-use Prim.Native.Nat.{ℕ, zero, _+_, _*_, _≤_, _<_}
+use mathlib.Core.Path.{_≡_, sym, ap, ap₂, _∙_}
+use mathlib.Core.List.{List, _++_}
+use Prim.Native.Nat.{ℕ, _+_, _*_}
 use native.Mathlib.Omega.{arith}
-use lib.Dec.{lit≤}
-use lib.ListN.{length, take, drop, replicate, length-append, length-drop, length-replicate}
+use lib.ListN.{length, take, drop, replicate, length-append, length-drop}
 use lib.Seq.{length-take-le, take-all, take-at, drop-at, take-add, drop-drop}
 use Rattle.octets.specs.Bits.{valueOf, bitsOf, octetsOf, part}
 use Rattle.octets.proofs.Digits.{Bits, append-bits, take-bits, drop-bits, zeros-bits, zeros-value, value-one}

@@ -1,12 +1,11 @@
 -- The texts fit the program's rooms, so that nothing is cut there. Assumes nothing.
-use mathlib.Core.Path.{_≡_, refl, sym, ap, _∙_}
+use mathlib.Core.Path.{_≡_, refl, ap}
 use mathlib.Core.Bool.{Bool, true, false, cond}
-use mathlib.Core.List.{List, [], _∷_, _++_}
+use mathlib.Core.List.{List, [], _∷_}
 use Prim.Native.Nat.{ℕ, zero, suc, _+_, _≤_, _<_}
 use native.Mathlib.Omega.{arith}
 use lib.Dec.{eqb, lit≤}
-use lib.ListN.{length, take, drop, length-append}
-use lib.Seq.{take-all, take-at}
+use lib.ListN.{length, drop, length-append}
 use Rattle.answer.specs.Answer.{answer}
 use Rattle.octets.specs.Bits.{bitsOf}
 use Rattle.octets.proofs.Digits.{Bits, drop-bits, value-part}
@@ -15,14 +14,12 @@ use Rattle.octets.proofs.Numbers.{numbers-length}
 use Rattle.layout.specs.Places.{coefficients, vendor}
 use Rattle.layout.specs.Frame.{trainingSync, fieldOf, coefficientsOf}
 use Rattle.layout.specs.Refusals.{hasSync, checkRefusals}
-use Rattle.ascii.specs.Text.{text}
 use Rattle.ascii.proofs.Numbers.{decimal-length, hexes-length}
 use Rattle.listing.proofs.Laws.{highest-within}
 use Rattle.sorting.specs.declared.Customer.{Customer}
 use Rattle.sorting.specs.declared.Verdict.{Verdict}
 use Rattle.sorting.specs.Verdict.{refusedVerdict, trainingVerdict, finalVerdict, judged, verdictOf}
 use Rattle.sorting.specs.Line.{shown, reason, likeCell, trainingCells, finalCells, badCells, cells, cardLine, heading}
-use Rattle.sorting.specs.Promises.{Told}
 
 -- either text
 pub cond-length : (b : Bool) (x y : List ℕ) (m : ℕ) → length x ≤ m → length y ≤ m → length (cond b x y) ≤ m
@@ -100,12 +97,3 @@ pub heading-fits : (given : Bool) → length (heading given) ≤ 128
 unfolding heading
 heading-fits true = lit≤ tt
 heading-fits false = lit≤ tt
-
--- ---- a text that fits
-
--- where the text fits the room it stands whole at its start
-pub told-whole : (text room : List ℕ) (r : ℕ) (exit : List ℕ) → Told text room r exit → length text ≤ length room → take r exit ≡ text
-told-whole text room r exit p h =
-    let e : r ≡ length text = omega (arith, p .count) in
-    let t : take r text ≡ text = take-all r text (omega arith) in
-    ap (take r) (p .room-left ∙ ap (λ (l : List ℕ). l ++ drop r room) t) ∙ take-at text (drop r room) r (sym e)

@@ -5,12 +5,9 @@ use Prim.Native.Nat.{ℕ, zero, suc, _+_, _≤_, _<_}
 use borrow.Author.Tests.{eq-eqb, ne-eqb, lt-ltb, le-ltb}
 use lib.ListN.{length, getD, take}
 use Rattle.ascii.specs.Text.{text}
-use Rattle.ascii.specs.Promises.{Put}
-use Rattle.ascii.proofs.Room.{put-first}
 use Rattle.ascii.proofs.Numbers.{word-next}
 use Rattle.sorting.specs.declared.Verdict.{Verdict}
 use Rattle.sorting.specs.Line.{shownOctet, shown, reason, likeCell, trainingCells, finalCells, badCells, goodCells, cells}
-use Rattle.sorting.specs.Promises.{Told}
 
 -- ---- a file's name
 
@@ -66,8 +63,3 @@ final-cells v z h = go (v .kind) h ∙ ap (λ (n : ℕ). cells n v) (sym z)
     go : (m : ℕ) → (m ≡ 0 → ⊥) → finalCells (v .vendor) ≡ goodCells m v
     go zero h = absurd (h refl)
     go (suc m) h = refl
-
--- ---- a text put from the first place on
-
-pub told : (text s t : List ℕ) (r : ℕ) → Put s 0 text r t → Told text s r t
-told text s t r p = let w = put-first text s t r p in record { count = w .0; room-left = w .1 }

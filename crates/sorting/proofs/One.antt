@@ -1,14 +1,13 @@
 -- One result per call. Assumes nothing.
-use mathlib.Core.Path.{_≡_, sym, ap, _∙_}
+use mathlib.Core.Path.{_≡_, sym, _∙_}
 use mathlib.Core.Bool.{Bool}
-use mathlib.Core.List.{List, _++_}
+use mathlib.Core.List.{List}
 use Prim.Native.Nat.{ℕ}
-use lib.ListN.{take, drop}
-use Rattle.ascii.proofs.One.{put-one}
+use Rattle.ascii.proofs.One.{put-one, told-one}
 use Rattle.sorting.specs.declared.Customer.{Customer}
 use Rattle.sorting.specs.declared.Verdict.{Verdict}
 use Rattle.sorting.specs.Line.{reason, cardLine, heading}
-use Rattle.sorting.specs.Promises.{Judged, Unread, IsNobody, IsCustomer, ReasonPut, Told, Headed, Lined}
+use Rattle.sorting.specs.Promises.{Judged, Unread, IsNobody, IsCustomer, ReasonPut, Headed, Lined}
 
 pub judge-one : (frame : List ℕ) (k : Customer) (r r′ : Verdict) → Judged frame k r → Judged frame k r′ → r ≡ r′
 judge-one frame k r r′ p q = p ∙ sym q
@@ -24,12 +23,6 @@ reference-one v r r′ p q = p ∙ sym q
 
 pub put-reason-one : (room : List ℕ) (at n r r′ : ℕ) (t t′ : List ℕ) → ReasonPut room at n r t → ReasonPut room at n r′ t′ → (r ≡ r′) × (t ≡ t′)
 put-reason-one room at n = put-one room at (reason n)
-
--- a text told
-pub told-one : (text room : List ℕ) (r r′ : ℕ) (t t′ : List ℕ) → Told text room r t → Told text room r′ t′ → (r ≡ r′) × (t ≡ t′)
-told-one text room r r′ t t′ p q =
-    let e : r ≡ r′ = p .count ∙ sym (q .count) in
-    (e, p .room-left ∙ ap (λ (n : ℕ). take n text ++ drop n room) e ∙ sym (q .room-left))
 
 pub header-one : (given : Bool) (room : List ℕ) (r r′ : ℕ) (t t′ : List ℕ) → Headed given room r t → Headed given room r′ t′ → (r ≡ r′) × (t ≡ t′)
 header-one given = told-one (heading given)

@@ -1,10 +1,9 @@
 -- What sorting promises.
 use mathlib.Core.Path.{_≡_}
 use mathlib.Core.Bool.{Bool}
-use mathlib.Core.List.{List, _++_}
-use Prim.Native.Nat.{ℕ, min}
-use lib.ListN.{length, take, drop}
-use Rattle.ascii.specs.Promises.{Put}
+use mathlib.Core.List.{List}
+use Prim.Native.Nat.{ℕ}
+use Rattle.ascii.specs.Promises.{Put, Told}
 use Rattle.sorting.specs.declared.Customer.{Customer}
 use Rattle.sorting.specs.declared.Verdict.{Verdict}
 use Rattle.sorting.specs.Verdict.{verdictOf, refusedVerdict, nobody, customerOf}
@@ -25,11 +24,6 @@ IsNobody r = r ≡ nobody
 -- reference
 abbrev pub IsCustomer : Verdict → Customer → Type 0
 IsCustomer v r = r ≡ customerOf v
-
--- a text told: the first r octets of the room are the text, cut where the room ends; the others are as they were
-pub record Told (text room : List ℕ) (r : ℕ) (exit : List ℕ) : Type 0 where
-  pub count : r ≡ min (length text) (length room)
-  pub room-left : exit ≡ take r text ++ drop r room
 
 -- put_reason
 abbrev pub ReasonPut : List ℕ → ℕ → ℕ → ℕ → List ℕ → Type 0

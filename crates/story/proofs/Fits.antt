@@ -1,17 +1,16 @@
 -- Every line fits a room of 192 octets, so that nothing is cut there: its numbers are those of the code, below 2 ^ 32. Assumes nothing.
-use mathlib.Core.Path.{_≡_, sym, ap, _∙_}
+use mathlib.Core.Path.{_≡_}
 use mathlib.Core.Bool.{Bool, true, false, cond, _||_}
-use mathlib.Core.List.{List, [], _++_}
+use mathlib.Core.List.{List, []}
 use Prim.Native.Nat.{ℕ, _+_, _-_, _^_, _≤_, _<_}
 use Prim.Native.String.{String}
 use native.Mathlib.Omega.{arith}
 use lib.Dec.{eqb, lit≤, lit<}
-use lib.ListN.{length, take, drop, length-append}
-use lib.Seq.{take-all, take-at}
+use lib.ListN.{length, take, length-append}
 use Rattle.ascii.specs.Text.{text, decimal}
 use Rattle.ascii.specs.Promises.{Put}
 use Rattle.ascii.proofs.Numbers.{decimal-length}
-use Rattle.ascii.proofs.Room.{put-first}
+use Rattle.ascii.proofs.Room.{told, told-whole}
 use Rattle.startup.specs.declared.Supervisor.{Supervisor}
 use Rattle.startup.specs.Phases.{Ready, Gap, Await, Cr, Hearing, Quiet, Sc, Sr, Tc, Tr, Fc, Settling, Valid, Exception, inAttempt}
 use Rattle.story.specs.declared.Story.{Story}
@@ -112,8 +111,4 @@ refused-fits n l h i = simp length-append (omega (arith, number-length n h, numb
 
 -- what fits stands whole at the start of the room
 pub whole : (line room exit : List ℕ) (r : ℕ) → Put room 0 line r exit → length line ≤ 192 → 192 ≤ length room → take r exit ≡ line
-whole line room exit r p h l =
-    let w = put-first line room exit r p in
-    let e : r ≡ length line = omega (arith, w .0) in
-    let t : take r line ≡ line = take-all r line (omega arith) in
-    ap (take r) (w .1 ∙ ap (λ (x : List ℕ). x ++ drop r room) t) ∙ take-at line (drop r room) r (sym e)
+whole line room exit r p h l = told-whole line room r exit (told line room exit r p) (omega arith)

@@ -17,7 +17,7 @@ use Rattle.startup.specs.Run.{eventOf as attemptEvent}
 use Rattle.startup.proofs.Laws.{legal}
 use Rattle.story.specs.declared.Story.{Story}
 use Rattle.story.specs.declared.Event.{Event}
-use Rattle.story.specs.Events.{story, refusedWith, kindWith, kindOf, sinceOpening, numberOf, told, refusals, eventWith, startWith}
+use Rattle.story.specs.Events.{story, refusedWith, kindWith, kindOf, sinceOpening, numberOf, told, eventWith, startWith}
 use Rattle.story.specs.Texts.{numbered, lasts, leftText}
 
 -- ---- what there is to tell

@@ -3,7 +3,7 @@ use mathlib.Core.Path.{_≡_}
 use mathlib.Core.Bool.{Bool}
 use mathlib.Core.List.{List}
 use Prim.Native.Nat.{ℕ}
-use Rattle.sorting.proofs.One.{told-one}
+use Rattle.ascii.proofs.One.{told-one}
 use Rattle.tally.specs.Totals.{totalsText}
 use Rattle.tally.specs.Promises.{Totalled}
 

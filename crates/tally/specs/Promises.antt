@@ -2,7 +2,7 @@
 use mathlib.Core.Bool.{Bool}
 use mathlib.Core.List.{List}
 use Prim.Native.Nat.{ℕ}
-use Rattle.sorting.specs.Promises.{Told}
+use Rattle.ascii.specs.Promises.{Told}
 use Rattle.tally.specs.Totals.{totalsText}
 
 -- totals

@@ -1,14 +1,13 @@
 -- Laws of writing a frame, field behind field. Assumes nothing.
 use mathlib.Core.Path.{_≡_, refl, sym, ap, ap₂, _∙_, subst}
 use mathlib.Core.List.{List, _++_, append-assoc, reverse}
-use Prim.Native.Nat.{ℕ, zero, suc, _+_, _-_, _*_, _≤_, _<_}
+use Prim.Native.Nat.{ℕ, _+_, _-_, _*_, _≤_, _<_}
 use native.Mathlib.Omega.{arith}
 use lib.Dec.{lit≤}
 use lib.IntN.{ℤ, pos}
-use lib.ListN.{length, getD, take, drop, replicate, length-append, length-drop, length-replicate, replicate-append-replicate, List·getD-append, getD-replicate}
+use lib.ListN.{length, getD, take, drop, replicate, length-append, length-drop, List·getD-append, getD-replicate}
 use lib.Seq.{getD-take, getD-append-add, length-take-le, sets-eq, take-at, take-all, take-add}
 use Rattle.octets.specs.Bits.{digitsOf, valueOf, bitsOf, octetsOf, part, laid}
-use Rattle.octets.specs.Signed.{twosOf, numberBits}
 use Rattle.octets.proofs.Digits.{Bits, append-bits, digits-length, digits-bits, zeros-bits, take-bits, drop-bits}
 use Rattle.octets.proofs.Laws.{bits-length, bits-bits, laid-bits, laid-next, laid-end}
 use Rattle.octets.proofs.Numbers.{number-length, number-bits}
@@ -144,17 +143,6 @@ module _ (f v word X : List ℕ) (a b : ℕ) (lf : length f ≡ 529) (lw : lengt
       let n : 0 + length word ≡ 14 = omega arith in
       let p = parts-put s₂ (laid-next f 0 word X 14 bw n e₁ e₂) in
       e ∙ ap₂ (λ (x y : List ℕ). octetsOf 529 (frameBits x (y ++ (digitsOf 21 a ++ (digitsOf 21 b ++ (bitsOf v ++ replicate 67 0)))))) (p .0) (p .1)
-
-zeros-length : (n : ℕ) → length (replicate {A = ℕ} n 0) ≡ n
-zeros-length n = length-replicate n zero
-
--- coefficients that are zero
-pub zero-coefficients : (n : ℕ) → coefficientBits (replicate n (pos 0)) ≡ replicate (22 * n) 0
-unfolding numberBits digitsOf twosOf
-zero-coefficients zero = refl
-zero-coefficients (suc n) =
-    let e : 22 + 22 * n ≡ 22 * suc n = omega arith in
-    ap (λ (l : List ℕ). replicate 22 0 ++ l) (zero-coefficients n) ∙ replicate-append-replicate 22 (22 * n) 0 ∙ ap (λ (k : ℕ). replicate k 0) e
 
 module _ (f v : List ℕ) (lf : length f ≡ 529) (s₁ s₂ t : List ℕ) where
   pub training-put : (count : ℕ) (cs : List ℤ) (a b : ℕ) → count ≤ 180 → length cs ≡ 180

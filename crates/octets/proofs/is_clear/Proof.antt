@@ -1,13 +1,10 @@
 -- `octets::is_clear` meets its contract. The k bits passed have the value 0.
 use borrow.Author.Needs.{needs}
-use mathlib.Core.Path.{_≡_, refl, sym, ap, subst, _∙_}
-use Prim.Native.Nat.{ℕ, suc, _+_, _-_, _*_, _/_, _%_, _^_, _≤_, _<_}
-use native.Mathlib.Numerals.{add-one}
+use mathlib.Core.Path.{_≡_, refl, sym, subst, _∙_}
+use Prim.Native.Nat.{ℕ, _-_, _≤_}
 use native.Mathlib.Omega.{arith}
 use borrow.Author.Tests.{eq-eqb, ne-eqb}
-use lib.ListN.{drop}
-use lib.Dec.{eqb}
-use Rattle.octets.specs.Bits.{bitsOf, bitOf, valueOf, part}
+use Rattle.octets.specs.Bits.{bitsOf, valueOf, part}
 use Rattle.octets.proofs.Laws.{clear-next, clear-not}
 use Rattle.octets.proofs.is_clear.Statement.{statement}
 use Rattle.octets.proofs.is_clear.Tie as tie

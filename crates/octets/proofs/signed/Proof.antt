@@ -1,15 +1,14 @@
 -- `octets::signed` meets its contract.
 use borrow.Author.Needs.{needs}
-use mathlib.Core.Path.{_≡_, sym, ap, subst, _∙_}
+use mathlib.Core.Path.{_≡_, sym, ap, _∙_}
 use mathlib.Core.Logic.{_≢_}
 use Prim.Native.Nat.{ℕ, _-_, _*_, _%_, _^_, _≤_, _<_}
 use native.Mathlib.Omega.{arith}
-use lib.IntN.{ℤ, pos, negsuc, _-ℤ_}
+use lib.IntN.{pos, negsuc}
 use lib.Pow.{pow-mono}
 use mir.Syntax.{w32}
-use mir.Val.{SFits, toZ, ofZ}
+use mir.Val.{SFits, toZ}
 use mir.Facts.{toZ-ofZ, toZ-pos}
-use Rattle.octets.specs.Signed.{signedOf}
 use Rattle.octets.proofs.Complement.{twice, signed-low, signed-high, half-is, less-one}
 use Rattle.octets.proofs.signed.Statement.{statement}
 use Rattle.octets.proofs.signed.Tie as tie

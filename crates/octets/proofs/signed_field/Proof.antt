@@ -1,6 +1,6 @@
 -- `octets::signed_field` meets its contract.
 use borrow.Author.Needs.{needs}
-use mathlib.Core.Path.{_≡_, sym, ap₂, subst, _∙_}
+use mathlib.Core.Path.{sym, ap₂, subst, _∙_}
 use Prim.Native.Nat.{ℕ, _^_, _<_, min}
 use native.Mathlib.Omega.{arith}
 use lib.ListN.{drop}

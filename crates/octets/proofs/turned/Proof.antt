@@ -1,11 +1,10 @@
 -- `octets::turned` meets its contract. After k turns r has the k low digits of v, the other end first.
-use mathlib.Core.Path.{_≡_, refl, sym, ap, subst, _∙_}
+use mathlib.Core.Path.{_≡_, sym, ap, subst, _∙_}
 use mathlib.Core.List.{reverse}
 use borrow.Author.Needs.{needs}
 use Prim.Native.Nat.{ℕ, _+_, _-_, _*_, _/_, _%_, _^_, _≤_, _<_, min}
 use native.Mathlib.Nat.{div-one}
 use native.Mathlib.Omega.{arith}
-use lib.ListN.{length-reverse}
 use lib.Pow.{pow-mono}
 use Rattle.octets.specs.Bits.{digitsOf, valueOf}
 use Rattle.octets.proofs.Digits.{turned-next, rest-next, turned-lt, turned-none}

@@ -4,7 +4,7 @@ use mathlib.Core.Path.{sym, ap}
 use Rattle.ascii.specs.Text.{text}
 use Rattle.ascii.proofs.Room.{put-more, put-as}
 use Rattle.sorting.specs.Line.{heading}
-use Rattle.sorting.proofs.Lines.{told}
+use Rattle.ascii.proofs.Room.{told}
 use Rattle.sorting.proofs.header.Statement.{statement}
 use Rattle.sorting.proofs.header.Tie as tie
 

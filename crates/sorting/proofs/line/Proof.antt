@@ -4,7 +4,7 @@ use mathlib.Core.List.{_++_}
 use Rattle.ascii.specs.Text.{text}
 use Rattle.ascii.proofs.Room.{put-more}
 use Rattle.sorting.specs.Line.{shown, likeCell, cells, cardLine}
-use Rattle.sorting.proofs.Lines.{told}
+use Rattle.ascii.proofs.Room.{told}
 use Rattle.sorting.proofs.line.Statement.{statement}
 use Rattle.sorting.proofs.line.Tie as tie
 

@@ -3,7 +3,7 @@ use borrow.Author.Needs.{needs}
 use mathlib.Core.List.{_++_}
 use Rattle.ascii.proofs.Room.{put-more, put-as}
 use Rattle.tally.specs.Totals.{reasonLines, likeLines, lastLine, cardsLine, totalsText}
-use Rattle.sorting.proofs.Lines.{told}
+use Rattle.ascii.proofs.Room.{told}
 use Rattle.tally.proofs.Counting.{totals-are}
 use Rattle.tally.proofs.totals.Statement.{statement}
 use Rattle.tally.proofs.totals.Tie as tie

@@ -1,12 +1,11 @@
 -- `writer::put_coefficients` meets its contract. After k turns the fields of the first k coefficients are laid behind sync.
 use borrow.Author.Needs.{needs}
 use mathlib.Core.Path.{_≡_, refl, ap, _∙_}
-use Prim.Native.Nat.{ℕ, _+_, _-_, _*_, _≤_, _<_}
+use Prim.Native.Nat.{_+_, _-_, _*_, _≤_}
 use native.Mathlib.Omega.{arith}
-use lib.IntN.{ℤ, pos}
-use lib.ListN.{length, getD, take}
+use lib.IntN.{ℤ}
+use lib.ListN.{length, take}
 use lib.Seq.{take-all}
-use mir.Facts.{toZ-ofZ}
 use Rattle.octets.specs.Bits.{digitsOf, laid}
 use Rattle.octets.specs.Signed.{twosOf}
 use Rattle.octets.proofs.Laws.{laid-none, laid-length}

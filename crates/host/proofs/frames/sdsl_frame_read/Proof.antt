@@ -1,7 +1,7 @@
 -- `host::frames::sdsl_frame_read` meets its contract.
 use borrow.Author.Needs.{needs}
-use borrow.Author.Tests.{eq-eqb, ne-eqb}
-use mathlib.Core.Path.{_≡_, refl, sym, ap, _∙_}
+use borrow.Author.Tests.{ne-eqb}
+use mathlib.Core.Path.{refl}
 use Rattle.host.proofs.FrameLaws.{refused-out, training-out, final-out}
 use Rattle.host.proofs.frames.sdsl_frame_read.Statement.{statement}
 use Rattle.host.proofs.frames.sdsl_frame_read.Tie as tie

@@ -1,6 +1,6 @@
 -- `host::supervisor::sdsl_run_codes` meets its contract.
 use borrow.Author.Needs.{needs}
-use mathlib.Core.Path.{_≡_, ap, _∙_}
+use mathlib.Core.Path.{ap, _∙_}
 use Rattle.startup.specs.declared.Supervisor.{Supervisor as State}
 use Rattle.startup.specs.Run.{runOf}
 use Rattle.host.specs.declared.supervisor.Supervisor.{Supervisor}

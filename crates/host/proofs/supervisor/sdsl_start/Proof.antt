@@ -1,6 +1,6 @@
 -- `host::supervisor::sdsl_start` meets its contract.
 use borrow.Author.Needs.{needs}
-use mathlib.Core.Path.{_≡_, ap, _∙_}
+use mathlib.Core.Path.{ap, _∙_}
 use Rattle.host.specs.Supervisor.{steppedOf}
 use Rattle.host.proofs.supervisor.sdsl_start.Statement.{statement}
 use Rattle.host.proofs.supervisor.sdsl_start.Tie as tie

@@ -1,6 +1,6 @@
 -- `host::supervisor::stepped_out` meets its contract.
 use borrow.Author.Needs.{needs}
-use mathlib.Core.Path.{_≡_, ap}
+use mathlib.Core.Path.{ap}
 use Rattle.host.specs.declared.supervisor.Supervisor.{Supervisor}
 use Rattle.host.proofs.supervisor.stepped_out.Statement.{statement}
 use Rattle.host.proofs.supervisor.stepped_out.Tie as tie

@@ -1,9 +1,7 @@
 -- `scrambler::Scrambler::frame` meets its contract.
-use borrow.Author.Needs.{needs}
 use mathlib.Core.Path.{_≡_, refl, sym, ap, subst, _∙_}
 use Prim.Native.Nat.{ℕ, _≤_}
 use native.Mathlib.Omega.{arith}
-use lib.ListN.{length}
 use Rattle.answer.specs.Answer.{answer}
 use Rattle.octets.specs.Bits.{laid}
 use Rattle.scrambler.specs.Run.{runOf, afterOf, wayOf}

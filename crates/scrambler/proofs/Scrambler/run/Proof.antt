@@ -1,10 +1,8 @@
 -- `scrambler::Scrambler::run` meets its contract.
 use borrow.Author.Needs.{needs}
-use mathlib.Core.Path.{_≡_, sym, ap, subst, _∙_}
-use mathlib.Core.List.{List}
+use mathlib.Core.Path.{sym, ap, subst, _∙_}
 use Prim.Native.Nat.{ℕ, _≤_}
 use native.Mathlib.Omega.{arith}
-use Rattle.answer.specs.Answer.{answer}
 use Rattle.octets.specs.Bits.{bitsOf, part, laid}
 use Rattle.scrambler.specs.Run.{runOf, afterOf, wayOf}
 use Rattle.scrambler.proofs.Laws.{tap-range, run-refused, run-sound}

@@ -1,8 +1,7 @@
 -- `scrambler::Scrambler::step` meets its contract.
 use borrow.Author.Needs.{needs}
-use mathlib.Core.Path.{_≡_, sym, ap, subst, _∙_}
+use mathlib.Core.Path.{sym, ap, subst, _∙_}
 use Prim.Native.Nat.{ℕ, _≤_}
-use Rattle.scrambler.specs.Line.{tapOf}
 use Rattle.scrambler.specs.Run.{outOf, nextOf, wayOf}
 use Rattle.scrambler.proofs.Laws.{tap-range, step-refused, step-done, step-sound}
 use Rattle.scrambler.proofs.Scrambler.step.Statement.{statement}
