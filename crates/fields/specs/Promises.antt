@@ -7,7 +7,7 @@ use lib.ListN.{length}
 use denote.Ref.{RefT, now}
 use Rattle.octets.specs.Bits.{valueOf, bitsOf, part}
 use Rattle.octets.specs.Signed.{signedOf}
-use Rattle.octets.specs.Promises.{FieldRead, SignedRead, behindOf}
+use Rattle.words.specs.Promises.{FieldRead, SignedRead, behindOf}
 use Rattle.fields.specs.declared.FieldReader.{FieldReader}
 use Rattle.fields.specs.declared.Taken.{Taken}
 use Rattle.fields.specs.declared.TakenPair.{TakenPair}

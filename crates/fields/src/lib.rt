@@ -21,8 +21,8 @@ impl<'a> FieldReader<'a> {
     pub fn take(&mut self, w: u32) -> u32
         ensures { λ v. ⌜ FieldTaken (now (self .entry)) w v (now (self .exit)) ⌝ }
     {
-        let v = octets::field(self.frame, self.at, w);
-        self.at = octets::behind(self.at, w);
+        let v = words::field(self.frame, self.at, w);
+        self.at = words::behind(self.at, w);
         v
     }
 
@@ -30,8 +30,8 @@ impl<'a> FieldReader<'a> {
     pub fn take_signed(&mut self, w: u32) -> i32
         ensures { λ v. ⌜ SignedTaken (now (self .entry)) w v (now (self .exit)) ⌝ }
     {
-        let v = octets::signed_field(self.frame, self.at, w);
-        self.at = octets::behind(self.at, w);
+        let v = words::signed_field(self.frame, self.at, w);
+        self.at = words::behind(self.at, w);
         v
     }
 }

@@ -113,8 +113,8 @@ pub fn list(frame: &[u8], room: &mut [u8]) -> usize
     if found.answer != answer::DONE {
         return put_number_line(room, 0, b"refused ", found.answer);
     }
-    let bits = octets::field(frame, layout::CHECK_AT, layout::CHECK_BITS);
-    let check = octets::turned(layout::CHECK_BITS, bits);
+    let bits = words::field(frame, layout::CHECK_AT, layout::CHECK_BITS);
+    let check = words::turned(layout::CHECK_BITS, bits);
     if found.kind == layout::TRAINING {
         put_training(room, &cs, found.a, found.b, &vendor, check)
     } else {

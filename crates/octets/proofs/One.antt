@@ -3,10 +3,10 @@ use mathlib.Core.Path.{_≡_, sym, _∙_}
 use mathlib.Core.Bool.{Bool}
 use mathlib.Core.List.{List}
 use Prim.Native.Nat.{ℕ}
-use lib.IntN.{ℤ}
-use Rattle.octets.specs.Promises.{BitRead, BitPut, HasBit, FieldRead, FieldPut, SignedRead, SignedPut, Turned, Copied, Cleared, IsClear, Behind}
+use Rattle.octets.specs.Promises.{BitRead, BitPut, HasBit, Copied, Cleared, IsClear}
 
-both : {A : Type 0} {x y z : A} → x ≡ z → y ≡ z → x ≡ y
+-- two that are equal to a third
+pub both : {A : Type 0} {x y z : A} → x ≡ z → y ≡ z → x ≡ y
 both p q = p ∙ sym q
 
 pub bit-one : (s : List ℕ) (at k r r′ : ℕ) → BitRead s at k r → BitRead s at k r′ → r ≡ r′
@@ -18,21 +18,6 @@ put-bit-one s at k b t t′ p q = both p q
 pub has-one : (s : List ℕ) (at k : ℕ) (r r′ : Bool) → HasBit s at k r → HasBit s at k r′ → r ≡ r′
 has-one s at k r r′ p q = both p q
 
-pub field-one : (s : List ℕ) (at w r r′ : ℕ) → FieldRead s at w r → FieldRead s at w r′ → r ≡ r′
-field-one s at w r r′ p q = both p q
-
-pub put-field-one : (s : List ℕ) (at w v : ℕ) (t t′ : List ℕ) → FieldPut s at w v t → FieldPut s at w v t′ → t ≡ t′
-put-field-one s at w v t t′ p q = both p q
-
-pub signed-field-one : (s : List ℕ) (at w : ℕ) (r r′ : ℤ) → SignedRead s at w r → SignedRead s at w r′ → r ≡ r′
-signed-field-one s at w r r′ p q = both p q
-
-pub put-signed-field-one : (s : List ℕ) (at w : ℕ) (v : ℤ) (t t′ : List ℕ) → SignedPut s at w v t → SignedPut s at w v t′ → t ≡ t′
-put-signed-field-one s at w v t t′ p q = both p q
-
-pub turned-one : (w v r r′ : ℕ) → Turned w v r → Turned w v r′ → r ≡ r′
-turned-one w v r r′ p q = both p q
-
 pub copy-one : (s : List ℕ) (at : ℕ) (source : List ℕ) (from n : ℕ) (t t′ : List ℕ) → Copied s at source from n t → Copied s at source from n t′ → t ≡ t′
 copy-one s at source from n t t′ p q = both p q
 
@@ -41,6 +26,3 @@ clear-one s at n t t′ p q = both p q
 
 pub is-clear-one : (s : List ℕ) (at n : ℕ) (r r′ : Bool) → IsClear s at n r → IsClear s at n r′ → r ≡ r′
 is-clear-one s at n r r′ p q = both p q
-
-pub behind-one : (at w r r′ : ℕ) → Behind at w r → Behind at w r′ → r ≡ r′
-behind-one at w r r′ p q = both p q

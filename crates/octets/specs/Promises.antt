@@ -1,13 +1,11 @@
 -- What each function of the crate promises: of its arguments, its result r and what lent octets hold at exit.
 use mathlib.Core.Path.{_≡_}
 use mathlib.Core.Bool.{Bool}
-use mathlib.Core.List.{List, [], _∷_, reverse}
-use Prim.Native.Nat.{ℕ, _+_, _-_, _%_, _^_, min}
+use mathlib.Core.List.{List, [], _∷_}
+use Prim.Native.Nat.{ℕ, _+_, _%_}
 use lib.Dec.{eqb, ltb}
-use lib.IntN.{ℤ}
 use lib.ListN.{length, replicate}
-use Rattle.octets.specs.Bits.{digitsOf, valueOf, bitsOf, bitOf, part, laid}
-use Rattle.octets.specs.Signed.{signedOf, twosOf}
+use Rattle.octets.specs.Bits.{valueOf, bitsOf, bitOf, part, laid}
 
 -- bit
 abbrev pub BitRead : List ℕ → ℕ → ℕ → ℕ → Type 0
@@ -21,26 +19,6 @@ BitPut s at k b exit = exit ≡ laid s (at + k) (b % 2 ∷ [])
 abbrev pub HasBit : List ℕ → ℕ → ℕ → Bool → Type 0
 HasBit s at k r = r ≡ ltb (at + k) (length (bitsOf s))
 
--- field
-abbrev pub FieldRead : List ℕ → ℕ → ℕ → ℕ → Type 0
-FieldRead s at w r = r ≡ valueOf (part at (min w 32) (bitsOf s))
-
--- put_field
-abbrev pub FieldPut : List ℕ → ℕ → ℕ → ℕ → List ℕ → Type 0
-FieldPut s at w v exit = exit ≡ laid s at (digitsOf (min w 32) v)
-
--- signed_field
-abbrev pub SignedRead : List ℕ → ℕ → ℕ → ℤ → Type 0
-SignedRead s at w r = r ≡ signedOf (min w 32) (valueOf (part at (min w 32) (bitsOf s)))
-
--- put_signed_field
-abbrev pub SignedPut : List ℕ → ℕ → ℕ → ℤ → List ℕ → Type 0
-SignedPut s at w v exit = exit ≡ laid s at (digitsOf (min w 32) (twosOf (min w 32) v))
-
--- turned: the w low digits of v, the other end first
-abbrev pub Turned : ℕ → ℕ → ℕ → Type 0
-Turned w v r = r ≡ valueOf (reverse (digitsOf (min w 32) v))
-
 -- copy
 abbrev pub Copied : List ℕ → ℕ → List ℕ → ℕ → ℕ → List ℕ → Type 0
 Copied s at source from n exit = exit ≡ laid s at (part from n (bitsOf source))
@@ -52,11 +30,3 @@ Cleared s at n exit = exit ≡ laid s at (replicate n 0)
 -- is_clear
 abbrev pub IsClear : List ℕ → ℕ → ℕ → Bool → Type 0
 IsClear s at n r = r ≡ eqb (valueOf (part at n (bitsOf s))) 0
-
--- the place behind a field of w bits; the last place that a number can name where there is none
-abbrev pub behindOf : ℕ → ℕ → ℕ
-behindOf at w = min (at + min w 32) (2 ^ 64 - 1)
-
--- behind
-abbrev pub Behind : ℕ → ℕ → ℕ → Type 0
-Behind at w r = r ≡ behindOf at w

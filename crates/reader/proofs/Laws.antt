@@ -14,7 +14,7 @@ use Rattle.answer.proofs.Laws.{kept, given}
 use Rattle.octets.specs.Bits.{digitsOf, valueOf, bitsOf, octetsOf, part, laid}
 use Rattle.octets.proofs.Digits.{digits-value, take-bits, drop-bits}
 use Rattle.octets.proofs.Laws.{bits-length, bits-bits, laid-end}
-use Rattle.octets.specs.Promises.{behindOf}
+use Rattle.words.specs.Promises.{behindOf}
 use Rattle.fields.specs.declared.Taken.{Taken}
 use Rattle.fields.specs.declared.TakenPair.{TakenPair}
 use Rattle.fields.specs.Promises.{SingleTaken, PairTaken, SignedFilled, signedFrom, behindAll}

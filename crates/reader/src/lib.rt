@@ -35,7 +35,7 @@ fn checks(frame: &[u8], c: u32) -> bool
     ensures { λ r. ⌜ r ≡ eqb (polynomial (fieldOf check (bitsOf (now (frame .entry))))) (checkOf (messageOf (bitsOf (now (frame .entry))))) ⌝ }
 {
     let r = remainder::check_bits(frame, layout::COEFFICIENTS_AT, layout::MESSAGE_BITS);
-    octets::turned(layout::CHECK_BITS, c) == r
+    words::turned(layout::CHECK_BITS, c) == r
 }
 
 // What is wrong with a frame of the right length, or 0.

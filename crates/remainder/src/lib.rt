@@ -65,14 +65,14 @@ fn by_words(register: u32, s: &[u8], at: usize, count: u32) -> u32
     requires { ⌜ (register < 2 ^ 16) × ((count ≡ 0) ⊎ ((at + 32 * count < 2 ^ 64) × (at + 32 * count ≤ 8 * length (now s)))) ⌝ }
     ensures { λ r. ⌜ r ≡ registerOf 16 generator register (part at (32 * count) (bitsOf (now (s .entry)))) ⌝ }
 {
-    let mut turned = octets::turned(DEGREE, register);
+    let mut turned = words::turned(DEGREE, register);
     let mut k: u32 = 0;
     while k < count {
-        let bits = octets::field(s, at + (WORD as usize) * (k as usize), WORD);
+        let bits = words::field(s, at + (WORD as usize) * (k as usize), WORD);
         turned = word_step(turned, bits);
         k += 1;
     }
-    octets::turned(DEGREE, turned)
+    words::turned(DEGREE, turned)
 }
 
 // The register after the bits from the one `from` places behind place `at` on, up to n places behind it. Nothing past the end counts.

@@ -128,17 +128,17 @@ fn by_words(
     ensures { λ r. ⌜ (r ≡ afterOf (wayOf back) tap start (part at (32 * count) (bitsOf (now (input .entry)))))
         × (now (output .exit) ≡ laid (now (output .entry)) at (runOf (wayOf back) tap start (part at (32 * count) (bitsOf (now (input .entry)))))) ⌝ }
 {
-    let mut window = octets::turned(23, start);
+    let mut window = words::turned(23, start);
     let mut k: u32 = 0;
     while k < count {
         let place = (at as usize) + (WORD as usize) * (k as usize);
-        let bits = octets::field(input, place, WORD);
+        let bits = words::field(input, place, WORD);
         let out = word_out(back, tap, window, bits);
-        octets::put_field(output, place, WORD, out);
+        words::put_field(output, place, WORD, out);
         window = on_line(back, bits, out) >> 9;
         k += 1;
     }
-    octets::turned(23, window)
+    words::turned(23, window)
 }
 
 // The run over the bits from the one `from` places behind place `at` on, up to so many behind it: the state after it.

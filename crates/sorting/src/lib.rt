@@ -46,7 +46,7 @@ fn like(given: bool, x: u32, y: u32) -> u32
     if !given {
         return NO_CUSTOMER;
     }
-    let last_first = octets::turned(layout::WORD_BITS, y);
+    let last_first = words::turned(layout::WORD_BITS, y);
     if x == y {
         return SAME;
     }
