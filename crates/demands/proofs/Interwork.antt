@@ -19,12 +19,14 @@ use Rattle.layout.specs.Frame.{used, trainingBits, finalBits, fieldOf, coeffici
 use Rattle.layout.specs.Refusals.{bitRefusals, hasSync}
 use Rattle.layout.proofs.RoundTrip.{training-laid, training-answers, a-back, b-back, used-back, vendor-back, final-laid, final-answers, final-vendor}
 use Rattle.numbers.specs.Promises.{numbersOf, numberOctets}
-use Rattle.scrambler.specs.Line.{tapOf, newest}
-use Rattle.scrambler.specs.Run.{scramble, descramble, runOf}
+use Rattle.line.specs.Line.{newest}
+use Rattle.scrambler.specs.Ends.{tapOf}
+use Rattle.line.specs.Run.{scramble, descramble, runOf}
 use Rattle.scrambler.specs.Promises.{frameOut}
 use Rattle.scrambler.specs.declared.Scrambler.{Scrambler}
-use Rattle.scrambler.proofs.Laws.{tap-range, run-bits}
-use Rattle.scrambler.proofs.Exactly.{scrambles-run, descrambles-run, back as comes-back}
+use Rattle.line.proofs.Laws.{run-bits}
+use Rattle.scrambler.proofs.Laws.{tap-range}
+use Rattle.line.proofs.Exactly.{scrambles-run, descrambles-run, back as comes-back}
 use Rattle.scrambler.proofs.Frames.{received, pad-out, frame-back}
 use Rattle.ranges.specs.Ranges.{every}
 use Rattle.signal.specs.Signal.{isSignal, pastAfter}

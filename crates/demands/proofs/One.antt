@@ -13,7 +13,7 @@ use Rattle.layout.specs.Places.{wordA, wordB}
 use Rattle.layout.specs.Frame.{trainingSync, fieldOf}
 use Rattle.layout.specs.Refusals.{hasSync}
 use Rattle.layout.proofs.Order.{check-order}
-use Rattle.scrambler.specs.Run.{Way}
+use Rattle.line.specs.Run.{Way}
 use Rattle.scrambler.proofs.One.{run-order as scrambler-order, frame-order}
 use Rattle.symbol.specs.declared.Encoder.{Encoder}
 use Rattle.symbol.proofs.Order.{activation-order, data-order, back-order, step-order, run-order}

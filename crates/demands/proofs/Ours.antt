@@ -13,8 +13,8 @@ use Rattle.layout.specs.Refusals.{checkRefusals}
 use Rattle.numbers.specs.Promises.{numbersOf, numberOctets}
 use Rattle.writer.specs.Promises.{frameOctets}
 use Rattle.reader.specs.Promises.{foundOf, vendorOctets}
-use Rattle.scrambler.specs.Line.{tapOf}
-use Rattle.scrambler.specs.Run.{runOf, afterOf}
+use Rattle.scrambler.specs.Ends.{tapOf}
+use Rattle.line.specs.Run.{runOf, afterOf}
 use Rattle.symbol.specs.Levels.{activationLevels, dataLevels, levelAt, placeIn, activationTests, dataTests, backTests}
 use Rattle.symbol.specs.Encoder.{codeOf, codesOf, x1, sentAfter, heldIn, registerOf, withRegister}
 use Rattle.signal.specs.Signal.{isSignal}

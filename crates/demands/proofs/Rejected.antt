@@ -21,8 +21,8 @@ use Rattle.layout.proofs.Laws.{used-length, training-length}
 use Rattle.layout.proofs.Fields.{a-field, b-field}
 use Rattle.layout.proofs.RoundTrip.{training-laid, final-laid, final-answers}
 use Rattle.numbers.specs.Promises.{numbersOf, numberOctets}
-use Rattle.scrambler.specs.Run.{Way, scramble, descramble, runOf}
-use Rattle.scrambler.proofs.Exactly.{scrambles-run, descrambles-run}
+use Rattle.line.specs.Run.{Way, scramble, descramble, runOf}
+use Rattle.line.proofs.Exactly.{scrambles-run, descrambles-run}
 use Rattle.ranges.specs.Ranges.{every}
 use Rattle.symbol.specs.Levels.{placeIn}
 use Rattle.symbol.specs.Encoder.{symbolsIn}

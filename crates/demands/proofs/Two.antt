@@ -21,11 +21,11 @@ use Rattle.layout.specs.Frame.{trainingBits, finalBits, fieldOf, messageOf, coe
 use Rattle.layout.specs.Refusals.{bitRefusals}
 use Rattle.layout.proofs.RoundTrip.{training-laid, training-answers, final-laid, final-answers, sound}
 use Rattle.numbers.specs.Promises.{numbersOf, numberOctets}
-use Rattle.scrambler.specs.Line.{tapOf}
-use Rattle.scrambler.specs.Run.{Way, scramble, descramble, runOf, afterOf}
+use Rattle.scrambler.specs.Ends.{tapOf}
+use Rattle.line.specs.Run.{Way, scramble, descramble, runOf, afterOf}
 use Rattle.scrambler.specs.declared.Scrambler.{Scrambler}
 use Rattle.scrambler.proofs.Laws.{tap-range, run-sound, frame-sound}
-use Rattle.scrambler.proofs.Exactly.{run-scrambles, run-descrambles, scrambled-state, descrambled-state}
+use Rattle.line.proofs.Exactly.{run-scrambles, run-descrambles, scrambled-state, descrambled-state}
 use Rattle.symbol.specs.declared.Encoder.{Encoder}
 use Rattle.symbol.specs.Levels.{dataLevels, levelAt}
 use Rattle.symbol.proofs.Levels.{code-of-level}

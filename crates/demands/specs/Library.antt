@@ -4,7 +4,7 @@ use mathlib.Core.List.{List}
 use Prim.Native.Nat.{ℕ}
 use lib.Ieee.{Float}
 use lib.IntN.{ℤ}
-use Rattle.scrambler.specs.Run.{Way}
+use Rattle.line.specs.Run.{Way}
 use Rattle.host.specs.declared.supervisor.Supervisor.{Supervisor}
 
 -- what a call gives: the answer's number, every other number returned, and what the state and the lent memory that it may write hold afterwards

@@ -8,7 +8,7 @@ use lib.Ieee.{binary32, ofBits}
 use lib.IntN.{pos}
 use Rattle.answer.specs.Answer.{Refusal, wrongLength, answer, inOrder}
 use Rattle.layout.specs.Refusals.{writeRefusals, checkRefusals}
-use Rattle.scrambler.specs.Run.{Way}
+use Rattle.line.specs.Run.{Way}
 use Rattle.scrambler.specs.Promises.{runRefusals, frameRefusals}
 use Rattle.numbers.specs.Promises.{numbersOf}
 use Rattle.symbol.specs.Levels.{activationTests, dataTests, backTests}

@@ -13,8 +13,9 @@ use Rattle.layout.specs.Places.{wordA, wordB, vendor, check}
 use Rattle.layout.specs.Frame.{trainingSync, used, trainingBits, finalBits, fieldOf, messageOf, coefficientsOf}
 use Rattle.layout.specs.Refusals.{hasSync}
 use Rattle.numbers.specs.Promises.{numbersOf, numberOctets}
-use Rattle.scrambler.specs.Line.{tapOf, Scrambles, Descrambles, newest}
-use Rattle.scrambler.specs.Run.{scramble, descramble}
+use Rattle.line.specs.Line.{Scrambles, Descrambles, newest}
+use Rattle.scrambler.specs.Ends.{tapOf}
+use Rattle.line.specs.Run.{scramble, descramble}
 use Rattle.symbol.specs.Levels.{activationLevels, dataLevels, levelAt, activationTests, dataTests}
 use Rattle.symbol.specs.Encoder.{codeOf, codesOf, x1, sentAfter, heldIn, registerOf}
 use Rattle.ranges.specs.Ranges.{every}

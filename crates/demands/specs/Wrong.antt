@@ -6,7 +6,7 @@ use lib.ListN.{getD}
 use Rattle.octets.specs.Bits.{valueOf, bitsOf}
 use Rattle.layout.specs.Places.{wordA, wordB}
 use Rattle.layout.specs.Frame.{fieldOf}
-use Rattle.scrambler.specs.Run.{Way, scramble}
+use Rattle.line.specs.Run.{Way, scramble}
 use Rattle.startup.specs.Three.{Make}
 use Rattle.demands.specs.Library.{Outcome, WriteCall, ReadCall, RunCall, PrecodeCall, Library}
 

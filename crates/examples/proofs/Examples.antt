@@ -7,7 +7,7 @@ use Rattle.octets.specs.Bits.{digitsOf, valueOf, bitsOf, octetsOf}
 use Rattle.octets.specs.Signed.{twosOf, numberBits}
 use Rattle.remainder.specs.Register.{registerOf}
 use Rattle.layout.specs.Frame.{trainingSync, finalSync, message}
-use Rattle.scrambler.specs.Run.{runOf}
+use Rattle.line.specs.Run.{runOf}
 use Rattle.symbol.specs.Encoder.{onesLeft, sentAfter, codesOf}
 use Rattle.signal.specs.Signal.{isSignal}
 use Rattle.signal.specs.Shaper.{Exactly}

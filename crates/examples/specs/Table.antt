@@ -10,8 +10,8 @@ use Rattle.octets.specs.Bits.{octetsOf}
 use Rattle.remainder.specs.Division.{checkBits, generator}
 use Rattle.remainder.specs.Register.{registerOf}
 use Rattle.layout.specs.Frame.{trainingSync, finalSync, message, checkOf}
-use Rattle.scrambler.specs.Line.{tapOf}
-use Rattle.scrambler.specs.Run.{scramble, runOf}
+use Rattle.scrambler.specs.Ends.{tapOf}
+use Rattle.line.specs.Run.{scramble, runOf}
 use Rattle.symbol.specs.Levels.{levelAt, dataLevels}
 use Rattle.symbol.specs.Encoder.{codesOf, sentAfter, heldIn}
 use Rattle.symbol.specs.Encoder.{registerOf as encoderRegister}

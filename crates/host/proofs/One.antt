@@ -24,7 +24,7 @@ use Rattle.host.specs.declared.supervisor.Run.{Run}
 use Rattle.host.specs.Frames.{FrameWritten, FrameRead, frameReadRefusals}
 use Rattle.host.specs.Symbols.{ActivationLevelGiven, DataLevelGiven, CodeGiven, SymbolEncoded, SymbolsEncoded, SampleShaped, asLevel, encoder}
 use Rattle.host.specs.Supervisor.{Started, StateStepped, CodesRun}
-use Rattle.scrambler.specs.Run.{Way}
+use Rattle.line.specs.Run.{Way}
 use Rattle.scrambler.proofs.One.{run-one as scrambler-run-one, frame-one}
 use Rattle.host.specs.declared.scrambling.Scrambled.{Scrambled}
 use Rattle.host.specs.Scrambling.{crossing, ScrambledRun, ScrambledFrame}

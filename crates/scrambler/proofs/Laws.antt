@@ -1,125 +1,35 @@
--- Laws of steps and runs. Assumes nothing.
-use mathlib.Core.Path.{_≡_, refl, sym, ap, ap₂, _∙_, subst}
-use mathlib.Core.Bool.{Bool, true, false, not}
-use mathlib.Core.List.{List, [], _∷_, _++_, append-assoc}
-use Prim.Native.Nat.{ℕ, zero, suc, _+_, _-_, _*_, _/_, _%_, _^_, _≤_, _<_, zero-le, suc-le-suc}
-use native.Mathlib.Nat.{mod-lt}
-use native.Mathlib.Numerals.{add-one}
+-- Laws of steps, runs and frames. Assumes nothing.
+use mathlib.Core.Path.{_≡_, refl, sym, ap, ap₂, subst, _∙_}
+use mathlib.Core.Bool.{Bool, true, false, cond, not}
+use mathlib.Core.List.{List, _++_, append-assoc}
+use Prim.Native.Nat.{ℕ, _+_, _*_, _/_, _%_, _^_, _≤_, _<_}
 use native.Mathlib.Omega.{arith}
 use borrow.Author.Tests.{lt-ltb, le-ltb, ltb-false, leb-false, eqb-true, not-false}
-use lib.Bits.{bitXor}
 use lib.Dec.{ltb, leb, eqb}
-use lib.ListN.{length, getD, take, drop, replicate, length-append, length-drop}
-use lib.Pow.{pow-pos}
-use lib.Seq.{length-take-le, take-suc}
+use lib.ListN.{length, drop, replicate, length-append, length-drop}
+use lib.Seq.{length-take-le}
 use Rattle.answer.specs.Answer.{answer, held}
-use Rattle.answer.proofs.Laws.{none, kept}
+use Rattle.answer.proofs.Laws.{none, kept, given, refused, passed}
 use Rattle.octets.specs.Bits.{bitsOf, octetsOf, part, laid}
-use Rattle.octets.proofs.Digits.{Bits, nil-bits, cons-bits, append-bits, take-bits}
-use Rattle.octets.proofs.Laws.{bits-length, bits-bits, laid-more, laid-next, laid-end}
-use Rattle.octets.proofs.Xor.{no-two}
-use Rattle.scrambler.specs.Line.{sum3, tapOf}
-use Rattle.scrambler.specs.Run.{Way, outOf, nextOf, runOf, afterOf}
+use Rattle.octets.proofs.Digits.{append-bits, take-bits}
+use Rattle.octets.proofs.Laws.{bits-length, bits-bits, laid-next, laid-end}
+use Rattle.line.specs.Run.{Way, outOf, nextOf, runOf}
+use Rattle.line.specs.Promises as OnLine
+use Rattle.line.specs.declared.Stepped.{Stepped}
+use Rattle.line.specs.declared.Ran.{Ran}
+use Rattle.line.proofs.Answers.{run-complete, run-given}
+use Rattle.line.proofs.Laws.{run-length, run-bits}
+use Rattle.scrambler.specs.Ends.{tapOf}
 use Rattle.scrambler.specs.Promises.{stepRefusals, StepPromise, runRefusals, RunPromise, frameRefusals, clocked, frameOut, FramePromise}
 use Rattle.scrambler.specs.declared.Scrambler.{Scrambler}
 use Rattle.scrambler.specs.declared.Step.{Step}
 
--- ---- one bit
-
-pub sum3-lt : (a b c : ℕ) → sum3 a b c < 2
-sum3-lt a b c = mod-lt (a + b + c) (suc-le-suc zero-le)
-
-pub xor3 : (a b c : ℕ) → a < 2 → b < 2 → c < 2 → bitXor (bitXor a b) c ≡ sum3 a b c
-xor3 zero zero zero p q r = refl
-xor3 zero zero (suc zero) p q r = refl
-xor3 zero (suc zero) zero p q r = refl
-xor3 zero (suc zero) (suc zero) p q r = refl
-xor3 (suc zero) zero zero p q r = refl
-xor3 (suc zero) zero (suc zero) p q r = refl
-xor3 (suc zero) (suc zero) zero p q r = refl
-xor3 (suc zero) (suc zero) (suc zero) p q r = refl
-xor3 zero zero (suc (suc c)) p q r = no-two c r
-xor3 zero (suc zero) (suc (suc c)) p q r = no-two c r
-xor3 (suc zero) zero (suc (suc c)) p q r = no-two c r
-xor3 (suc zero) (suc zero) (suc (suc c)) p q r = no-two c r
-xor3 zero (suc (suc b)) c p q r = no-two b q
-xor3 (suc zero) (suc (suc b)) c p q r = no-two b q
-xor3 (suc (suc a)) b c p q r = no-two a p
-
-pub out-is : (tap state b : ℕ) → b < 2 → bitXor (bitXor b (state / 2 ^ (tap - 1) % 2)) (state / 2 ^ 22 % 2) ≡ outOf tap state b
-out-is tap state b h = xor3 b (state / 2 ^ (tap - 1) % 2) (state / 2 ^ 22 % 2) h (mod-lt (state / 2 ^ (tap - 1)) (suc-le-suc zero-le)) (mod-lt (state / 2 ^ 22) (suc-le-suc zero-le))
-
 pub tap-range : (end : ℕ) → (1 ≤ tapOf end) × (tapOf end ≤ 23)
 tap-range end = pick (eqb end 0)
   where
-    pick : (t : Bool) → (1 ≤ mathlib.Core.Bool.cond t 5 18) × (mathlib.Core.Bool.cond t 5 18 ≤ 23)
+    pick : (t : Bool) → (1 ≤ cond t 5 18) × (cond t 5 18 ≤ 23)
     pick true = omega arith
     pick false = omega arith
-
--- ---- runs
-
-module _ (way : Way) (tap : ℕ) where
-  pub next-lt : (state b : ℕ) → nextOf way tap state b < 2 ^ 23
-  next-lt state b = mod-lt (state * 2 + _) (pow-pos 23)
-
-  pub after-lt : (state : ℕ) (bs : List ℕ) → state < 2 ^ 23 → afterOf way tap state bs < 2 ^ 23
-  unfolding afterOf
-  after-lt state [] h = h
-  after-lt state (b ∷ bs) h = after-lt (nextOf way tap state b) bs (next-lt state b)
-
-  pub run-length : (state : ℕ) (bs : List ℕ) → length (runOf way tap state bs) ≡ length bs
-  unfolding runOf
-  run-length state [] = refl
-  run-length state (b ∷ bs) = ap suc (run-length (nextOf way tap state b) bs)
-
-  pub run-bits : (state : ℕ) (bs : List ℕ) → Bits (runOf way tap state bs)
-  unfolding runOf
-  run-bits state [] = nil-bits
-  run-bits state (b ∷ bs) = cons-bits (outOf tap state b) (runOf way tap (nextOf way tap state b) bs) (sum3-lt b _ _) (run-bits (nextOf way tap state b) bs)
-
-  -- two runs one after the other are one run of the joined bits
-  pub run-append : (state : ℕ) (xs ys : List ℕ) → runOf way tap state (xs ++ ys) ≡ runOf way tap state xs ++ runOf way tap (afterOf way tap state xs) ys
-  unfolding runOf afterOf
-  run-append state [] ys = refl
-  run-append state (x ∷ xs) ys = ap (λ (l : List ℕ). outOf tap state x ∷ l) (run-append (nextOf way tap state x) xs ys)
-
-  pub after-append : (state : ℕ) (xs ys : List ℕ) → afterOf way tap state (xs ++ ys) ≡ afterOf way tap (afterOf way tap state xs) ys
-  unfolding afterOf
-  after-append state [] ys = refl
-  after-append state (x ∷ xs) ys = after-append (nextOf way tap state x) xs ys
-
-  pub run-none : (state : ℕ) → ([] ≡ runOf way tap state []) × (state ≡ afterOf way tap state [])
-  unfolding runOf afterOf
-  run-none state = (refl, refl)
-
-  run-one : (state b : ℕ) → (runOf way tap state (b ∷ []) ≡ outOf tap state b ∷ []) × (afterOf way tap state (b ∷ []) ≡ nextOf way tap state b)
-  unfolding runOf afterOf
-  run-one state b = (refl, refl)
-
-  -- one bit more: what the loop has after k bits of F, and after the next
-  module _ (F : List ℕ) (start k st b : ℕ) (h : k < length F) (e : st ≡ afterOf way tap start (take k F)) (g : b ≡ getD F k 0) where
-    grown : take (k + 1) F ≡ take k F ++ (b ∷ [])
-    grown = ap (λ (n : ℕ). take n F) (add-one k) ∙ take-suc F k 0 h ∙ ap (λ (x : ℕ). take k F ++ (x ∷ [])) (sym g)
-
-    pub state-next : nextOf way tap st b ≡ afterOf way tap start (take (k + 1) F)
-    state-next =
-        sym (ap (afterOf way tap start) grown ∙ after-append start (take k F) (b ∷ []) ∙ run-one (afterOf way tap start (take k F)) b .1
-        ∙ ap (λ (s : ℕ). nextOf way tap s b) (sym e))
-
-    pub run-next : (at : ℕ) (out₀ o t : List ℕ) (s : ℕ) → o ≡ laid out₀ at (runOf way tap start (take k F)) → s ≡ outOf tap st b → t ≡ laid o (k + at) (s % 2 ∷ [])
-        → t ≡ laid out₀ at (runOf way tap start (take (k + 1) F))
-    run-next at out₀ o t s p q r =
-        let R = runOf way tap start (take k F) in
-        let lt : s < 2 = subst (λ (x : ℕ). x < 2) (sym q) (sum3-lt b _ _) in
-        let one : s % 2 ≡ s = omega arith in
-        let place : k + at ≡ at + k = omega arith in
-        laid-more out₀ at R k s (run-bits start (take k F)) (run-length start (take k F) ∙ length-take-le k F (omega arith)) p
-        (r ∙ ap₂ (λ (n x : ℕ). laid o n (x ∷ [])) place one)
-        ∙ ap (laid out₀ at)
-        (ap (λ (x : ℕ). R ++ (x ∷ [])) (q ∙ ap (λ (x : ℕ). outOf tap x b) e)
-        ∙ ap (λ (l : List ℕ). R ++ l) (sym (run-one (afterOf way tap start (take k F)) b .0))
-        ∙ sym (run-append start (take k F) (b ∷ []))
-        ∙ ap (runOf way tap start) (sym grown))
 
 -- ---- lengths
 
@@ -130,7 +40,7 @@ room-short l bits h = lt-ltb (8 * l) bits (omega arith)
 pub room-enough : (l bits : ℕ) → bits / 8 + (bits % 8 + 7) / 8 ≤ l → ltb (8 * l) bits ≡ false
 room-enough l bits h = le-ltb (8 * l) bits (omega arith)
 
--- ---- answers
+-- ---- a step
 
 module _ (way : Way) (x : Scrambler) (bit : ℕ) where
   -- what a step gives with the answer k
@@ -142,24 +52,24 @@ module _ (way : Way) (x : Scrambler) (bit : ℕ) where
         next = record { end = x .end; state = held k (x .state) (nextOf way (tapOf (x .end)) (x .state) bit) };
       }
 
-  pub step-refused : (n : ℕ) → n ≡ answer (stepRefusals x bit) → (n ≡ 0 → ⊥) → StepPromise way x bit (record { answer = n; bit = 0; next = x })
-  step-refused n e z = same n z ∙ ap stepOut e
+  -- the taps of the ends are on the line
+  on-the-line : answer (OnLine.stepRefusals (tapOf (x .end)) (x .state) bit) ≡ answer (drop 1 (stepRefusals x bit))
+  on-the-line = pick (eqb (x .end) 0)
     where
-      same : (n : ℕ) → (n ≡ 0 → ⊥) → record { answer = n; bit = 0; next = x } ≡ stepOut n
-      same zero z = absurd (z refl)
-      same (suc n) z = refl
+      pick : (t : Bool) → answer (OnLine.stepRefusals (cond t 5 18) (x .state) bit) ≡ answer (drop 1 (stepRefusals x bit))
+      pick true = refl
+      pick false = refl
 
-  pub step-done : (b s : ℕ) → answer (stepRefusals x bit) ≡ 0 → b ≡ outOf (tapOf (x .end)) (x .state) bit → s ≡ nextOf way (tapOf (x .end)) (x .state) bit
-      → StepPromise way x bit (record { answer = 0; bit = b; next = record { end = x .end; state = s } })
-  step-done b s z p q = ap₂ (λ (u v : ℕ). record { answer = 0; bit = u; next = record { end = x .end; state = v } }) p q ∙ ap stepOut (sym z)
+  pub step-unknown : ltb 1 (x .end) ≡ true → StepPromise way x bit (record { answer = 2; bit = 0; next = x })
+  step-unknown e = ap stepOut (sym (refused 2 (drop 1 (stepRefusals x bit)) e))
 
--- what an answer of 0 says
-pub step-sound : (x : Scrambler) (bit : ℕ) → answer (stepRefusals x bit) ≡ 0 → (x .state < 2 ^ 23) × (bit < 2)
-step-sound x bit e =
-    let two = none 1 (ltb 1 (x .end)) (drop 1 (stepRefusals x bit)) e in
-    let four = none 3 _ (drop 2 (stepRefusals x bit)) (two .1) in
-    let last = none 3 _ (drop 3 (stepRefusals x bit)) (four .1) in
-    (leb-false _ _ (four .0), suc-le-suc (ltb-false _ _ (last .0)))
+  pub step-taken : ltb 1 (x .end) ≡ false → (s : Stepped) → OnLine.StepPromise way (tapOf (x .end)) (x .state) bit s
+      → StepPromise way x bit (record { answer = s .answer; bit = s .bit; next = record { end = x .end; state = s .state } })
+  step-taken e s p =
+      ap (λ (t : Stepped). record { answer = t .answer; bit = t .bit; next = record { end = x .end; state = t .state } }) p
+      ∙ ap stepOut (on-the-line ∙ sym (passed 2 (drop 1 (stepRefusals x bit)) e))
+
+-- ---- a run
 
 module _ (x : Scrambler) (input : List ℕ) (bits : ℕ) (output : List ℕ) where
   pub run-sound : answer (runRefusals x input bits output) ≡ 0 → (bits ≤ 8 * length input) × (x .state < 2 ^ 23)
@@ -177,6 +87,20 @@ module _ (x : Scrambler) (input : List ℕ) (bits : ℕ) (output : List ℕ) whe
         answered = e;
         next = ap (λ (s : ℕ). record { end = x .end; state = s }) (sym (kept n (x .state) _ z));
         left = sym (kept n output _ z);
+      }
+
+  -- a run on the line, from the first bit on
+  pub run-taken : (way : Way) (tap : ℕ) (r : Ran) (s : List ℕ) → tap ≡ tapOf (x .end) → OnLine.RunPromise way tap (x .state) input 0 bits output r s
+      → answer (runRefusals x input bits output) ≡ 0 → RunPromise way x input bits output (record { answer = r .answer; next = record { end = x .end; state = r .state } }) s
+  run-taken way tap r s e p z =
+      let w = run-sound z in
+      let q : OnLine.RunPromise way (tapOf (x .end)) (x .state) input 0 bits output r s = subst (λ (n : ℕ). OnLine.RunPromise way n (x .state) input 0 bits output r s) e p in
+      let c = run-complete (tapOf (x .end)) (x .state) input 0 bits (tap-range (x .end) .0) (tap-range (x .end) .1) (w .1) (omega (arith, w .0)) in
+      let g = run-given (tapOf (x .end)) (x .state) input 0 bits way output r s q c in
+      record {
+        answered = g .0 ∙ sym z;
+        next = ap (λ (n : ℕ). record { end = x .end; state = n }) (g .1 ∙ sym (given (r .answer) _ _ (g .0)));
+        left = g .2 ∙ sym (given (r .answer) _ _ (g .0));
       }
 
 -- ---- a whole frame
@@ -200,7 +124,7 @@ module _ (x : Scrambler) (frame output : List ℕ) where
       }
 
   -- sync, the run behind it, the pad
-  pub frame-done : (way : Way) (s₁ s₂ s₃ : List ℕ) → length frame ≡ 529 → length output ≡ 529
+  frame-done : (way : Way) (s₁ s₂ s₃ : List ℕ) → length frame ≡ 529 → length output ≡ 529
       → s₁ ≡ laid output 0 (part 0 14 (bitsOf frame)) → s₂ ≡ laid s₁ 14 (runOf way (tapOf (x .end)) (x .state) (clocked frame)) → s₃ ≡ laid s₂ 4227 (replicate 5 0)
       → s₃ ≡ frameOut way x frame
   frame-done way s₁ s₂ s₃ lf lo e₁ e₂ e₃ =
@@ -217,3 +141,18 @@ module _ (x : Scrambler) (frame output : List ℕ) where
       let f₂ = laid-next output 0 S R 14 bS lS e₁ e₂ in
       let f₃ = laid-next output 0 (S ++ R) Z 4227 (append-bits S R bS (run-bits way (tapOf (x .end)) (x .state) (clocked frame))) lSR f₂ e₃ in
       f₃ ∙ laid-end output 0 (S ++ R ++ Z) (omega (arith, length-append (S ++ R) Z)) ∙ ap₂ octetsOf lo (append-assoc S R Z)
+
+  -- a frame of which nothing is refused
+  pub frame-taken : (way : Way) (tap : ℕ) (r : Ran) (s₁ s₂ s₃ : List ℕ) → tap ≡ tapOf (x .end) → s₁ ≡ laid output 0 (part 0 14 (bitsOf frame))
+      → OnLine.RunPromise way tap (x .state) frame 14 4213 s₁ r s₂ → s₃ ≡ laid s₂ 4227 (replicate 5 0) → answer (frameRefusals x frame output) ≡ 0
+      → FramePromise way x frame output (record { answer = r .answer; next = record { end = x .end; state = r .state } }) s₃
+  frame-taken way tap r s₁ s₂ s₃ e e₁ p e₃ z =
+      let w = frame-sound z in
+      let q : OnLine.RunPromise way (tapOf (x .end)) (x .state) frame 14 4213 s₁ r s₂ = subst (λ (n : ℕ). OnLine.RunPromise way n (x .state) frame 14 4213 s₁ r s₂) e p in
+      let c = run-complete (tapOf (x .end)) (x .state) frame 14 4213 (tap-range (x .end) .0) (tap-range (x .end) .1) (w .2) (omega (arith, w .0)) in
+      let g = run-given (tapOf (x .end)) (x .state) frame 14 4213 way s₁ r s₂ q c in
+      record {
+        answered = g .0 ∙ sym z;
+        next = ap (λ (n : ℕ). record { end = x .end; state = n }) (g .1 ∙ sym (given (r .answer) _ _ (g .0)));
+        left = frame-done way s₁ s₂ s₃ (w .0) (w .1) e₁ (g .2) e₃ ∙ sym (given (r .answer) output _ (g .0));
+      }

@@ -1,3 +1,2 @@
-pub mod Line
-pub mod Run
+pub mod Ends
 pub mod Promises

@@ -2,15 +2,16 @@
 use mathlib.Core.Path.{_≡_}
 use mathlib.Core.Bool.{not}
 use mathlib.Core.List.{List, [], _∷_, _++_}
-use Prim.Native.Nat.{ℕ, _*_, _^_}
-use lib.Dec.{eqb, leb, ltb}
+use Prim.Native.Nat.{ℕ, _*_}
+use lib.Dec.{eqb, ltb}
 use lib.ListN.{length, replicate}
 use Rattle.answer.specs.Answer.{Refusal, refuse, wrongLength, answer, held}
 use Rattle.octets.specs.Bits.{valueOf, bitsOf, octetsOf, part, laid}
 use Rattle.layout.specs.Places.{pad}
 use Rattle.layout.specs.Frame.{fieldOf}
-use Rattle.scrambler.specs.Line.{tapOf}
-use Rattle.scrambler.specs.Run.{Way, outOf, nextOf, runOf, afterOf}
+use Rattle.scrambler.specs.Ends.{tapOf}
+use Rattle.line.specs.Promises.{wideState}
+use Rattle.line.specs.Run.{Way, outOf, nextOf, runOf, afterOf}
 use Rattle.scrambler.specs.declared.Scrambler.{Scrambler}
 use Rattle.scrambler.specs.declared.Step.{Step}
 use Rattle.scrambler.specs.declared.Ran.{Ran}
@@ -18,10 +19,6 @@ use Rattle.scrambler.specs.declared.Ran.{Ran}
 -- an unknown end is 2
 abbrev pub unknownEnd : ℕ → Refusal
 unknownEnd end = refuse 2 (ltb 1 end)
-
--- a state of 2^23 or more is 4
-abbrev pub wideState : ℕ → Refusal
-wideState state = refuse 4 (leb (2 ^ 23) state)
 
 -- Scrambler::start: the starting state is 0
 abbrev pub StartPromise : ℕ → Ran → Type 0

@@ -1,12 +1,8 @@
 -- `scrambler::Scrambler::run` meets its contract.
 use borrow.Author.Needs.{needs}
-use mathlib.Core.Path.{sym, ap, subst, _∙_}
-use Prim.Native.Nat.{ℕ, _≤_}
-use native.Mathlib.Omega.{arith}
-use Rattle.octets.specs.Bits.{bitsOf, part, laid}
-use Rattle.scrambler.specs.Run.{runOf, afterOf, wayOf}
-use Rattle.scrambler.proofs.Laws.{tap-range, run-refused, run-sound}
-use Rattle.scrambler.specs.declared.Scrambler.{Scrambler}
+use mathlib.Core.Path.{sym, _∙_}
+use Rattle.line.specs.Run.{wayOf}
+use Rattle.scrambler.proofs.Laws.{run-refused, run-taken}
 use Rattle.scrambler.proofs.Scrambler.run.Statement.{statement}
 use Rattle.scrambler.proofs.Scrambler.run.Tie as tie
 
@@ -22,12 +18,8 @@ returns c = let a = c .before .before .before .before .before .args in run-refus
 tap-requires : tie.Need-tap-requires
 tap-requires c κs = search needs
 
-go-requires : tie.Need-go-requires
-go-requires c κs =
-    let a = c .before .before .before .before .before .before .before .args in
-    let t = subst (λ (n : ℕ). (1 ≤ n) × (n ≤ 23)) (sym (c .before .tap .ensures)) (tap-range (a .self .end)) in
-    let s = run-sound (a .self) (a .input .now) (a .bits) (a .output .now) (sym (c .before .before .before .run-refusal .ensures) ∙ c .before .before .if1 .left) in
-    (t .0, t .1, s .1, omega arith)
+line-run-requires : tie.Need-run-requires
+line-run-requires c κs = search needs
 
 same-length-2 : tie.Need-same-length-2
 same-length-2 c = search needs
@@ -35,14 +27,8 @@ same-length-2 c = search needs
 returns-2 : tie.Need-returns-2
 returns-2 c =
     let a = c .before .before .before .before .before .before .before .before .before .before .args in
-    let t = c .before .before .before .before .tap .ensures in
-    let g = c .before .before .go in
-    let F = part 0 (a .bits) (bitsOf (a .input .now)) in
-    record {
-      answered = sym (c .before .before .before .before .before .if1 .left) ∙ c .before .before .before .before .before .before .run-refusal .ensures;
-      next = ap (λ (s : ℕ). record { end = a .self .end; state = s }) (g .ensures .0 ∙ ap (λ (n : ℕ). afterOf (wayOf (a .back)) n (a .self .state) F) t);
-      left = g .ensures .1 ∙ ap (λ (n : ℕ). laid (a .output .now) 0 (runOf (wayOf (a .back)) n (a .self .state) F)) t;
-    }
+    run-taken (a .self) (a .input .now) (a .bits) (a .output .now) (wayOf (a .back)) (c .before .before .before .before .tap .result) (c .before .before .run .result) (c .before .before .run .last .1 .1 .1 .1 .1 .1 .0)
+    (c .before .before .before .before .tap .ensures) (c .before .before .run .ensures) (sym (c .before .before .before .before .before .before .run-refusal .ensures) ∙ c .before .before .before .before .before .if1 .left)
 
 pub run-spec : {M : Type 1} → statement M
 run-spec =
@@ -52,6 +38,6 @@ run-spec =
     same-length
     returns
     tap-requires
-    go-requires
+    line-run-requires
     same-length-2
     returns-2)

@@ -12,9 +12,9 @@ use lib.ListN.{length, getD, take, length-append, length-reverse, List·getD-app
 use lib.Seq.{getD-append-add, getD-append-seam, take-all, take-append-le, ext-getD}
 use Rattle.octets.specs.Bits.{digitsOf, valueOf}
 use Rattle.octets.proofs.Digits.{Bits, digits-length, digits-at, digits-more, digits-mod-pow, value-digits}
-use Rattle.scrambler.specs.Line.{sum3, line, Scrambles, Descrambles, newest}
-use Rattle.scrambler.specs.Run.{Way, scramble, descramble, outOf, pushed, runOf, afterOf}
-use Rattle.scrambler.proofs.Laws.{sum3-lt, run-length}
+use Rattle.line.specs.Line.{sum3, line, Scrambles, Descrambles, newest}
+use Rattle.line.specs.Run.{Way, scramble, descramble, outOf, pushed, runOf, afterOf}
+use Rattle.line.proofs.Laws.{sum3-lt, run-length}
 
 -- ---- the line and the state
 

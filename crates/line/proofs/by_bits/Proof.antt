@@ -1,4 +1,4 @@
--- `scrambler::by_bits` meets its contract. The output has what comes out for the bits before the one k places behind, and the state is the one after them.
+-- `line::by_bits` meets its contract. The output has what comes out for the bits before the one k places behind, and the state is the one after them.
 use borrow.Author.Needs.{needs}
 use mathlib.Core.Path.{_≡_, sym, ap, subst, _∙_}
 use mathlib.Core.List.{[], _∷_}
@@ -8,10 +8,10 @@ use lib.ListN.{length, getD, take, drop, length-drop}
 use lib.Seq.{getD-drop}
 use Rattle.octets.specs.Bits.{bitsOf, bitOf, laid}
 use Rattle.octets.proofs.Laws.{bits-length, bits-bits, laid-none, laid-length}
-use Rattle.scrambler.specs.Run.{runOf, afterOf, wayOf}
-use Rattle.scrambler.proofs.Laws.{sum3-lt, next-lt, run-none, state-next, run-next}
-use Rattle.scrambler.proofs.by_bits.Statement.{statement}
-use Rattle.scrambler.proofs.by_bits.Tie as tie
+use Rattle.line.specs.Run.{runOf, afterOf, wayOf}
+use Rattle.line.proofs.Laws.{sum3-lt, next-lt, run-none, state-next, run-next}
+use Rattle.line.proofs.by_bits.Statement.{statement}
+use Rattle.line.proofs.by_bits.Tie as tie
 
 abbrev Inv-loop : tie.InvT-loop
 Inv-loop back tap start input at from bits output₀ state₀ k₀ output state k =

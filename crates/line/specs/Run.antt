@@ -2,7 +2,7 @@
 use mathlib.Core.Bool.{Bool, true, false}
 use mathlib.Core.List.{List, [], _∷_}
 use Prim.Native.Nat.{ℕ, _+_, _-_, _*_, _/_, _%_, _^_}
-use Rattle.scrambler.specs.Line.{sum3}
+use Rattle.line.specs.Line.{sum3}
 
 -- the two directions
 pub data Way : Type 0 where

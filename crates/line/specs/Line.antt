@@ -1,16 +1,10 @@
--- The scrambler (document 01; 002, clause 7.1.6): s(n) = f(n) xor s(n-tap) xor s(n-23). A state holds the last 23 scrambled bits, the
+-- The bits on the line (document 01, "Scrambler"; 002, clause 7.1.6): s(n) = f(n) xor s(n-tap) xor s(n-23). A state holds the last 23 scrambled bits, the
 -- newest at weight 1. Stated by place over the whole stream, for every n.
 use mathlib.Core.Path.{_≡_}
-use mathlib.Core.Bool.{cond}
 use mathlib.Core.List.{List, _++_, reverse}
 use Prim.Native.Nat.{ℕ, _+_, _-_, _%_, _<_}
-use lib.Dec.{eqb}
 use lib.ListN.{length, getD, take}
 use Rattle.octets.specs.Bits.{digitsOf, valueOf}
-
--- the tap is 5 for the LTU (0) and 18 for the NTU (1)
-abbrev pub tapOf : ℕ → ℕ
-tapOf end = cond (eqb end 0) 5 18
 
 -- the exclusive or of three bits
 abbrev pub sum3 : ℕ → ℕ → ℕ → ℕ

@@ -1,13 +1,13 @@
--- `scrambler::after` meets its contract.
+-- `line::after` meets its contract.
 use borrow.Author.Needs.{needs}
 use mathlib.Core.Path.{sym, ap, subst, _∙_}
 use mathlib.Core.Bool.{Bool}
 use Prim.Native.Nat.{ℕ, _+_, _*_, _%_, _^_, _<_}
 use native.Mathlib.Omega.{arith}
-use Rattle.scrambler.specs.Run.{nextOf, wayOf}
-use Rattle.scrambler.proofs.Laws.{sum3-lt}
-use Rattle.scrambler.proofs.after.Statement.{statement}
-use Rattle.scrambler.proofs.after.Tie as tie
+use Rattle.line.specs.Run.{nextOf, wayOf}
+use Rattle.line.proofs.Laws.{sum3-lt}
+use Rattle.line.proofs.after.Statement.{statement}
+use Rattle.line.proofs.after.Tie as tie
 
 mul-result : tie.Need-mul-result
 mul-result c = omega arith

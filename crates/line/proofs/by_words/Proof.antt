@@ -1,4 +1,4 @@
--- `scrambler::by_words` meets its contract. After k words the output has what comes out for them, and the window is the state after them, turned.
+-- `line::by_words` meets its contract. After k words the output has what comes out for them, and the window is the state after them, turned.
 use borrow.Author.Needs.{needs}
 use mathlib.Core.Path.{_≡_, sym, ap, subst, _∙_}
 use Prim.Native.Nat.{ℕ, _+_, _-_, _*_, _/_, _^_, _≤_, _<_}
@@ -9,11 +9,11 @@ use Rattle.octets.proofs.Digits.{turned-lt}
 use Rattle.octets.proofs.Laws.{laid-none, laid-length}
 use Rattle.octets.proofs.Turn.{turnOf, turn-turn}
 use Rattle.octets.proofs.Words.{field-digits}
-use Rattle.scrambler.specs.Run.{runOf, afterOf, wayOf}
-use Rattle.scrambler.proofs.Laws.{run-none}
-use Rattle.scrambler.proofs.Block.{state-more, out-more}
-use Rattle.scrambler.proofs.by_words.Statement.{statement}
-use Rattle.scrambler.proofs.by_words.Tie as tie
+use Rattle.line.specs.Run.{runOf, afterOf, wayOf}
+use Rattle.line.proofs.Laws.{run-none}
+use Rattle.line.proofs.Block.{state-more, out-more}
+use Rattle.line.proofs.by_words.Statement.{statement}
+use Rattle.line.proofs.by_words.Tie as tie
 
 abbrev Inv-loop : tie.InvT-loop
 Inv-loop back tap start input at count output₀ window₀ k₀ output window k =

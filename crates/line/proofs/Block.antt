@@ -17,10 +17,10 @@ use Rattle.octets.proofs.Laws.{bits-length, laid-next}
 use Rattle.octets.proofs.Words.{digits-cut, digits-join, part-more}
 use Rattle.octets.proofs.Xor.{xor-assoc, xor-swap, bit, back}
 use Rattle.octets.proofs.Shift.{sh, sh-far, trinomial, squared, trinomial-xor, trinomial-sh, doubled}
-use Rattle.scrambler.specs.Line.{sum3, line, newest}
-use Rattle.scrambler.specs.Run.{Way, scramble, descramble, runOf, afterOf}
-use Rattle.scrambler.proofs.Laws.{xor3, run-length, run-bits, run-append, after-append}
-use Rattle.scrambler.proofs.Exactly.{run-descrambles, descrambles-run, scrambles-run, descrambled-state, scrambled-state, sum3-twice}
+use Rattle.line.specs.Line.{sum3, line, newest}
+use Rattle.line.specs.Run.{Way, scramble, descramble, runOf, afterOf}
+use Rattle.line.proofs.Laws.{xor3, run-length, run-bits, run-append, after-append}
+use Rattle.line.proofs.Exactly.{run-descrambles, descrambles-run, scrambles-run, descrambled-state, scrambled-state, sum3-twice}
 
 -- ---- the scrambler undoes the descrambler
 

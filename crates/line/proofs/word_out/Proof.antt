@@ -1,4 +1,4 @@
--- `scrambler::word_out` meets its contract.
+-- `line::word_out` meets its contract.
 use borrow.Author.Needs.{needs}
 use mathlib.Core.Path.{_≡_, sym, ap, subst, _∙_}
 use mathlib.Core.Bool.{Bool}
@@ -7,10 +7,10 @@ use native.Mathlib.Omega.{arith}
 use lib.Bits.{bitXor}
 use Rattle.octets.specs.Bits.{digitsOf}
 use Rattle.octets.proofs.Turn.{turnOf}
-use Rattle.scrambler.specs.Run.{onLine, runOf, afterOf, wayOf}
-use Rattle.scrambler.proofs.Block.{word-back, word-forth}
-use Rattle.scrambler.proofs.word_out.Statement.{statement}
-use Rattle.scrambler.proofs.word_out.Tie as tie
+use Rattle.line.specs.Run.{onLine, runOf, afterOf, wayOf}
+use Rattle.line.proofs.Block.{word-back, word-forth}
+use Rattle.line.proofs.word_out.Statement.{statement}
+use Rattle.line.proofs.word_out.Tie as tie
 
 sub-before : tie.Need-sub-before
 sub-before c = search needs

@@ -1,12 +1,12 @@
--- `scrambler::gathered` meets its contract. The spread of the word so far is u with its bits k back added.
+-- `line::gathered` meets its contract. The spread of the word so far is u with its bits k back added.
 use borrow.Author.Needs.{needs}
 use mathlib.Core.Path.{_≡_, ap, _∙_}
 use Prim.Native.Nat.{_-_, _*_, _%_, _^_, _≤_}
 use native.Mathlib.Omega.{arith}
 use lib.Bits.{bitXor}
-use Rattle.scrambler.proofs.Block.{spreadOf, begun, gathering, done}
-use Rattle.scrambler.proofs.gathered.Statement.{statement}
-use Rattle.scrambler.proofs.gathered.Tie as tie
+use Rattle.line.proofs.Block.{spreadOf, begun, gathering, done}
+use Rattle.line.proofs.gathered.Statement.{statement}
+use Rattle.line.proofs.gathered.Tie as tie
 
 abbrev Inv-loop : tie.InvT-loop
 Inv-loop tap u line₀ k₀ line k = (1 ≤ k) × (spreadOf tap line ≡ bitXor u (u * 2 ^ k % 2 ^ 32))

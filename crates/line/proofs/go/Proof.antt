@@ -1,15 +1,15 @@
--- `scrambler::go` meets its contract: the words, and then the bits behind them.
+-- `line::go` meets its contract: the words, and then the bits behind them.
 use borrow.Author.Needs.{needs}
 use mathlib.Core.Path.{_≡_, sym, subst, _∙_}
 use Prim.Native.Nat.{ℕ, _+_, _-_, _*_, _^_, _≤_, _<_}
 use native.Mathlib.Omega.{arith}
 use lib.ListN.{length}
 use Rattle.octets.specs.Bits.{bitsOf, part}
-use Rattle.scrambler.specs.Run.{wayOf}
-use Rattle.scrambler.proofs.Laws.{after-lt}
-use Rattle.scrambler.proofs.Block.{state-more, out-more}
-use Rattle.scrambler.proofs.go.Statement.{statement}
-use Rattle.scrambler.proofs.go.Tie as tie
+use Rattle.line.specs.Run.{wayOf}
+use Rattle.line.proofs.Laws.{after-lt}
+use Rattle.line.proofs.Block.{state-more, out-more}
+use Rattle.line.proofs.go.Statement.{statement}
+use Rattle.line.proofs.go.Tie as tie
 
 words-requires : tie.Need-words-requires
 words-requires c κs = search needs

@@ -1,8 +1,8 @@
--- `scrambler::out` meets its contract.
+-- `line::out` meets its contract.
 use borrow.Author.Needs.{needs}
-use Rattle.scrambler.proofs.Laws.{out-is}
-use Rattle.scrambler.proofs.out.Statement.{statement}
-use Rattle.scrambler.proofs.out.Tie as tie
+use Rattle.line.proofs.Laws.{out-is}
+use Rattle.line.proofs.out.Statement.{statement}
+use Rattle.line.proofs.out.Tie as tie
 
 sub-result : tie.Need-sub-result
 sub-result c = search needs

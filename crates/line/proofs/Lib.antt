@@ -1,0 +1,5 @@
+pub mod Laws
+pub mod Exactly
+pub mod Block
+pub mod Answers
+pub mod One
