@@ -4,7 +4,7 @@ use mathlib.Core.List.{List}
 use Prim.Native.Nat.{ℕ}
 use lib.IntN.{ℤ}
 use Rattle.line.specs.Run.{Way}
-use Rattle.reader.specs.Promises.{Checked}
+use Rattle.checker.specs.Promises.{Checked}
 use Rattle.precoder.specs.Runs.{PrecodesRun, DecodesRun}
 use Rattle.host.specs.Frames.{FrameWritten, FrameRead}
 use Rattle.host.specs.Scrambling.{ScrambledRun, ScrambledFrame}

@@ -21,7 +21,8 @@ use Rattle.octets.proofs.Xor.{no-two}
 use Rattle.remainder.specs.Errors.{flipped}
 use Rattle.layout.specs.Refusals.{bitRefusals, readRefusals}
 use Rattle.reader.specs.declared.Found.{Found}
-use Rattle.reader.specs.Promises.{foundOf, Checked, Read}
+use Rattle.checker.specs.Promises.{Checked}
+use Rattle.reader.specs.Promises.{foundOf, Read}
 use Rattle.distance.specs.Errors.{distance, Few, Burst}
 use Rattle.distance.proofs.Detected.{detected}
 

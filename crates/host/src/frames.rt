@@ -1,6 +1,6 @@
 // Activation frames for C: coefficients are 720 octets, four each, low octet first.
 ghost use Rattle.host.specs.Frames.{FrameWritten, FrameRead};
-ghost use Rattle.reader.specs.Promises.{Checked};
+ghost use Rattle.checker.specs.Promises.{Checked};
 
 // A coefficient buffer's octets.
 const COEFFICIENT_OCTETS: usize = 720;
@@ -39,7 +39,7 @@ pub extern "C" fn sdsl_frame_write(
 pub extern "C" fn sdsl_frame_check(frame: &[u8]) -> u32
     ensures { λ r. ⌜ Checked (now (frame .entry)) r ⌝ }
 {
-    reader::check(frame)
+    checker::check(frame)
 }
 
 // Reads a frame: its kind, and into lent memory vendor data and, of a training frame, the coefficients.

@@ -1,100 +1,27 @@
--- Laws of checking and reading a frame. Assumes nothing.
+-- Laws of reading a frame. Assumes nothing.
 use mathlib.Core.Path.{_≡_, refl, sym, ap, ap₂, _∙_}
-use mathlib.Core.Bool.{Bool, true, false, cond, _||_}
-use mathlib.Core.List.{List, reverse}
+use mathlib.Core.Bool.{Bool, true, false, cond}
+use mathlib.Core.List.{List}
 use Prim.Native.Nat.{ℕ, zero, suc}
 use native.Mathlib.Omega.{arith}
-use borrow.Author.Tests.{eq-eqb, ne-eqb}
-use lib.Dec.{eqb, lit≤}
+use borrow.Author.Tests.{eq-eqb}
+use lib.Dec.{lit≤}
 use lib.IntN.{ℤ}
 use lib.ListN.{length, drop, length-drop}
 use lib.Seq.{length-take-le}
 use Rattle.answer.specs.Answer.{answer}
 use Rattle.answer.proofs.Laws.{kept, given}
-use Rattle.octets.specs.Bits.{digitsOf, valueOf, bitsOf, octetsOf, part, laid}
-use Rattle.octets.proofs.Digits.{digits-value, take-bits, drop-bits}
-use Rattle.octets.proofs.Laws.{bits-length, bits-bits, laid-end}
+use Rattle.octets.specs.Bits.{valueOf, bitsOf, octetsOf, part, laid}
+use Rattle.octets.proofs.Laws.{bits-length, laid-end}
 use Rattle.words.specs.Promises.{behindOf}
-use Rattle.fields.specs.declared.Taken.{Taken}
 use Rattle.fields.specs.declared.TakenPair.{TakenPair}
-use Rattle.fields.specs.Promises.{SingleTaken, PairTaken, SignedFilled, signedFrom, behindAll}
+use Rattle.fields.specs.Promises.{PairTaken, SignedFilled, signedFrom, behindAll}
 use Rattle.fields.proofs.Laws.{behind-all-is, signed-from}
-use Rattle.remainder.specs.Division.{polynomial, generator}
-use Rattle.remainder.specs.Promises.{CheckBits}
-use Rattle.remainder.proofs.Division.{computed}
-use Rattle.remainder.proofs.Errors.{generator-degree}
-use Rattle.layout.specs.Places.{check, wordA, wordB, vendor, pad}
-use Rattle.layout.specs.Frame.{trainingSync, finalSync, fieldOf, messageOf, checkOf, coefficientsOf}
-use Rattle.layout.specs.Refusals.{hasSync, readRefusals}
-use Rattle.layout.proofs.Laws.{training-value, final-value}
+use Rattle.layout.specs.Places.{wordA, wordB, vendor}
+use Rattle.layout.specs.Frame.{trainingSync, fieldOf, coefficientsOf}
+use Rattle.layout.specs.Refusals.{hasSync, checkRefusals, readRefusals}
 use Rattle.reader.specs.declared.Found.{Found}
 use Rattle.reader.specs.Promises.{foundOf, coefficientsLeft, vendorOctets, Read}
-
--- ---- sync
-
-pub final-known : (s : ℕ) → s ≡ 0x3e6b → true ≡ (eqb s (valueOf trainingSync) || eqb s (valueOf finalSync))
-final-known s e =
-    simp (ne-eqb s (valueOf trainingSync) (λ f. apart (sym e ∙ f ∙ training-value)), eq-eqb s (valueOf finalSync) (e ∙ sym final-value))
-  where
-    apart : _≡_ {A = ℕ} 0x3e6b 0x359f → ⊥
-    apart h = omega arith
-
-pub other-known : (s : ℕ) → (s ≡ 0x3e6b → ⊥) → eqb s 0x359f ≡ (eqb s (valueOf trainingSync) || eqb s (valueOf finalSync))
-other-known s h = ap (eqb s) (sym training-value) ∙ pick (eqb s (valueOf trainingSync)) ∙ simp (ne-eqb s (valueOf finalSync) (λ e. h (e ∙ final-value)))
-  where
-    pick : (t : Bool) → t ≡ (t || false)
-    pick true = refl
-    pick false = refl
-
--- sync, as the first field of a frame
-module _ (f : List ℕ) (t : Taken) (e : SingleTaken f 0 14 t) where
-  value-is : t .value ≡ valueOf (part 0 14 (bitsOf f))
-  value-is = ap (λ (x : Taken). x .value) e
-
-  pub next-is : t .next ≡ 14
-  next-is = ap (λ (x : Taken). x .next) e
-
-  pub known-is : (k : Bool) → k ≡ (eqb (t .value) (valueOf trainingSync) || eqb (t .value) (valueOf finalSync))
-      → (hasSync trainingSync (bitsOf f) || hasSync finalSync (bitsOf f)) ≡ k
-  known-is k h = sym (h ∙ ap (λ (n : ℕ). eqb n (valueOf trainingSync) || eqb n (valueOf finalSync)) value-is)
-
-  pub training-is : t .value ≡ 0x359f → hasSync trainingSync (bitsOf f) ≡ true
-  training-is h = eq-eqb (valueOf (part 0 14 (bitsOf f))) (valueOf trainingSync) (sym value-is ∙ h ∙ sym training-value)
-
-  pub training-not : (t .value ≡ 0x359f → ⊥) → hasSync trainingSync (bitsOf f) ≡ false
-  training-not h = ne-eqb (valueOf (part 0 14 (bitsOf f))) (valueOf trainingSync) (λ g. h (value-is ∙ g ∙ training-value))
-
--- ---- check bits
-
--- as the code reads them
-pub check-number : (f : List ℕ) (c t : ℕ) → length f ≡ 529 → c ≡ valueOf (part 4211 16 (bitsOf f)) → t ≡ valueOf (reverse (digitsOf 16 c))
-    → t ≡ polynomial (fieldOf check (bitsOf f))
-check-number f c t l e g =
-    let B = bitsOf f in
-    let K = part 4211 16 B in
-    let n : length K ≡ 16 = length-take-le 16 (drop 4211 B) (omega (arith, length-drop 4211 B, bits-length f)) in
-    let back : digitsOf 16 c ≡ K =
-    ap (digitsOf 16) e ∙ ap (λ (i : ℕ). digitsOf i (valueOf K)) (sym n) ∙ digits-value K (take-bits 16 (drop 4211 B) (drop-bits 4211 B (bits-bits f))) in
-    g ∙ ap (λ (x : List ℕ). valueOf (reverse x)) back
-
-pub checks-is : (f : List ℕ) (r c t : ℕ) → length f ≡ 529 → CheckBits f 14 4197 r → c ≡ valueOf (part 4211 16 (bitsOf f)) → t ≡ valueOf (reverse (digitsOf 16 c))
-    → eqb t r ≡ eqb (polynomial (fieldOf check (bitsOf f))) (checkOf (messageOf (bitsOf f)))
-checks-is f r c t l d e g =
-    let B = bitsOf f in
-    ap₂ eqb (check-number f c t l e g)
-    (computed 16 generator (lit≤ tt) generator-degree (messageOf B) r (take-bits 4197 (drop 14 B) (drop-bits 14 B (bits-bits f))) d)
-
--- ---- check bits and pad, as the last two fields of a frame
-
-module _ (f : List ℕ) (t : TakenPair) (e : PairTaken f 4211 16 5 t) where
-  pub check-is : t .first ≡ valueOf (fieldOf check (bitsOf f))
-  check-is = ap (λ (x : TakenPair). x .first) e
-
-  pub pad-not : (t .second ≡ 0 → ⊥) → eqb (valueOf (fieldOf pad (bitsOf f))) 0 ≡ false
-  pad-not h = ne-eqb (valueOf (fieldOf pad (bitsOf f))) 0 (λ g. h (ap (λ (x : TakenPair). x .second) e ∙ g))
-
-  pub pad-is : t .second ≡ 0 → eqb (valueOf (fieldOf pad (bitsOf f))) 0 ≡ true
-  pad-is h = eq-eqb (valueOf (fieldOf pad (bitsOf f))) 0 (sym (ap (λ (x : TakenPair). x .second) e) ∙ h)
 
 -- ---- the walk of a training frame: coefficients from behind sync on, A and B behind those
 
@@ -119,6 +46,10 @@ vendor-read f v v′ at l lv h e =
     e ∙ ap (λ (i : ℕ). laid v 0 (part i 128 (bitsOf f))) h ∙ laid-end v 0 D (omega arith) ∙ ap (λ (k : ℕ). octetsOf k D) lv
 
 -- ---- what reading promises, by cases
+
+-- where the lengths are right, reading refuses what checking does
+pub as-checked : (f : List ℕ) (cs : List ℤ) (v : List ℕ) → length f ≡ 529 → length cs ≡ 180 → length v ≡ 16 → answer (checkRefusals f) ≡ answer (readRefusals f cs v)
+as-checked f cs v l m n = simp (eq-eqb _ _ l, eq-eqb _ _ m, eq-eqb _ _ n)
 
 module _ (f : List ℕ) (cs : List ℤ) (v : List ℕ) where
   abbrev A : ℕ

@@ -4,10 +4,7 @@ use mathlib.Core.List.{List}
 use Prim.Native.Nat.{ℕ}
 use lib.IntN.{ℤ}
 use Rattle.reader.specs.declared.Found.{Found}
-use Rattle.reader.specs.Promises.{Checked, Read}
-
-pub check-one : (frame : List ℕ) (r r′ : ℕ) → Checked frame r → Checked frame r′ → r ≡ r′
-check-one frame r r′ p q = p ∙ sym q
+use Rattle.reader.specs.Promises.{Read}
 
 pub read-one : (frame : List ℕ) (cs : List ℤ) (vendor : List ℕ) (r r′ : Found) (d d′ : List ℤ) (v v′ : List ℕ)
     → Read frame cs vendor r d v → Read frame cs vendor r′ d′ v′ → (r ≡ r′) × (d ≡ d′) × (v ≡ v′)

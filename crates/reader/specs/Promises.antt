@@ -1,4 +1,4 @@
--- What checking and reading a frame promise.
+-- What reading a frame promises.
 use mathlib.Core.Path.{_≡_}
 use mathlib.Core.Bool.{cond}
 use mathlib.Core.List.{List}
@@ -8,12 +8,8 @@ use Rattle.answer.specs.Answer.{answer, held}
 use Rattle.octets.specs.Bits.{valueOf, bitsOf, octetsOf}
 use Rattle.layout.specs.Places.{wordA, wordB, vendor}
 use Rattle.layout.specs.Frame.{trainingSync, fieldOf, coefficientsOf}
-use Rattle.layout.specs.Refusals.{hasSync, checkRefusals, readRefusals}
+use Rattle.layout.specs.Refusals.{hasSync, readRefusals}
 use Rattle.reader.specs.declared.Found.{Found}
-
--- check
-abbrev pub Checked : List ℕ → ℕ → Type 0
-Checked frame r = r ≡ answer (checkRefusals frame)
 
 -- what is returned: of a training frame kind 0, A and B; of a final frame kind 1; with a refusal 0 for every other number
 abbrev pub foundOf : ℕ → List ℕ → Found

@@ -1,7 +1,7 @@
 -- `listing::list` meets its contract.
 use borrow.Author.Needs.{needs}
 use mathlib.Core.Path.{refl}
-use Rattle.reader.proofs.Laws.{check-number}
+use Rattle.checker.proofs.Laws.{check-number}
 use Rattle.ascii.proofs.Room.{put-as}
 use Rattle.ascii.proofs.Room.{told}
 use Rattle.listing.specs.Listing.{listing}

@@ -4,7 +4,8 @@ use borrow.Author.Tests.{eq-eqb, ne-eqb}
 use mathlib.Core.Path.{refl, sym, ap, _∙_}
 use native.Mathlib.Omega.{arith}
 use Rattle.fields.specs.declared.TakenPair.{TakenPair}
-use Rattle.reader.proofs.Laws.{refusing, training-read, final-read, next-is, training-is, training-not, coefficients-read, words-at, words-read, vendor-read}
+use Rattle.checker.proofs.Laws.{next-is, training-is, training-not}
+use Rattle.reader.proofs.Laws.{refusing, as-checked, training-read, final-read, coefficients-read, words-at, words-read, vendor-read}
 use Rattle.reader.proofs.read.Statement.{statement}
 use Rattle.reader.proofs.read.Tie as tie
 
@@ -26,16 +27,18 @@ refused-requires-3 c κs = search needs
 returns-3 : tie.Need-returns-3
 returns-3 c = refusing (c .before .before .before .before .before .before .args .frame .now) (c .before .before .before .before .before .before .args .coefficients .now) (c .before .before .before .before .before .before .args .vendor .now) 1 (c .refused3 .result) (simp (eq-eqb _ _ (c .before .before .before .if1 .left), eq-eqb _ _ (c .before .before .if2 .left), ne-eqb _ _ (c .before .if3 .taken))) (λ e. omega arith) (c .refused3 .ensures)
 
-wrong-requires : tie.Need-wrong-requires
-wrong-requires c κs = search needs
+check-requires : tie.Need-check-requires
+check-requires c κs = search needs
 
 refused-requires-4 : tie.Need-refused-requires-4
 refused-requires-4 c κs = search needs
 
 returns-4 : tie.Need-returns-4
 returns-4 c =
-    refusing (c .before .before .before .before .before .before .before .before .args .frame .now) (c .before .before .before .before .before .before .before .before .args .coefficients .now) (c .before .before .before .before .before .before .before .before .args .vendor .now) (c .before .before .wrong .result) (c .refused4 .result)
-    (c .before .before .wrong .ensures ∙ simp (eq-eqb _ _ (c .before .before .before .before .before .if1 .left), eq-eqb _ _ (c .before .before .before .before .if2 .left), eq-eqb _ _ (c .before .before .before .if3 .left))) (c .before .if4 .taken) (c .refused4 .ensures)
+    let a = c .before .before .before .before .before .before .before .before .args in
+    refusing (a .frame .now) (a .coefficients .now) (a .vendor .now) (c .before .before .check .result) (c .refused4 .result)
+    (c .before .before .check .ensures ∙ as-checked (a .frame .now) (a .coefficients .now) (a .vendor .now) (c .before .before .before .before .before .if1 .left) (c .before .before .before .before .if2 .left) (c .before .before .before .if3 .left))
+    (c .before .if4 .taken) (c .refused4 .ensures)
 
 single-requires : tie.Need-single-requires
 single-requires c κs = search needs
@@ -65,7 +68,7 @@ returns-5 c =
     let next = next-is (a .frame .now) (s .result) (s .ensures) in
     let words = words-read (a .frame .now) (k .result) (w .result) (words-at (a .frame .now) (s .result .next) (a .coefficients .now) (k .last .1 .1 .1 .0) (k .result) next (c .before .before .before .before .before .before .before .before .before .before .before .before .before .before .if2 .left) (k .ensures)) (w .ensures) in
     training-read (a .frame .now) (a .coefficients .now) (a .vendor .now)
-    (simp (eq-eqb _ _ (c .before .before .before .before .before .before .before .before .before .before .before .before .before .before .before .if1 .left), eq-eqb _ _ (c .before .before .before .before .before .before .before .before .before .before .before .before .before .before .if2 .left), eq-eqb _ _ (c .before .before .before .before .before .before .before .before .before .before .before .before .before .if3 .left)) (sym (c .before .before .before .before .before .before .before .before .before .before .before .before .wrong .ensures) ∙ c .before .before .before .before .before .before .before .before .before .before .before .if4 .left))
+    (sym (as-checked (a .frame .now) (a .coefficients .now) (a .vendor .now) (c .before .before .before .before .before .before .before .before .before .before .before .before .before .before .before .if1 .left) (c .before .before .before .before .before .before .before .before .before .before .before .before .before .before .if2 .left) (c .before .before .before .before .before .before .before .before .before .before .before .before .before .if3 .left)) ∙ sym (c .before .before .before .before .before .before .before .before .before .before .before .before .check .ensures) ∙ c .before .before .before .before .before .before .before .before .before .before .before .if4 .left)
     (w .result .first) (w .result .second) (k .last .1 .1 .1 .0) (y .last .0)
     (training-is (a .frame .now) (s .result) (s .ensures) (c .before .before .before .before .before .before .before .before .if5 .taken))
     (ap (λ (t : TakenPair). t .first) words) (ap (λ (t : TakenPair). t .second) words)
@@ -84,7 +87,7 @@ returns-6 c =
     let s = c .before .before .before .before .before .before .single in
     let y = c .before .before .copy2 in
     final-read (a .frame .now) (a .coefficients .now) (a .vendor .now)
-    (simp (eq-eqb _ _ (c .before .before .before .before .before .before .before .before .before .before .before .if1 .left), eq-eqb _ _ (c .before .before .before .before .before .before .before .before .before .before .if2 .left), eq-eqb _ _ (c .before .before .before .before .before .before .before .before .before .if3 .left)) (sym (c .before .before .before .before .before .before .before .before .wrong .ensures) ∙ c .before .before .before .before .before .before .before .if4 .left))
+    (sym (as-checked (a .frame .now) (a .coefficients .now) (a .vendor .now) (c .before .before .before .before .before .before .before .before .before .before .before .if1 .left) (c .before .before .before .before .before .before .before .before .before .before .if2 .left) (c .before .before .before .before .before .before .before .before .before .if3 .left)) ∙ sym (c .before .before .before .before .before .before .before .before .check .ensures) ∙ c .before .before .before .before .before .before .before .if4 .left)
     (y .last .0) (training-not (a .frame .now) (s .result) (s .ensures) (c .before .before .before .before .if5 .left))
     (vendor-read (a .frame .now) (a .vendor .now) (y .last .0) 4016 (c .before .before .before .before .before .before .before .before .before .before .before .if1 .left) (c .before .before .before .before .before .before .before .before .before .if3 .left) refl (y .ensures))
 
@@ -98,7 +101,7 @@ read-spec =
     returns-2
     refused-requires-3
     returns-3
-    wrong-requires
+    check-requires
     refused-requires-4
     returns-4
     single-requires

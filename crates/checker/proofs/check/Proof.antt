@@ -1,9 +1,9 @@
--- `reader::check` meets its contract.
+-- `checker::check` meets its contract.
 use borrow.Author.Needs.{needs}
 use borrow.Author.Tests.{eq-eqb, ne-eqb}
 use mathlib.Core.Path.{_∙_}
-use Rattle.reader.proofs.check.Statement.{statement}
-use Rattle.reader.proofs.check.Tie as tie
+use Rattle.checker.proofs.check.Statement.{statement}
+use Rattle.checker.proofs.check.Tie as tie
 
 returns : tie.Need-returns
 returns c = simp (ne-eqb _ _ (c .if1 .taken))

@@ -1,8 +1,8 @@
--- `reader::checks` meets its contract.
+-- `checker::checks` meets its contract.
 use borrow.Author.Needs.{needs}
-use Rattle.reader.proofs.Laws.{checks-is}
-use Rattle.reader.proofs.checks.Statement.{statement}
-use Rattle.reader.proofs.checks.Tie as tie
+use Rattle.checker.proofs.Laws.{checks-is}
+use Rattle.checker.proofs.checks.Statement.{statement}
+use Rattle.checker.proofs.checks.Tie as tie
 
 check-bits-requires : tie.Need-check-bits-requires
 check-bits-requires c κs = search needs

@@ -1,10 +1,10 @@
--- `reader::wrong` meets its contract: the checks in the order of their numbers.
+-- `checker::wrong` meets its contract: the checks in the order of their numbers.
 use borrow.Author.Needs.{needs}
 use borrow.Author.Tests.{not-true, not-false}
 use mathlib.Core.Path.{sym, _∙_}
-use Rattle.reader.proofs.Laws.{known-is, training-is, training-not, check-is, pad-is, pad-not}
-use Rattle.reader.proofs.wrong.Statement.{statement}
-use Rattle.reader.proofs.wrong.Tie as tie
+use Rattle.checker.proofs.Laws.{known-is, training-is, training-not, check-is, pad-is, pad-not}
+use Rattle.checker.proofs.wrong.Statement.{statement}
+use Rattle.checker.proofs.wrong.Tie as tie
 
 single-requires : tie.Need-single-requires
 single-requires c κs = search needs

@@ -1,7 +1,7 @@
--- `reader::known` meets its contract.
-use Rattle.reader.proofs.Laws.{final-known, other-known}
-use Rattle.reader.proofs.known.Statement.{statement}
-use Rattle.reader.proofs.known.Tie as tie
+-- `checker::known` meets its contract.
+use Rattle.checker.proofs.Laws.{final-known, other-known}
+use Rattle.checker.proofs.known.Statement.{statement}
+use Rattle.checker.proofs.known.Tie as tie
 
 returns : tie.Need-returns
 returns c = final-known (c .before .args .sync) (c .if1 .taken)
