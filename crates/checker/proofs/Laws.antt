@@ -11,9 +11,9 @@ use lib.Seq.{length-take-le}
 use Rattle.octets.specs.Bits.{digitsOf, valueOf, bitsOf, part}
 use Rattle.octets.proofs.Digits.{digits-value, take-bits, drop-bits}
 use Rattle.octets.proofs.Laws.{bits-length, bits-bits}
-use Rattle.fields.specs.declared.Taken.{Taken}
-use Rattle.fields.specs.declared.TakenPair.{TakenPair}
-use Rattle.fields.specs.Promises.{SingleTaken, PairTaken}
+use Rattle.walk.specs.declared.Taken.{Taken}
+use Rattle.walk.specs.declared.TakenPair.{TakenPair}
+use Rattle.walk.specs.Promises.{SingleTaken, PairTaken}
 use Rattle.remainder.specs.Division.{polynomial, generator}
 use Rattle.remainder.specs.Promises.{CheckBits}
 use Rattle.remainder.proofs.Division.{computed}

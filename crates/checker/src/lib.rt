@@ -35,11 +35,11 @@ fn wrong(frame: &[u8]) -> u32
     requires { ⌜ length (now frame) ≡ 529 ⌝ }
     ensures { λ r. ⌜ r ≡ answer (bitRefusals (bitsOf (now (frame .entry)))) ⌝ }
 {
-    let sync = fields::single(frame, 0, layout::SYNC_BITS).value;
+    let sync = walk::single(frame, 0, layout::SYNC_BITS).value;
     if !known(sync) {
         return answer::SYNC;
     }
-    let end = fields::pair(
+    let end = walk::pair(
         frame,
         layout::CHECK_AT,
         layout::CHECK_BITS,

@@ -14,9 +14,9 @@ use Rattle.answer.proofs.Laws.{kept, given}
 use Rattle.octets.specs.Bits.{valueOf, bitsOf, octetsOf, part, laid}
 use Rattle.octets.proofs.Laws.{bits-length, laid-end}
 use Rattle.words.specs.Promises.{behindOf}
-use Rattle.fields.specs.declared.TakenPair.{TakenPair}
-use Rattle.fields.specs.Promises.{PairTaken, SignedFilled, signedFrom, behindAll}
-use Rattle.fields.proofs.Laws.{behind-all-is, signed-from}
+use Rattle.walk.specs.declared.TakenPair.{TakenPair}
+use Rattle.walk.specs.Promises.{PairTaken, SignedFilled, signedFrom, behindAll}
+use Rattle.walk.proofs.Laws.{behind-all-is, signed-from}
 use Rattle.layout.specs.Places.{wordA, wordB, vendor}
 use Rattle.layout.specs.Frame.{trainingSync, fieldOf, coefficientsOf}
 use Rattle.layout.specs.Refusals.{hasSync, checkRefusals, readRefusals}

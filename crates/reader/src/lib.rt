@@ -39,10 +39,10 @@ pub fn read(frame: &[u8], coefficients: &mut [i32], vendor: &mut [u8]) -> Found
     if n != 0 {
         return refused(n);
     }
-    let sync = fields::single(frame, 0, layout::SYNC_BITS);
+    let sync = walk::single(frame, 0, layout::SYNC_BITS);
     if sync.value == layout::TRAINING_SYNC {
-        let at = fields::fill_signed(frame, sync.next, layout::COEFFICIENT_BITS, coefficients);
-        let words = fields::pair(frame, at, layout::WORD_BITS, layout::WORD_BITS);
+        let at = walk::fill_signed(frame, sync.next, layout::COEFFICIENT_BITS, coefficients);
+        let words = walk::pair(frame, at, layout::WORD_BITS, layout::WORD_BITS);
         octets::copy(vendor, 0, frame, words.next, layout::VENDOR_BITS);
         return Found {
             answer: answer::DONE,

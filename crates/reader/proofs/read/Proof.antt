@@ -3,7 +3,7 @@ use borrow.Author.Needs.{needs}
 use borrow.Author.Tests.{eq-eqb, ne-eqb}
 use mathlib.Core.Path.{refl, sym, ap, _∙_}
 use native.Mathlib.Omega.{arith}
-use Rattle.fields.specs.declared.TakenPair.{TakenPair}
+use Rattle.walk.specs.declared.TakenPair.{TakenPair}
 use Rattle.checker.proofs.Laws.{next-is, training-is, training-not}
 use Rattle.reader.proofs.Laws.{refusing, as-checked, training-read, final-read, coefficients-read, words-at, words-read, vendor-read}
 use Rattle.reader.proofs.read.Statement.{statement}

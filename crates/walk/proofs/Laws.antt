@@ -11,7 +11,7 @@ use Rattle.octets.specs.Bits.{valueOf, bitsOf, part}
 use Rattle.octets.specs.Signed.{signedOf, numbersIn}
 use Rattle.words.specs.Promises.{behindOf}
 use Rattle.octets.proofs.Fields.{part-part}
-use Rattle.fields.specs.Promises.{signedFrom, behindAll}
+use Rattle.walk.specs.Promises.{signedFrom, behindAll}
 
 module _ (w : ℕ) (h : w ≤ 32) where
   -- the place behind a field

@@ -1,4 +1,4 @@
--- `fields::fill_signed` meets its contract: a walk of its MIR, by hand. A reader is made in a local (`Makes.antt`). In each turn of the loop it is lent to `take_signed` and comes back
+-- `walk::fill_signed` meets its contract: a walk of its MIR, by hand. A reader is made in a local (`Makes.antt`). In each turn of the loop it is lent to `take_signed` and comes back
 -- behind the field (`Takes.antt`), and the value is stored. The borrow of the room is opened once, before the loop, and closed once, after it.
 --     Facts    the invariant, where t fields are left: what is filled, and then the t fields from the reader's place on, are all the fields; and the place behind those is the place behind all
 --     more     a turn that fills one place.        ends     the turn that leaves the loop, with the rest of the body.        loops    the loop, by `Sound/Loop.antt`'s `loop-rule`
@@ -54,25 +54,25 @@ use denote.Triple.Table.{entered, cited}
 use denote.Triple.Walked.{says, Stays, stay-none, stay-none-slice, stay-slice, walkOf, goes-none, goes-none-slice, goes-slice, Walks, ends-at, walked, walk-meets}
 use denote.Exit.{yes}
 use Rattle.words.specs.Promises.{SignedRead, behindOf}
 use Rattle.fields.specs.declared.FieldReader.{FieldReader}
-use Rattle.fields.specs.Promises.{signedFrom, behindAll}
+use Rattle.walk.specs.Promises.{signedFrom, behindAll}
 use Rattle.fields.proofs.FieldReader as T
 use Rattle.fields.proofs.FieldReader.Laws as T′
 use Rattle.fields.proofs.Lent.{Cell, Own, Kept}
 use Rattle.fields.proofs.Makes.{Typed, typed, Reader}
 use Rattle.fields.proofs.Makes as Makes
 use Rattle.fields.proofs.Takes as Takes
 use Rattle.fields.proofs.reader.Symbol as reader-def
 use Rattle.fields.proofs.reader.Symbol.{name as #fields·reader}
 use Rattle.fields.proofs.reader.Met as reader-thm
 use Rattle.fields.proofs.FieldReader.take_signed.Symbol as take-def
 use Rattle.fields.proofs.FieldReader.take_signed.Symbol.{name as #fields·FieldReader·take-signed}
 use Rattle.fields.proofs.FieldReader.take_signed.Met as take-thm
-use Rattle.fields.proofs.fill_signed.Key.{name as #fields·fill-signed}
-use Rattle.fields.proofs.fill_signed as fill
-use Rattle.fields.proofs.fill_signed.Statement as stated
-use Rattle.fields.proofs.fill_signed.Code as code
-use Rattle.fields.proofs.fill_signed.Code.Mir as code-mir
+use Rattle.walk.proofs.fill_signed.Key.{name as #walk·fill-signed}
+use Rattle.walk.proofs.fill_signed as fill
+use Rattle.walk.proofs.fill_signed.Statement as stated
+use Rattle.walk.proofs.fill_signed.Code as code
+use Rattle.walk.proofs.fill_signed.Code.Mir as code-mir
 
 abbrev stayed : Stays (fill.ended .signature .params) (fill.ended .kept)
 stayed = (stay-none-slice (0 ∷ []) tt (plain (λ _. u8)) yes, (stay-none (λ _. usize) yes, (stay-none (λ _. u32) yes, (stay-slice (1 ∷ []) tt (plain (λ _. i32)), tt))))
@@ -326,7 +326,7 @@ pub fill-signed-spec : {M : Type 1} → stated.statement M
 unfolding code.routine tablesOf
 fill-signed-spec 𝓤 H 𝓜 𝓖 𝓡 =
     entered 𝓤 H (tripleOf 𝓤 H (𝓖 .A) fill.signature (fill.spec 𝓤 H (𝓖 .A) (𝓜 .mem) (𝓡 .run)))
-    (tables 𝓤 H 𝓜 𝓡 code.env .C) (tables 𝓤 H 𝓜 𝓡 code.env .Λ) #fields·fill-signed code.function (code.unfolded 𝓤 H 𝓜 𝓡)
+    (tables 𝓤 H 𝓜 𝓡 code.env .C) (tables 𝓤 H 𝓜 𝓡 code.env .Λ) #walk·fill-signed code.function (code.unfolded 𝓤 H 𝓜 𝓡)
     (fill-meets 𝓤 H (𝓖 .A) (givenOf 𝓤 H 𝓜 𝓖) (𝓜 .mem) (𝓡 .run) (tablesOf 𝓤 H 𝓜 (tables 𝓤 H 𝓜 𝓡 code.env))
     (cited 𝓤 H (Reader 𝓤 H (𝓖 .A) (𝓜 .mem) (𝓡 .run)) 𝓜 𝓡 code.env #fields·reader reader-def.routine code.calls-fields·reader (reader-thm.met 𝓤 H 𝓜 𝓖 𝓡))
     (cited 𝓤 H (Takes.Taking i32 SignedRead 𝓤 H (𝓖 .A)) 𝓜 𝓡 code.env #fields·FieldReader·take-signed take-def.routine code.calls-fields·FieldReader·take-signed (take-thm.met 𝓤 H 𝓜 𝓖 𝓡)))
