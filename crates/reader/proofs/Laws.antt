@@ -39,7 +39,7 @@ words-read f at w e p =
 
 -- ---- vendor data
 
-pub vendor-read : (f v v′ : List ℕ) (at : ℕ) → length f ≡ 529 → length v ≡ 16 → at ≡ 4016 → v′ ≡ laid v 0 (part at 128 (bitsOf f)) → v′ ≡ octetsOf 16 (fieldOf vendor (bitsOf f))
+pub vendor-read : (f v v′ : List ℕ) (at : ℕ) → length f ≡ 529 → length v ≡ 16 → at ≡ 4016 → v′ ≡ laid v 0 (part at 128 (bitsOf f)) → v′ ≡ vendorOctets (bitsOf f)
 vendor-read f v v′ at l lv h e =
     let D = part 4016 128 (bitsOf f) in
     let n : length D ≡ 128 = length-take-le 128 (drop 4016 (bitsOf f)) (omega (arith, length-drop 4016 (bitsOf f), bits-length f)) in
