@@ -1,0 +1,318 @@
+// The rules of the phases (000, clauses 4.1.2 and 4.1.8): a small method for each, by a match on the report code. specs/Phases.antt is their table.
+ghost use mathlib.Core.Path.{_≡_};
+ghost use mathlib.Core.Bool.{cond, _&&_};
+ghost use Prim.Native.Nat.{_+_, _≤_};
+ghost use lib.Dec.{leb, eqb};
+ghost use Rattle.answer.specs.Answer.{answer};
+ghost use Rattle.phases.specs.Phases.{Ready, Gap, Await, Cr, Hearing, Quiet, Sc, Sr, Tc, Tr, Fc, Settling, Valid, Exception, ntu, ltu, rowOf};
+ghost use Rattle.phases.specs.Step.{changed, entered, counted, heard, acted, moved, stateRefusals};
+use crate::Supervisor;
+use crate::code;
+use crate::phase;
+
+impl Supervisor {
+    // What a code does to a legal state: the rule of its phase.
+    pub(crate) fn moved(self, code: u32) -> Supervisor
+        requires { ⌜ answer (stateRefusals self) ≡ 0 ⌝ }
+        ensures { λ r. ⌜ r ≡ moved self code ⌝ }
+    {
+        let phase = self.phase;
+        match phase {
+            phase::READY => self.in_ready(code),
+            phase::GAP => self.in_gap(code),
+            phase::AWAIT => self.in_await(code),
+            phase::C_R => self.in_cr(code),
+            phase::HEARING => self.in_hearing(code),
+            phase::QUIET => self.in_quiet(code),
+            phase::S_C => self.in_sc(code),
+            phase::S_R => self.in_sr(code),
+            phase::T_C => self.in_tc(code),
+            phase::T_R => self.in_tr(code),
+            phase::F_C => self.in_fc(code),
+            phase::SETTLING => self.in_settling(code),
+            phase::VALID => self.in_valid(code),
+            _ => self.in_exception(code),
+        }
+    }
+
+    // Every changed state is built here: the end and the silence stay.
+    fn changed(self, phase: u32, ticks: u32, attempt: u32, converged: u32, seen: u32) -> Supervisor
+        ensures { λ r. ⌜ r ≡ changed self phase ticks attempt converged seen ⌝ }
+    {
+        Supervisor {
+            end: self.end,
+            phase,
+            ticks,
+            attempt,
+            silence: self.silence,
+            converged,
+            seen,
+        }
+    }
+
+    // A phase is entered: its ticks are 0 and its marks unheard, whatever was heard before it.
+    fn entered(self, phase: u32, attempt: u32) -> Supervisor
+        ensures { λ r. ⌜ r ≡ entered self phase attempt ⌝ }
+    {
+        self.changed(phase, 0, attempt, 0, 0)
+    }
+
+    // The phase goes on after a tick, held at 59,999.
+    fn counted(self, attempt: u32) -> Supervisor
+        ensures { λ r. ⌜ r ≡ counted self attempt ⌝ }
+    {
+        if self.ticks < Self::MOST_TICKS {
+            self.changed(
+                self.phase,
+                self.ticks + 1,
+                attempt,
+                self.converged,
+                self.seen,
+            )
+        } else {
+            self.changed(
+                self.phase,
+                Self::MOST_TICKS,
+                attempt,
+                self.converged,
+                self.seen,
+            )
+        }
+    }
+
+    // The phase goes on with these marks.
+    fn marked(self, converged: u32, seen: u32) -> Supervisor
+        ensures { λ r. ⌜ r ≡ changed self (self .phase) (self .ticks) (self .attempt) converged seen ⌝ }
+    {
+        self.changed(self.phase, self.ticks, self.attempt, converged, seen)
+    }
+
+    // A tick in a phase outside an attempt: the limit is tested first, the hold second.
+    fn waited(self, limit: u32, next: u32) -> Supervisor
+        requires { ⌜ self .ticks ≤ 59999 ⌝ }
+        ensures { λ r. ⌜ r ≡ cond (leb limit (self .ticks + 1)) (entered self next 0) (counted self (self .attempt)) ⌝ }
+    {
+        if limit <= self.ticks + 1 {
+            self.entered(next, 0)
+        } else {
+            self.counted(self.attempt)
+        }
+    }
+
+    // A tick in an attempt: the 15,000th ends it, even where it would have ended the phase.
+    fn tried(self, over: bool, next: u32) -> Supervisor
+        requires { ⌜ self .attempt ≤ 14999 ⌝ }
+        ensures { λ r. ⌜ r ≡ cond (leb 15000 (self .attempt + 1)) (entered self Exception 0) (cond over (entered self next (self .attempt + 1)) (counted self (self .attempt + 1))) ⌝ }
+    {
+        if Self::ATTEMPT <= self.attempt + 1 {
+            return self.entered(phase::EXCEPTION, 0);
+        }
+        if over {
+            self.entered(next, self.attempt + 1)
+        } else {
+            self.counted(self.attempt + 1)
+        }
+    }
+
+    // Ready until 1, which starts Gap at the NTU and Await at the LTU.
+    fn in_ready(self, code: u32) -> Supervisor
+        ensures { λ r. ⌜ r ≡ cond (eqb (self .end) 1) (acted (rowOf Ready (ntu (self .silence))) self code) (acted (rowOf Ready (ltu (self .silence))) self code) ⌝ }
+    {
+        match code {
+            code::PRE_ACTIVATED => if self.end == Self::NTU {
+                self.entered(phase::GAP, 0)
+            } else {
+                self.entered(phase::AWAIT, 0)
+            },
+            code::ABNORMAL => self.entered(phase::EXCEPTION, 0),
+            _ => self,
+        }
+    }
+
+    // NTU: Gap, 300 ticks.
+    fn in_gap(self, code: u32) -> Supervisor
+        requires { ⌜ self .ticks ≤ 59999 ⌝ }
+        ensures { λ r. ⌜ r ≡ acted (rowOf Gap (ntu (self .silence))) self code ⌝ }
+    {
+        match code {
+            code::TICK => self.waited(Self::GAP, phase::C_R),
+            code::ABNORMAL => self.entered(phase::EXCEPTION, 0),
+            _ => self,
+        }
+    }
+
+    // LTU: Await until 2. The attempt opens with it.
+    fn in_await(self, code: u32) -> Supervisor
+        ensures { λ r. ⌜ r ≡ acted (rowOf Await (ltu (self .silence))) self code ⌝ }
+    {
+        match code {
+            code::C_R_BEGINS => self.entered(phase::HEARING, 0),
+            code::ABNORMAL => self.entered(phase::EXCEPTION, 0),
+            _ => self,
+        }
+    }
+
+    // NTU: C_r, 1,000 ticks.
+    fn in_cr(self, code: u32) -> Supervisor
+        requires { ⌜ (self .ticks ≤ 59999) × (self .attempt ≤ 14999) ⌝ }
+        ensures { λ r. ⌜ r ≡ acted (rowOf Cr (ntu (self .silence))) self code ⌝ }
+    {
+        match code {
+            code::TICK => self.tried(Self::C_R <= self.ticks + 1, phase::QUIET),
+            code::ABNORMAL => self.entered(phase::EXCEPTION, 0),
+            _ => self,
+        }
+    }
+
+    // LTU: Hearing until 3.
+    fn in_hearing(self, code: u32) -> Supervisor
+        requires { ⌜ self .attempt ≤ 14999 ⌝ }
+        ensures { λ r. ⌜ r ≡ acted (rowOf Hearing (ltu (self .silence))) self code ⌝ }
+    {
+        match code {
+            code::TICK => self.tried(false, phase::QUIET),
+            code::C_R_ENDED => self.entered(phase::QUIET, self.attempt),
+            code::ABNORMAL => self.entered(phase::EXCEPTION, 0),
+            _ => self,
+        }
+    }
+
+    // Quiet, 1,500 ticks at the NTU and 500 at the LTU.
+    fn in_quiet(self, code: u32) -> Supervisor
+        requires { ⌜ (self .ticks ≤ 59999) × (self .attempt ≤ 14999) ⌝ }
+        ensures { λ r. ⌜ r ≡ cond (eqb (self .end) 1) (acted (rowOf Quiet (ntu (self .silence))) self code) (acted (rowOf Quiet (ltu (self .silence))) self code) ⌝ }
+    {
+        match code {
+            code::TICK => if self.end == Self::NTU {
+                self.tried(Self::NTU_QUIET <= self.ticks + 1, phase::S_R)
+            } else {
+                self.tried(Self::LTU_QUIET <= self.ticks + 1, phase::S_C)
+            },
+            code::ABNORMAL => self.entered(phase::EXCEPTION, 0),
+            _ => self,
+        }
+    }
+
+    // NTU: S_r until both 4 and 5 have come, in either order, during S_r.
+    fn in_sr(self, code: u32) -> Supervisor
+        requires { ⌜ self .attempt ≤ 14999 ⌝ }
+        ensures { λ r. ⌜ r ≡ acted (rowOf Sr (ntu (self .silence))) self code ⌝ }
+    {
+        match code {
+            code::TICK => self.tried(both_heard(self.converged, self.seen), phase::T_R),
+            code::CONVERGED => if self.seen == 0 {
+                self.marked(1, self.seen)
+            } else {
+                self.entered(phase::T_R, self.attempt)
+            },
+            code::T_C_SEEN => if self.converged == 0 {
+                self.marked(self.converged, 1)
+            } else {
+                self.entered(phase::T_R, self.attempt)
+            },
+            code::ABNORMAL => self.entered(phase::EXCEPTION, 0),
+            _ => self,
+        }
+    }
+
+    // LTU: S_c until it has lasted 5,000 ticks and 4 has come during it.
+    fn in_sc(self, code: u32) -> Supervisor
+        requires { ⌜ (self .ticks ≤ 59999) × (self .attempt ≤ 14999) ⌝ }
+        ensures { λ r. ⌜ r ≡ acted (rowOf Sc (ltu (self .silence))) self code ⌝ }
+    {
+        match code {
+            code::TICK => if self.converged == 0 {
+                self.tried(false, phase::T_C)
+            } else {
+                self.tried(Self::S_C <= self.ticks + 1, phase::T_C)
+            },
+            code::CONVERGED => if Self::S_C <= self.ticks {
+                self.entered(phase::T_C, self.attempt)
+            } else {
+                self.marked(1, self.seen)
+            },
+            code::ABNORMAL => self.entered(phase::EXCEPTION, 0),
+            _ => self,
+        }
+    }
+
+    // NTU: T_r until 7. The attempt ends in data mode.
+    fn in_tr(self, code: u32) -> Supervisor
+        requires { ⌜ self .attempt ≤ 14999 ⌝ }
+        ensures { λ r. ⌜ r ≡ acted (rowOf Tr (ntu (self .silence))) self code ⌝ }
+    {
+        match code {
+            code::TICK => self.tried(false, phase::SETTLING),
+            code::F_C_OVER => self.entered(phase::SETTLING, 0),
+            code::ABNORMAL => self.entered(phase::EXCEPTION, 0),
+            _ => self,
+        }
+    }
+
+    // LTU: T_c until 6.
+    fn in_tc(self, code: u32) -> Supervisor
+        requires { ⌜ self .attempt ≤ 14999 ⌝ }
+        ensures { λ r. ⌜ r ≡ acted (rowOf Tc (ltu (self .silence))) self code ⌝ }
+    {
+        match code {
+            code::TICK => self.tried(false, phase::F_C),
+            code::T_R_SEEN => self.entered(phase::F_C, self.attempt),
+            code::ABNORMAL => self.entered(phase::EXCEPTION, 0),
+            _ => self,
+        }
+    }
+
+    // LTU: F_c until 7. The attempt ends in data mode.
+    fn in_fc(self, code: u32) -> Supervisor
+        requires { ⌜ self .attempt ≤ 14999 ⌝ }
+        ensures { λ r. ⌜ r ≡ acted (rowOf Fc (ltu (self .silence))) self code ⌝ }
+    {
+        match code {
+            code::TICK => self.tried(false, phase::SETTLING),
+            code::F_C_OVER => self.entered(phase::SETTLING, 0),
+            code::ABNORMAL => self.entered(phase::EXCEPTION, 0),
+            _ => self,
+        }
+    }
+
+    // Settling, 1,000 ticks.
+    fn in_settling(self, code: u32) -> Supervisor
+        requires { ⌜ self .ticks ≤ 59999 ⌝ }
+        ensures { λ r. ⌜ r ≡ acted (rowOf Settling (ntu (self .silence))) self code ⌝ }
+    {
+        match code {
+            code::TICK => self.waited(Self::SETTLING, phase::VALID),
+            code::ABNORMAL => self.entered(phase::EXCEPTION, 0),
+            _ => self,
+        }
+    }
+
+    // Valid: only an 8 ends it.
+    fn in_valid(self, code: u32) -> Supervisor
+        ensures { λ r. ⌜ r ≡ acted (rowOf Valid (ntu (self .silence))) self code ⌝ }
+    {
+        match code {
+            code::ABNORMAL => self.entered(phase::EXCEPTION, 0),
+            _ => self,
+        }
+    }
+
+    // Exception for the silence, which an 8 starts again: that is no change of phase, so the rest stays as handed in.
+    fn in_exception(self, code: u32) -> Supervisor
+        requires { ⌜ self .ticks ≤ 59999 ⌝ }
+        ensures { λ r. ⌜ r ≡ acted (rowOf Exception (ntu (self .silence))) self code ⌝ }
+    {
+        match code {
+            code::TICK => self.waited(self.silence, phase::READY),
+            code::ABNORMAL => self.changed(self.phase, 0, self.attempt, self.converged, self.seen),
+            _ => self,
+        }
+    }
+}
+
+// Both reports that end S_r are heard.
+fn both_heard(converged: u32, seen: u32) -> bool
+    ensures { λ r. ⌜ r ≡ (heard converged && heard seen) ⌝ }
+{
+    converged != 0 && seen != 0
+}
