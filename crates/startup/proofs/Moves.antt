@@ -11,8 +11,8 @@ use Rattle.answer.specs.Answer.{answer}
 use Rattle.phases.specs.declared.Supervisor.{Supervisor}
 use Rattle.phases.specs.Phases.{Ready, Gap, Await, Cr, Hearing, Sc, Sr, Tc, Tr, Settling, Valid, Exception, Row, row, ntu, ltu, phasesOf, rowOf, inAttempt, counts}
 use Rattle.phases.specs.Step.{heard, acted, among, here, moved, stateRefusals, stepOf}
-use Rattle.startup.specs.Attempts.{one}
 use Rattle.phases.proofs.Laws.{by-cases}
+use Rattle.startup.specs.Attempts.{one}
 use Rattle.startup.proofs.Counts.{and-left, and-right}
 
 -- a state by its numbers
