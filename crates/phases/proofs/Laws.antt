@@ -93,10 +93,6 @@ beyond p b silence h = go b
     go true = simp (no 0 (omega arith), no 1 (omega arith), no 3 (omega arith), no 5 (omega arith), no 7 (omega arith), no 9 (omega arith), no 11 (omega arith), no 12 (omega arith), no 13 (omega arith))
     go false = simp (no 0 (omega arith), no 2 (omega arith), no 4 (omega arith), no 5 (omega arith), no 6 (omega arith), no 8 (omega arith), no 10 (omega arith), no 11 (omega arith), no 12 (omega arith), no 13 (omega arith))
 
--- an end is the LTU exactly where it is not the NTU
-pub ltu-is : (e : ℕ) → e ≤ 1 → eqb e 0 ≡ not (eqb e 1)
-ltu-is e h = ⊎-elim (λ q. rw q) (λ z. let q : e ≡ 0 = omega arith in rw q) (eq-or-lt-of-le h)
-
 -- what each end's phases are, by number
 pub of-ntu : (b : Bool) (silence p : ℕ) → (p ≡ 1) ⊎ ((p ≡ 3) ⊎ ((p ≡ 7) ⊎ (p ≡ 9))) → b ≡ isOf p (cond b (ntu silence) (ltu silence))
 of-ntu true silence p h = ⊎-elim (λ q. rw q) (⊎-elim (λ q. rw q) (⊎-elim (λ q. rw q) (λ q. rw q))) h

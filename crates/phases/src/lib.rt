@@ -1,7 +1,8 @@
 // The start-up supervisor (000, clauses 4.1.2 and 4.1.8): a state by value, and one step for each code.
 ghost use mathlib.Core.Path.{_≡_};
-ghost use Prim.Native.Nat.{_≤_};
-ghost use Rattle.answer.specs.Answer.{answer};
+ghost use mathlib.Core.List.{[], _∷_};
+ghost use lib.Dec.{ltb};
+ghost use Rattle.answer.specs.Answer.{refuse, answer};
 ghost use Rattle.phases.specs.Phases.{phasesOf, isOf, inAttempt};
 ghost use Rattle.phases.specs.Step.{stateRefusals, answered, stepOf, none, fresh, silenceOf, startOf};
 
@@ -69,16 +70,36 @@ impl Supervisor {
         ensures { λ r. ⌜ r ≡ startOf end silence ⌝ }
     {
         let meant = Self::meant(silence);
+        let refusal = Self::start_refusal(end, meant);
+        if refusal == answer::DONE {
+            Self::fresh(end, meant).answered()
+        } else {
+            Self::none().refused(refusal)
+        }
+    }
+
+    // What a start is refused with, or 0: an unknown end comes first.
+    fn start_refusal(end: u32, silence: u32) -> u32
+        ensures { λ r. ⌜ r ≡ answer (refuse 2 (ltb 1 end) ∷ refuse 4 (ltb silence 2000) ∷ refuse 4 (ltb 60000 silence) ∷ []) ⌝ }
+    {
         if Self::NTU < end {
-            return Self::none().refused(answer::UNKNOWN);
+            answer::UNKNOWN
+        } else {
+            Self::silence_refusal(silence)
         }
-        if meant < Self::SHORTEST_SILENCE {
-            return Self::none().refused(answer::RANGE);
+    }
+
+    // What a silence is refused with, or 0.
+    fn silence_refusal(silence: u32) -> u32
+        ensures { λ r. ⌜ r ≡ answer (refuse 4 (ltb silence 2000) ∷ refuse 4 (ltb 60000 silence) ∷ []) ⌝ }
+    {
+        if silence < Self::SHORTEST_SILENCE {
+            return answer::RANGE;
         }
-        if Self::LONGEST_SILENCE < meant {
-            return Self::none().refused(answer::RANGE);
+        if Self::LONGEST_SILENCE < silence {
+            return answer::RANGE;
         }
-        Self::fresh(end, meant).answered()
+        answer::DONE
     }
 
     // The silence that is meant: 0 stands for the default.
@@ -144,27 +165,28 @@ impl Supervisor {
         if Self::NTU < self.end {
             return answer::UNKNOWN;
         }
-        if !self.has_phase() {
+        if self.has_phase() {
+            Self::range_refusal(self.attempt, self.ticks, self.silence)
+        } else {
+            answer::RANGE
+        }
+    }
+
+    // What a state of an end's phase is refused with, or 0.
+    fn range_refusal(attempt: u32, ticks: u32, silence: u32) -> u32
+        ensures { λ r. ⌜ r ≡ answer (refuse 4 (ltb 14999 attempt) ∷ refuse 4 (ltb 59999 ticks) ∷ refuse 4 (ltb silence 2000) ∷ refuse 4 (ltb 60000 silence) ∷ []) ⌝ }
+    {
+        if Self::ATTEMPT <= attempt {
             return answer::RANGE;
         }
-        if Self::ATTEMPT <= self.attempt {
+        if Self::MOST_TICKS < ticks {
             return answer::RANGE;
         }
-        if Self::MOST_TICKS < self.ticks {
-            return answer::RANGE;
-        }
-        if self.silence < Self::SHORTEST_SILENCE {
-            return answer::RANGE;
-        }
-        if Self::LONGEST_SILENCE < self.silence {
-            return answer::RANGE;
-        }
-        answer::DONE
+        Self::silence_refusal(silence)
     }
 
     // Whether the phase is one of the end's. Both ends have Ready, Quiet, Settling, Valid and Exception.
     fn has_phase(self) -> bool
-        requires { ⌜ self .end ≤ 1 ⌝ }
         ensures { λ r. ⌜ r ≡ isOf (self .phase) (phasesOf (self .end) (self .silence)) ⌝ }
     {
         let phase = self.phase;
@@ -174,7 +196,7 @@ impl Supervisor {
         match phase {
             phase::GAP | phase::C_R | phase::S_R | phase::T_R => self.end == Self::NTU,
             phase::AWAIT | phase::HEARING | phase::S_C | phase::T_C | phase::F_C => self.end
-                == Self::LTU,
+                != Self::NTU,
             _ => true,
         }
     }

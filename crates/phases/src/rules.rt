@@ -5,7 +5,7 @@ ghost use Prim.Native.Nat.{_+_, _≤_};
 ghost use lib.Dec.{leb, eqb};
 ghost use Rattle.answer.specs.Answer.{answer};
 ghost use Rattle.phases.specs.Phases.{Ready, Gap, Await, Cr, Hearing, Quiet, Sc, Sr, Tc, Tr, Fc, Settling, Valid, Exception, ntu, ltu, rowOf};
-ghost use Rattle.phases.specs.Step.{changed, entered, counted, heard, acted, moved, stateRefusals};
+ghost use Rattle.phases.specs.Step.{changed, entered, oneMore, counted, heard, acted, moved, stateRefusals};
 use crate::Supervisor;
 use crate::code;
 use crate::phase;
@@ -57,34 +57,17 @@ impl Supervisor {
         self.changed(phase, 0, attempt, 0, 0)
     }
 
-    // The phase goes on after a tick, held at 59,999.
+    // The phase goes on after a tick.
     fn counted(self, attempt: u32) -> Supervisor
         ensures { λ r. ⌜ r ≡ counted self attempt ⌝ }
     {
-        if self.ticks < Self::MOST_TICKS {
-            self.changed(
-                self.phase,
-                self.ticks + 1,
-                attempt,
-                self.converged,
-                self.seen,
-            )
-        } else {
-            self.changed(
-                self.phase,
-                Self::MOST_TICKS,
-                attempt,
-                self.converged,
-                self.seen,
-            )
-        }
-    }
-
-    // The phase goes on with these marks.
-    fn marked(self, converged: u32, seen: u32) -> Supervisor
-        ensures { λ r. ⌜ r ≡ changed self (self .phase) (self .ticks) (self .attempt) converged seen ⌝ }
-    {
-        self.changed(self.phase, self.ticks, self.attempt, converged, seen)
+        self.changed(
+            self.phase,
+            one_more(self.ticks),
+            attempt,
+            self.converged,
+            self.seen,
+        )
     }
 
     // A tick in a phase outside an attempt: the limit is tested first, the hold second.
@@ -104,13 +87,25 @@ impl Supervisor {
         requires { ⌜ self .attempt ≤ 14999 ⌝ }
         ensures { λ r. ⌜ r ≡ cond (leb 15000 (self .attempt + 1)) (entered self Exception 0) (cond over (entered self next (self .attempt + 1)) (counted self (self .attempt + 1))) ⌝ }
     {
-        if Self::ATTEMPT <= self.attempt + 1 {
+        let attempt = self.attempt + 1;
+        if Self::ATTEMPT <= attempt {
             return self.entered(phase::EXCEPTION, 0);
         }
         if over {
-            self.entered(next, self.attempt + 1)
+            self.entered(next, attempt)
         } else {
-            self.counted(self.attempt + 1)
+            self.counted(attempt)
+        }
+    }
+
+    // A report that a phase of an attempt awaits: with it the phase is over, or goes on with these marks.
+    fn told(self, over: bool, next: u32, converged: u32, seen: u32) -> Supervisor
+        ensures { λ r. ⌜ r ≡ cond over (entered self next (self .attempt)) (changed self (self .phase) (self .ticks) (self .attempt) converged seen) ⌝ }
+    {
+        if over {
+            self.entered(next, self.attempt)
+        } else {
+            self.changed(self.phase, self.ticks, self.attempt, converged, seen)
         }
     }
 
@@ -200,16 +195,8 @@ impl Supervisor {
     {
         match code {
             code::TICK => self.tried(both_heard(self.converged, self.seen), phase::T_R),
-            code::CONVERGED => if self.seen == 0 {
-                self.marked(1, self.seen)
-            } else {
-                self.entered(phase::T_R, self.attempt)
-            },
-            code::T_C_SEEN => if self.converged == 0 {
-                self.marked(self.converged, 1)
-            } else {
-                self.entered(phase::T_R, self.attempt)
-            },
+            code::CONVERGED => self.told(self.seen != 0, phase::T_R, 1, self.seen),
+            code::T_C_SEEN => self.told(self.converged != 0, phase::T_R, self.converged, 1),
             code::ABNORMAL => self.entered(phase::EXCEPTION, 0),
             _ => self,
         }
@@ -221,16 +208,8 @@ impl Supervisor {
         ensures { λ r. ⌜ r ≡ acted (rowOf Sc (ltu (self .silence))) self code ⌝ }
     {
         match code {
-            code::TICK => if self.converged == 0 {
-                self.tried(false, phase::T_C)
-            } else {
-                self.tried(Self::S_C <= self.ticks + 1, phase::T_C)
-            },
-            code::CONVERGED => if Self::S_C <= self.ticks {
-                self.entered(phase::T_C, self.attempt)
-            } else {
-                self.marked(1, self.seen)
-            },
+            code::TICK => self.tried(heard_and_lasted(self.converged, self.ticks + 1), phase::T_C),
+            code::CONVERGED => self.told(Self::S_C <= self.ticks, phase::T_C, 1, self.seen),
             code::ABNORMAL => self.entered(phase::EXCEPTION, 0),
             _ => self,
         }
@@ -310,9 +289,27 @@ impl Supervisor {
     }
 }
 
+// One tick more, held at 59,999.
+fn one_more(ticks: u32) -> u32
+    ensures { λ r. ⌜ r ≡ oneMore ticks ⌝ }
+{
+    if ticks < Supervisor::MOST_TICKS {
+        ticks + 1
+    } else {
+        Supervisor::MOST_TICKS
+    }
+}
+
 // Both reports that end S_r are heard.
 fn both_heard(converged: u32, seen: u32) -> bool
     ensures { λ r. ⌜ r ≡ (heard converged && heard seen) ⌝ }
 {
     converged != 0 && seen != 0
+}
+
+// The report that S_c awaits is heard, and S_c has lasted.
+fn heard_and_lasted(converged: u32, ticks: u32) -> bool
+    ensures { λ r. ⌜ r ≡ (heard converged && leb 5000 ticks) ⌝ }
+{
+    converged != 0 && Supervisor::S_C <= ticks
 }

@@ -1,6 +1,6 @@
 use mathlib.Core.Path.{sym, _∙_}
 use lib.Dec.{eqb}
-use Rattle.phases.proofs.Laws.{beyond, ltu-is, of-ntu, of-ltu, of-both}
+use Rattle.phases.proofs.Laws.{beyond, of-ntu, of-ltu, of-both}
 use Rattle.phases.proofs.Supervisor.has_phase.Statement.{statement}
 use Rattle.phases.proofs.Supervisor.has_phase.Tie as tie
 
@@ -11,7 +11,7 @@ returns-2 : tie.Need-returns-2
 returns-2 c = let s = c .before .before .before .args .self in of-ntu (eqb (s .end) 1) (s .silence) (s .phase) (c .before .match .keys1)
 
 returns-3 : tie.Need-returns-3
-returns-3 c = let s = c .before .before .before .args .self in ltu-is (s .end) (c .before .before .before .pre) ∙ of-ltu (eqb (s .end) 1) (s .silence) (s .phase) (c .before .match .keys2)
+returns-3 c = let s = c .before .before .before .args .self in of-ltu (eqb (s .end) 1) (s .silence) (s .phase) (c .before .match .keys2)
 
 returns-4 : tie.Need-returns-4
 returns-4 c = let s = c .before .before .args .self in of-both (eqb (s .end) 1) (s .silence) (s .phase) (c .before .if1 .left) (c .match .rest .0 .1) (c .match .rest .1)

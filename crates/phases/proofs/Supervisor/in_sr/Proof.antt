@@ -1,5 +1,5 @@
 use mathlib.Core.Bool.{and-true}
-use borrow.Author.Tests.{eq-eqb, ne-eqb}
+use borrow.Author.Tests.{ne-eqb}
 use borrow.Author.Needs.{needs}
 use lib.Dec.{leb·zero}
 use Rattle.phases.proofs.Supervisor.in_sr.Statement.{statement}
@@ -11,41 +11,29 @@ both-heard-requires c κs = search needs
 tried-requires : tie.Need-tried-requires
 tried-requires c κs = search needs
 
-marked-requires : tie.Need-marked-requires
-marked-requires c κs = search needs
+told-requires : tie.Need-told-requires
+told-requires c κs = search needs
+
+told-requires-2 : tie.Need-told-requires-2
+told-requires-2 c κs = search needs
 
 entered-requires : tie.Need-entered-requires
 entered-requires c κs = search needs
-
-marked-requires-2 : tie.Need-marked-requires-2
-marked-requires-2 c κs = search needs
-
-entered-requires-2 : tie.Need-entered-requires-2
-entered-requires-2 c κs = search needs
-
-entered-requires-3 : tie.Need-entered-requires-3
-entered-requires-3 c κs = search needs
 
 returns : tie.Need-returns
 returns c = rw (c .before .before .match .keys1) (simp (leb·zero, and-true) (simp (c .before .both-heard .ensures) at (c .tried .ensures)))
 
 returns-2 : tie.Need-returns-2
-returns-2 c = rw (c .before .before .before .match .keys2) (simp (eq-eqb _ _ (c .before .if1 .taken)) (c .marked .ensures))
+returns-2 c = rw (c .before .before .match .keys2) (simp (leb·zero, and-true) (c .told .ensures))
 
 returns-3 : tie.Need-returns-3
-returns-3 c = rw (c .before .before .before .match .keys2) (simp (leb·zero, ne-eqb _ _ (c .before .if1 .left)) (c .entered .ensures))
+returns-3 c = rw (c .before .before .match .keys3) (simp (leb·zero, and-true) (c .told2 .ensures))
 
 returns-4 : tie.Need-returns-4
-returns-4 c = rw (c .before .before .before .match .keys3) (simp (eq-eqb _ _ (c .before .if2 .taken)) (c .marked2 .ensures))
+returns-4 c = rw (c .before .match .keys4) (c .entered .ensures)
 
 returns-5 : tie.Need-returns-5
-returns-5 c = rw (c .before .before .before .match .keys3) (simp (leb·zero, ne-eqb _ _ (c .before .if2 .left)) (c .entered2 .ensures))
-
-returns-6 : tie.Need-returns-6
-returns-6 c = rw (c .before .match .keys4) (c .entered3 .ensures)
-
-returns-7 : tie.Need-returns-7
-returns-7 c = simp (ne-eqb _ _ (c .match .rest .0 .0 .0 .1), ne-eqb _ _ (c .match .rest .0 .0 .1), ne-eqb _ _ (c .match .rest .0 .1), ne-eqb _ _ (c .match .rest .1))
+returns-5 c = simp (ne-eqb _ _ (c .match .rest .0 .0 .0 .1), ne-eqb _ _ (c .match .rest .0 .0 .1), ne-eqb _ _ (c .match .rest .0 .1), ne-eqb _ _ (c .match .rest .1))
 
 pub in-sr-spec : {M : Type 1} → statement M
 in-sr-spec =
@@ -53,15 +41,11 @@ in-sr-spec =
     (tie.spec
     both-heard-requires
     tried-requires
-    marked-requires
+    told-requires
+    told-requires-2
     entered-requires
-    marked-requires-2
-    entered-requires-2
-    entered-requires-3
     returns
     returns-2
     returns-3
     returns-4
-    returns-5
-    returns-6
-    returns-7)
+    returns-5)
