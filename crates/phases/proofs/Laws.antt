@@ -4,7 +4,7 @@ use native.Mathlib.Nat.{eq-or-lt-of-le}
 use native.Mathlib.Omega.{arith}
 use mathlib.Core.Path.{_≡_, refl, sym, ap, subst, _∙_}
 use mathlib.Core.Logic.{_⊎_, inl, inr, ⊎-elim}
-use mathlib.Core.Bool.{Bool, true, false, cond, not, false≢true}
+use mathlib.Core.Bool.{Bool, true, false, cond, not, _||_, false≢true}
 use mathlib.Core.List.{[], _∷_}
 use borrow.Author.Tests.{ltb-false, leb-true, leb-false, not-false, ne-eqb}
 use lib.Dec.{ltb, leb, eqb}
@@ -27,6 +27,11 @@ by-cases false f g = g refl
 -- a test is not both
 pub clash : {P : Type 0} (b : Bool) → b ≡ true → b ≡ false → P
 clash b p q = absurd (false≢true (sym q ∙ p))
+
+-- two tests that give the same
+pub either-gives : {A : Type 0} (t u : Bool) (x y : A) → cond (t || u) x y ≡ cond t x (cond u x y)
+either-gives true u x y = refl
+either-gives false u x y = refl
 
 -- what a state that is not refused is
 pub record Legal (s : Supervisor) : Type 0 where

@@ -4,7 +4,7 @@ ghost use mathlib.Core.List.{[], _∷_};
 ghost use lib.Dec.{ltb};
 ghost use Rattle.answer.specs.Answer.{refuse, answer};
 ghost use Rattle.phases.specs.Phases.{phasesOf, isOf, inAttempt};
-ghost use Rattle.phases.specs.Step.{stateRefusals, answered, stepOf, none, fresh, silenceOf, startOf};
+ghost use Rattle.phases.specs.Step.{stateRefusals, answered, stepOf, fresh, silenceOf, startOf};
 
 pub mod code;
 pub mod phase;
@@ -70,36 +70,25 @@ impl Supervisor {
         ensures { λ r. ⌜ r ≡ startOf end silence ⌝ }
     {
         let meant = Self::meant(silence);
-        let refusal = Self::start_refusal(end, meant);
+        let refusal = Self::verdict(
+            end,
+            (meant < Self::SHORTEST_SILENCE) | (Self::LONGEST_SILENCE < meant),
+        );
         if refusal == answer::DONE {
             Self::fresh(end, meant).answered()
         } else {
-            Self::none().refused(refusal)
+            Self::fresh(0, 0).refused(refusal)
         }
     }
 
-    // What a start is refused with, or 0: an unknown end comes first.
-    fn start_refusal(end: u32, silence: u32) -> u32
-        ensures { λ r. ⌜ r ≡ answer (refuse 2 (ltb 1 end) ∷ refuse 4 (ltb silence 2000) ∷ refuse 4 (ltb 60000 silence) ∷ []) ⌝ }
+    // The end is 2 where unknown, and else a number outside its range is 4.
+    fn verdict(end: u32, outside: bool) -> u32
+        ensures { λ r. ⌜ r ≡ answer (refuse 2 (ltb 1 end) ∷ refuse 4 outside ∷ []) ⌝ }
     {
         if Self::NTU < end {
-            answer::UNKNOWN
-        } else {
-            Self::silence_refusal(silence)
+            return answer::UNKNOWN;
         }
-    }
-
-    // What a silence is refused with, or 0.
-    fn silence_refusal(silence: u32) -> u32
-        ensures { λ r. ⌜ r ≡ answer (refuse 4 (ltb silence 2000) ∷ refuse 4 (ltb 60000 silence) ∷ []) ⌝ }
-    {
-        if silence < Self::SHORTEST_SILENCE {
-            return answer::RANGE;
-        }
-        if Self::LONGEST_SILENCE < silence {
-            return answer::RANGE;
-        }
-        answer::DONE
+        if outside { answer::RANGE } else { answer::DONE }
     }
 
     // The silence that is meant: 0 stands for the default.
@@ -113,22 +102,7 @@ impl Supervisor {
         }
     }
 
-    // No state: every number 0, which each later step refuses.
-    fn none() -> Supervisor
-        ensures { λ r. ⌜ r ≡ none ⌝ }
-    {
-        Supervisor {
-            end: 0,
-            phase: 0,
-            ticks: 0,
-            attempt: 0,
-            silence: 0,
-            converged: 0,
-            seen: 0,
-        }
-    }
-
-    // A card that is ready.
+    // A card that is ready. With 0 and 0 every number is 0: no state, which each later step refuses.
     fn fresh(end: u32, silence: u32) -> Supervisor
         ensures { λ r. ⌜ r ≡ fresh end silence ⌝ }
     {
@@ -162,27 +136,14 @@ impl Supervisor {
     pub fn refusal(self) -> u32
         ensures { λ r. ⌜ r ≡ answer (stateRefusals self) ⌝ }
     {
-        if Self::NTU < self.end {
-            return answer::UNKNOWN;
-        }
-        if self.has_phase() {
-            Self::range_refusal(self.attempt, self.ticks, self.silence)
-        } else {
-            answer::RANGE
-        }
-    }
-
-    // What a state of an end's phase is refused with, or 0.
-    fn range_refusal(attempt: u32, ticks: u32, silence: u32) -> u32
-        ensures { λ r. ⌜ r ≡ answer (refuse 4 (ltb 14999 attempt) ∷ refuse 4 (ltb 59999 ticks) ∷ refuse 4 (ltb silence 2000) ∷ refuse 4 (ltb 60000 silence) ∷ []) ⌝ }
-    {
-        if Self::ATTEMPT <= attempt {
-            return answer::RANGE;
-        }
-        if Self::MOST_TICKS < ticks {
-            return answer::RANGE;
-        }
-        Self::silence_refusal(silence)
+        Self::verdict(
+            self.end,
+            !self.has_phase()
+                | (Self::ATTEMPT <= self.attempt)
+                | (Self::MOST_TICKS < self.ticks)
+                | (self.silence < Self::SHORTEST_SILENCE)
+                | (Self::LONGEST_SILENCE < self.silence),
+        )
     }
 
     // Whether the phase is one of the end's. Both ends have Ready, Quiet, Settling, Valid and Exception.
@@ -240,8 +201,5 @@ impl Supervisor {
 pub fn in_attempt(phase: u32) -> bool
     ensures { λ r. ⌜ r ≡ inAttempt phase ⌝ }
 {
-    match phase {
-        phase::C_R..=phase::F_C => true,
-        _ => false,
-    }
+    (phase::C_R <= phase) & (phase <= phase::F_C)
 }

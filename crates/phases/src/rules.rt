@@ -5,7 +5,7 @@ ghost use Prim.Native.Nat.{_+_, _≤_};
 ghost use lib.Dec.{leb, eqb};
 ghost use Rattle.answer.specs.Answer.{answer};
 ghost use Rattle.phases.specs.Phases.{Ready, Gap, Await, Cr, Hearing, Quiet, Sc, Sr, Tc, Tr, Fc, Settling, Valid, Exception, ntu, ltu, rowOf};
-ghost use Rattle.phases.specs.Step.{changed, entered, oneMore, counted, heard, acted, moved, stateRefusals};
+ghost use Rattle.phases.specs.Step.{changed, entered, counted, heard, acted, moved, stateRefusals};
 use crate::Supervisor;
 use crate::code;
 use crate::phase;
@@ -57,17 +57,27 @@ impl Supervisor {
         self.changed(phase, 0, attempt, 0, 0)
     }
 
-    // The phase goes on after a tick.
+    // The phase goes on after a tick, held at 59,999.
     fn counted(self, attempt: u32) -> Supervisor
         ensures { λ r. ⌜ r ≡ counted self attempt ⌝ }
     {
-        self.changed(
-            self.phase,
-            one_more(self.ticks),
-            attempt,
-            self.converged,
-            self.seen,
-        )
+        if self.ticks < Self::MOST_TICKS {
+            self.changed(
+                self.phase,
+                self.ticks + 1,
+                attempt,
+                self.converged,
+                self.seen,
+            )
+        } else {
+            self.changed(
+                self.phase,
+                Self::MOST_TICKS,
+                attempt,
+                self.converged,
+                self.seen,
+            )
+        }
     }
 
     // A tick in a phase outside an attempt: the limit is tested first, the hold second.
@@ -194,7 +204,7 @@ impl Supervisor {
         ensures { λ r. ⌜ r ≡ acted (rowOf Sr (ntu (self .silence))) self code ⌝ }
     {
         match code {
-            code::TICK => self.tried(both_heard(self.converged, self.seen), phase::T_R),
+            code::TICK => self.tried((self.converged != 0) & (self.seen != 0), phase::T_R),
             code::CONVERGED => self.told(self.seen != 0, phase::T_R, 1, self.seen),
             code::T_C_SEEN => self.told(self.converged != 0, phase::T_R, self.converged, 1),
             code::ABNORMAL => self.entered(phase::EXCEPTION, 0),
@@ -208,7 +218,10 @@ impl Supervisor {
         ensures { λ r. ⌜ r ≡ acted (rowOf Sc (ltu (self .silence))) self code ⌝ }
     {
         match code {
-            code::TICK => self.tried(heard_and_lasted(self.converged, self.ticks + 1), phase::T_C),
+            code::TICK => self.tried(
+                (self.converged != 0) & (Self::S_C <= self.ticks + 1),
+                phase::T_C,
+            ),
             code::CONVERGED => self.told(Self::S_C <= self.ticks, phase::T_C, 1, self.seen),
             code::ABNORMAL => self.entered(phase::EXCEPTION, 0),
             _ => self,
@@ -287,29 +300,4 @@ impl Supervisor {
             _ => self,
         }
     }
-}
-
-// One tick more, held at 59,999.
-fn one_more(ticks: u32) -> u32
-    ensures { λ r. ⌜ r ≡ oneMore ticks ⌝ }
-{
-    if ticks < Supervisor::MOST_TICKS {
-        ticks + 1
-    } else {
-        Supervisor::MOST_TICKS
-    }
-}
-
-// Both reports that end S_r are heard.
-fn both_heard(converged: u32, seen: u32) -> bool
-    ensures { λ r. ⌜ r ≡ (heard converged && heard seen) ⌝ }
-{
-    converged != 0 && seen != 0
-}
-
-// The report that S_c awaits is heard, and S_c has lasted.
-fn heard_and_lasted(converged: u32, ticks: u32) -> bool
-    ensures { λ r. ⌜ r ≡ (heard converged && leb 5000 ticks) ⌝ }
-{
-    converged != 0 && Supervisor::S_C <= ticks
 }

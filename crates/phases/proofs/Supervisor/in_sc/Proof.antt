@@ -4,11 +4,8 @@ use borrow.Author.Needs.{needs}
 use Rattle.phases.proofs.Supervisor.in_sc.Statement.{statement}
 use Rattle.phases.proofs.Supervisor.in_sc.Tie as tie
 
-add-heard-and-lasted : tie.Need-add-heard-and-lasted
-add-heard-and-lasted c = search needs
-
-heard-and-lasted-requires : tie.Need-heard-and-lasted-requires
-heard-and-lasted-requires c κs = search needs
+add-tried : tie.Need-add-tried
+add-tried c = search needs
 
 tried-requires : tie.Need-tried-requires
 tried-requires c κs = search needs
@@ -20,7 +17,7 @@ entered-requires : tie.Need-entered-requires
 entered-requires c κs = search needs
 
 returns : tie.Need-returns
-returns c = rw (c .before .before .before .match .keys1) (simp and-true (simp (c .before .heard-and-lasted .ensures) at (c .tried .ensures)))
+returns c = rw (c .before .before .before .match .keys1) (simp and-true (c .tried .ensures))
 
 returns-2 : tie.Need-returns-2
 returns-2 c = rw (c .before .before .match .keys2) (c .told .ensures)
@@ -35,8 +32,7 @@ pub in-sc-spec : {M : Type 1} → statement M
 in-sc-spec =
     tie.close
     (tie.spec
-    add-heard-and-lasted
-    heard-and-lasted-requires
+    add-tried
     tried-requires
     told-requires
     entered-requires

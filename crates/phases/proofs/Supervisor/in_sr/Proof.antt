@@ -5,9 +5,6 @@ use lib.Dec.{leb·zero}
 use Rattle.phases.proofs.Supervisor.in_sr.Statement.{statement}
 use Rattle.phases.proofs.Supervisor.in_sr.Tie as tie
 
-both-heard-requires : tie.Need-both-heard-requires
-both-heard-requires c κs = search needs
-
 tried-requires : tie.Need-tried-requires
 tried-requires c κs = search needs
 
@@ -21,7 +18,7 @@ entered-requires : tie.Need-entered-requires
 entered-requires c κs = search needs
 
 returns : tie.Need-returns
-returns c = rw (c .before .before .match .keys1) (simp (leb·zero, and-true) (simp (c .before .both-heard .ensures) at (c .tried .ensures)))
+returns c = rw (c .before .before .before .match .keys1) (simp (leb·zero, and-true) (c .tried .ensures))
 
 returns-2 : tie.Need-returns-2
 returns-2 c = rw (c .before .before .match .keys2) (simp (leb·zero, and-true) (c .told .ensures))
@@ -39,7 +36,6 @@ pub in-sr-spec : {M : Type 1} → statement M
 in-sr-spec =
     tie.close
     (tie.spec
-    both-heard-requires
     tried-requires
     told-requires
     told-requires-2
