@@ -5,14 +5,15 @@ use native.Mathlib.Omega.{arith}
 use mathlib.Core.Path.{_≡_, refl, sym, ap, subst, _∙_}
 use mathlib.Core.Logic.{_⊎_, inl, inr, ⊎-elim}
 use mathlib.Core.Bool.{Bool, true, false, cond, not, _||_, false≢true}
-use mathlib.Core.List.{[], _∷_}
-use borrow.Author.Tests.{ltb-false, leb-true, leb-false, not-false, ne-eqb}
+use mathlib.Core.List.{List, [], _∷_}
+use borrow.Author.Tests.{ltb-false, leb-true, leb-false, not-false, eqb-true, ne-eqb}
 use lib.Dec.{ltb, leb, eqb}
 use Rattle.answer.specs.Answer.{refuse, answer}
 use Rattle.answer.proofs.Laws.{none}
 use Rattle.phases.specs.declared.Supervisor.{Supervisor}
-use Rattle.phases.specs.Phases.{Row, ntu, ltu, phasesOf, isOf, rowOf}
-use Rattle.phases.specs.Step.{acted, moved, stateRefusals, answered}
+use Rattle.phases.specs.declared.Answer.{Answer}
+use Rattle.phases.specs.Phases.{Ready, Exception, Row, ntu, ltu, phasesOf, isOf, rowOf}
+use Rattle.phases.specs.Step.{changed, entered, acted, moved, stateRefusals, answered, none as noState, silenceOf, startRefusals, fresh, startOf}
 
 -- the same either way
 pub same-both : {A : Type 0} (b : Bool) (x : A) → cond b x x ≡ x
@@ -143,6 +144,15 @@ acts-by-end : (b : Bool) (s : Supervisor) (c p silence : ℕ) → cond b (acted 
 acts-by-end true s c p silence = refl
 acts-by-end false s c p silence = refl
 
+-- a row is of the phase that it is looked up by
+row-phase : (p : ℕ) (rs : List Row) → rowOf p rs .phase ≡ p
+row-phase p [] = refl
+row-phase p (r ∷ rs) = by-cases (eqb p (r .phase)) (λ t. rw t (sym (eqb-true p (r .phase) t))) (λ f. rw f (row-phase p rs))
+
+-- an 8 is the same in every phase
+pub by-eight : (s : Supervisor) (c : ℕ) {x : Supervisor} → c ≡ 8 → x ≡ cond (eqb (s .phase) Exception) (changed s (s .phase) 0 (s .attempt) (s .converged) (s .seen)) (entered s Exception 0) → x ≡ moved s c
+by-eight s c q e = rw (q, row-phase (s .phase) (phasesOf (s .end) (s .silence))) e
+
 module _ (s : Supervisor) (c p : ℕ) {x : Supervisor} (at : s .phase ≡ p) (taken : answer (stateRefusals s) ≡ 0) where
   -- a state in the phase p moves as p's row says
   by-row : x ≡ acted (rowOf p (phasesOf (s .end) (s .silence))) s c → x ≡ moved s c
@@ -178,3 +188,22 @@ module _ (s : Supervisor) (c p : ℕ) {x : Supervisor} (at : s .phase ≡ p) (ta
 pub refused-is : (n : ℕ) (old new : Supervisor) → (n ≡ 0 → ⊥) → record { answer = n; phase = 0; attempt = 0; state = old } ≡ answered n old new
 refused-is zero old new h = absurd (h refl)
 refused-is (suc n) old new h = refl
+
+-- a start is refused as its fresh state is
+fresh-refusal : (end silence : ℕ) → answer (stateRefusals (fresh end (silenceOf silence))) ≡ answer (startRefusals end silence)
+fresh-refusal end silence = rw (ready (eqb end 1) (silenceOf silence))
+  where
+    ready : (b : Bool) (silence : ℕ) → isOf Ready (cond b (ntu silence) (ltu silence)) ≡ true
+    ready true silence = refl
+    ready false silence = refl
+
+module _ (end silence n : ℕ) {s : Supervisor} (q : s ≡ fresh end (silenceOf silence)) (e : n ≡ answer (stateRefusals s)) where
+  refusal-is : n ≡ answer (startRefusals end silence)
+  refusal-is = e ∙ ap (λ (t : Supervisor). answer (stateRefusals t)) q ∙ fresh-refusal end silence
+
+  -- what a start gives that is taken, and one that is not
+  pub started : {r : Answer} → n ≡ 0 → r ≡ answered 0 s s → r ≡ startOf end silence
+  started z g = rw (sym refusal-is ∙ z) (g ∙ ap (λ (t : Supervisor). answered 0 t t) q)
+
+  pub unstarted : {r : Answer} → (n ≡ 0 → ⊥) → r ≡ record { answer = n; phase = 0; attempt = 0; state = noState } → r ≡ startOf end silence
+  unstarted h g = g ∙ refused-is n noState (fresh end (silenceOf silence)) h ∙ ap (λ (k : ℕ). answered k noState (fresh end (silenceOf silence))) refusal-is

@@ -1,8 +1,8 @@
 // The start-up supervisor (000, clauses 4.1.2 and 4.1.8): a state by value, and one step for each code.
 ghost use mathlib.Core.Path.{_≡_};
-ghost use mathlib.Core.List.{[], _∷_};
+ghost use mathlib.Core.Bool.{_||_};
 ghost use lib.Dec.{ltb};
-ghost use Rattle.answer.specs.Answer.{refuse, answer};
+ghost use Rattle.answer.specs.Answer.{answer};
 ghost use Rattle.phases.specs.Phases.{phasesOf, isOf, inAttempt};
 ghost use Rattle.phases.specs.Step.{stateRefusals, answered, stepOf, fresh, silenceOf, startOf};
 
@@ -69,26 +69,13 @@ impl Supervisor {
     pub fn start(end: u32, silence: u32) -> Answer
         ensures { λ r. ⌜ r ≡ startOf end silence ⌝ }
     {
-        let meant = Self::meant(silence);
-        let refusal = Self::verdict(
-            end,
-            (meant < Self::SHORTEST_SILENCE) | (Self::LONGEST_SILENCE < meant),
-        );
+        let state = Self::fresh(end, Self::meant(silence));
+        let refusal = state.refusal();
         if refusal == answer::DONE {
-            Self::fresh(end, meant).answered()
+            state.answered()
         } else {
             Self::fresh(0, 0).refused(refusal)
         }
-    }
-
-    // The end is 2 where unknown, and else a number outside its range is 4.
-    fn verdict(end: u32, outside: bool) -> u32
-        ensures { λ r. ⌜ r ≡ answer (refuse 2 (ltb 1 end) ∷ refuse 4 outside ∷ []) ⌝ }
-    {
-        if Self::NTU < end {
-            return answer::UNKNOWN;
-        }
-        if outside { answer::RANGE } else { answer::DONE }
     }
 
     // The silence that is meant: 0 stands for the default.
@@ -136,14 +123,23 @@ impl Supervisor {
     pub fn refusal(self) -> u32
         ensures { λ r. ⌜ r ≡ answer (stateRefusals self) ⌝ }
     {
-        Self::verdict(
-            self.end,
-            !self.has_phase()
-                | (Self::ATTEMPT <= self.attempt)
-                | (Self::MOST_TICKS < self.ticks)
-                | (self.silence < Self::SHORTEST_SILENCE)
-                | (Self::LONGEST_SILENCE < self.silence),
-        )
+        if Self::NTU < self.end {
+            return answer::UNKNOWN;
+        }
+        if !self.has_phase() | Self::outside(self.attempt, self.ticks, self.silence) {
+            answer::RANGE
+        } else {
+            answer::DONE
+        }
+    }
+
+    // Whether a number is outside its range.
+    fn outside(attempt: u32, ticks: u32, silence: u32) -> bool
+        ensures { λ r. ⌜ r ≡ (ltb 14999 attempt || (ltb 59999 ticks || (ltb silence 2000 || ltb 60000 silence))) ⌝ }
+    {
+        (Self::ATTEMPT <= attempt)
+            | ((Self::MOST_TICKS < ticks)
+                | ((silence < Self::SHORTEST_SILENCE) | (Self::LONGEST_SILENCE < silence)))
     }
 
     // Whether the phase is one of the end's. Both ends have Ready, Quiet, Settling, Valid and Exception.

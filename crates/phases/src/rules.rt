@@ -11,11 +11,14 @@ use crate::code;
 use crate::phase;
 
 impl Supervisor {
-    // What a code does to a legal state: the rule of its phase.
+    // What a code does to a legal state: 8 the same in every phase, and else the rule of its phase. Only an 8 ends Valid.
     pub(crate) fn moved(self, code: u32) -> Supervisor
         requires { ⌜ answer (stateRefusals self) ≡ 0 ⌝ }
         ensures { λ r. ⌜ r ≡ moved self code ⌝ }
     {
+        if code == code::ABNORMAL {
+            return self.abnormal();
+        }
         let phase = self.phase;
         match phase {
             phase::READY => self.in_ready(code),
@@ -30,7 +33,7 @@ impl Supervisor {
             phase::T_R => self.in_tr(code),
             phase::F_C => self.in_fc(code),
             phase::SETTLING => self.in_settling(code),
-            phase::VALID => self.in_valid(code),
+            phase::VALID => self,
             _ => self.in_exception(code),
         }
     }
@@ -92,16 +95,16 @@ impl Supervisor {
         }
     }
 
-    // A tick in an attempt: the 15,000th ends it, even where it would have ended the phase.
-    fn tried(self, over: bool, next: u32) -> Supervisor
-        requires { ⌜ self .attempt ≤ 14999 ⌝ }
-        ensures { λ r. ⌜ r ≡ cond (leb 15000 (self .attempt + 1)) (entered self Exception 0) (cond over (entered self next (self .attempt + 1)) (counted self (self .attempt + 1))) ⌝ }
+    // A tick in an attempt: the 15,000th ends it, even where it would have ended the phase. The phase is over where its reports are heard and it has lasted.
+    fn tried(self, heard: bool, lasts: u32, next: u32) -> Supervisor
+        requires { ⌜ (self .ticks ≤ 59999) × (self .attempt ≤ 14999) ⌝ }
+        ensures { λ r. ⌜ r ≡ cond (leb 15000 (self .attempt + 1)) (entered self Exception 0) (cond (heard && leb lasts (self .ticks + 1)) (entered self next (self .attempt + 1)) (counted self (self .attempt + 1))) ⌝ }
     {
         let attempt = self.attempt + 1;
         if Self::ATTEMPT <= attempt {
             return self.entered(phase::EXCEPTION, 0);
         }
-        if over {
+        if heard & (lasts <= self.ticks + 1) {
             self.entered(next, attempt)
         } else {
             self.counted(attempt)
@@ -119,8 +122,20 @@ impl Supervisor {
         }
     }
 
+    // Code 8 starts Exception. There it starts the silence again: that is no change of phase, so the rest stays as handed in.
+    fn abnormal(self) -> Supervisor
+        ensures { λ r. ⌜ r ≡ cond (eqb (self .phase) Exception) (changed self (self .phase) 0 (self .attempt) (self .converged) (self .seen)) (entered self Exception 0) ⌝ }
+    {
+        if self.phase == phase::EXCEPTION {
+            self.changed(self.phase, 0, self.attempt, self.converged, self.seen)
+        } else {
+            self.entered(phase::EXCEPTION, 0)
+        }
+    }
+
     // Ready until 1, which starts Gap at the NTU and Await at the LTU.
     fn in_ready(self, code: u32) -> Supervisor
+        requires { ⌜ (code ≡ 8 → ⊥) ⌝ }
         ensures { λ r. ⌜ r ≡ cond (eqb (self .end) 1) (acted (rowOf Ready (ntu (self .silence))) self code) (acted (rowOf Ready (ltu (self .silence))) self code) ⌝ }
     {
         match code {
@@ -129,174 +144,149 @@ impl Supervisor {
             } else {
                 self.entered(phase::AWAIT, 0)
             },
-            code::ABNORMAL => self.entered(phase::EXCEPTION, 0),
             _ => self,
         }
     }
 
     // NTU: Gap, 300 ticks.
     fn in_gap(self, code: u32) -> Supervisor
-        requires { ⌜ self .ticks ≤ 59999 ⌝ }
+        requires { ⌜ (code ≡ 8 → ⊥) × (self .ticks ≤ 59999) ⌝ }
         ensures { λ r. ⌜ r ≡ acted (rowOf Gap (ntu (self .silence))) self code ⌝ }
     {
         match code {
             code::TICK => self.waited(Self::GAP, phase::C_R),
-            code::ABNORMAL => self.entered(phase::EXCEPTION, 0),
             _ => self,
         }
     }
 
     // LTU: Await until 2. The attempt opens with it.
     fn in_await(self, code: u32) -> Supervisor
+        requires { ⌜ (code ≡ 8 → ⊥) ⌝ }
         ensures { λ r. ⌜ r ≡ acted (rowOf Await (ltu (self .silence))) self code ⌝ }
     {
         match code {
             code::C_R_BEGINS => self.entered(phase::HEARING, 0),
-            code::ABNORMAL => self.entered(phase::EXCEPTION, 0),
             _ => self,
         }
     }
 
     // NTU: C_r, 1,000 ticks.
     fn in_cr(self, code: u32) -> Supervisor
-        requires { ⌜ (self .ticks ≤ 59999) × (self .attempt ≤ 14999) ⌝ }
+        requires { ⌜ (code ≡ 8 → ⊥) × (self .ticks ≤ 59999) × (self .attempt ≤ 14999) ⌝ }
         ensures { λ r. ⌜ r ≡ acted (rowOf Cr (ntu (self .silence))) self code ⌝ }
     {
         match code {
-            code::TICK => self.tried(Self::C_R <= self.ticks + 1, phase::QUIET),
-            code::ABNORMAL => self.entered(phase::EXCEPTION, 0),
+            code::TICK => self.tried(true, Self::C_R, phase::QUIET),
             _ => self,
         }
     }
 
     // LTU: Hearing until 3.
     fn in_hearing(self, code: u32) -> Supervisor
-        requires { ⌜ self .attempt ≤ 14999 ⌝ }
+        requires { ⌜ (code ≡ 8 → ⊥) × (self .ticks ≤ 59999) × (self .attempt ≤ 14999) ⌝ }
         ensures { λ r. ⌜ r ≡ acted (rowOf Hearing (ltu (self .silence))) self code ⌝ }
     {
         match code {
-            code::TICK => self.tried(false, phase::QUIET),
+            code::TICK => self.tried(false, 0, phase::QUIET),
             code::C_R_ENDED => self.entered(phase::QUIET, self.attempt),
-            code::ABNORMAL => self.entered(phase::EXCEPTION, 0),
             _ => self,
         }
     }
 
     // Quiet, 1,500 ticks at the NTU and 500 at the LTU.
     fn in_quiet(self, code: u32) -> Supervisor
-        requires { ⌜ (self .ticks ≤ 59999) × (self .attempt ≤ 14999) ⌝ }
+        requires { ⌜ (code ≡ 8 → ⊥) × (self .ticks ≤ 59999) × (self .attempt ≤ 14999) ⌝ }
         ensures { λ r. ⌜ r ≡ cond (eqb (self .end) 1) (acted (rowOf Quiet (ntu (self .silence))) self code) (acted (rowOf Quiet (ltu (self .silence))) self code) ⌝ }
     {
         match code {
             code::TICK => if self.end == Self::NTU {
-                self.tried(Self::NTU_QUIET <= self.ticks + 1, phase::S_R)
+                self.tried(true, Self::NTU_QUIET, phase::S_R)
             } else {
-                self.tried(Self::LTU_QUIET <= self.ticks + 1, phase::S_C)
+                self.tried(true, Self::LTU_QUIET, phase::S_C)
             },
-            code::ABNORMAL => self.entered(phase::EXCEPTION, 0),
             _ => self,
         }
     }
 
     // NTU: S_r until both 4 and 5 have come, in either order, during S_r.
     fn in_sr(self, code: u32) -> Supervisor
-        requires { ⌜ self .attempt ≤ 14999 ⌝ }
+        requires { ⌜ (code ≡ 8 → ⊥) × (self .ticks ≤ 59999) × (self .attempt ≤ 14999) ⌝ }
         ensures { λ r. ⌜ r ≡ acted (rowOf Sr (ntu (self .silence))) self code ⌝ }
     {
         match code {
-            code::TICK => self.tried((self.converged != 0) & (self.seen != 0), phase::T_R),
+            code::TICK => self.tried((self.converged != 0) & (self.seen != 0), 0, phase::T_R),
             code::CONVERGED => self.told(self.seen != 0, phase::T_R, 1, self.seen),
             code::T_C_SEEN => self.told(self.converged != 0, phase::T_R, self.converged, 1),
-            code::ABNORMAL => self.entered(phase::EXCEPTION, 0),
             _ => self,
         }
     }
 
     // LTU: S_c until it has lasted 5,000 ticks and 4 has come during it.
     fn in_sc(self, code: u32) -> Supervisor
-        requires { ⌜ (self .ticks ≤ 59999) × (self .attempt ≤ 14999) ⌝ }
+        requires { ⌜ (code ≡ 8 → ⊥) × (self .ticks ≤ 59999) × (self .attempt ≤ 14999) ⌝ }
         ensures { λ r. ⌜ r ≡ acted (rowOf Sc (ltu (self .silence))) self code ⌝ }
     {
         match code {
-            code::TICK => self.tried(
-                (self.converged != 0) & (Self::S_C <= self.ticks + 1),
-                phase::T_C,
-            ),
+            code::TICK => self.tried(self.converged != 0, Self::S_C, phase::T_C),
             code::CONVERGED => self.told(Self::S_C <= self.ticks, phase::T_C, 1, self.seen),
-            code::ABNORMAL => self.entered(phase::EXCEPTION, 0),
             _ => self,
         }
     }
 
     // NTU: T_r until 7. The attempt ends in data mode.
     fn in_tr(self, code: u32) -> Supervisor
-        requires { ⌜ self .attempt ≤ 14999 ⌝ }
+        requires { ⌜ (code ≡ 8 → ⊥) × (self .ticks ≤ 59999) × (self .attempt ≤ 14999) ⌝ }
         ensures { λ r. ⌜ r ≡ acted (rowOf Tr (ntu (self .silence))) self code ⌝ }
     {
         match code {
-            code::TICK => self.tried(false, phase::SETTLING),
+            code::TICK => self.tried(false, 0, phase::SETTLING),
             code::F_C_OVER => self.entered(phase::SETTLING, 0),
-            code::ABNORMAL => self.entered(phase::EXCEPTION, 0),
             _ => self,
         }
     }
 
     // LTU: T_c until 6.
     fn in_tc(self, code: u32) -> Supervisor
-        requires { ⌜ self .attempt ≤ 14999 ⌝ }
+        requires { ⌜ (code ≡ 8 → ⊥) × (self .ticks ≤ 59999) × (self .attempt ≤ 14999) ⌝ }
         ensures { λ r. ⌜ r ≡ acted (rowOf Tc (ltu (self .silence))) self code ⌝ }
     {
         match code {
-            code::TICK => self.tried(false, phase::F_C),
+            code::TICK => self.tried(false, 0, phase::F_C),
             code::T_R_SEEN => self.entered(phase::F_C, self.attempt),
-            code::ABNORMAL => self.entered(phase::EXCEPTION, 0),
             _ => self,
         }
     }
 
     // LTU: F_c until 7. The attempt ends in data mode.
     fn in_fc(self, code: u32) -> Supervisor
-        requires { ⌜ self .attempt ≤ 14999 ⌝ }
+        requires { ⌜ (code ≡ 8 → ⊥) × (self .ticks ≤ 59999) × (self .attempt ≤ 14999) ⌝ }
         ensures { λ r. ⌜ r ≡ acted (rowOf Fc (ltu (self .silence))) self code ⌝ }
     {
         match code {
-            code::TICK => self.tried(false, phase::SETTLING),
+            code::TICK => self.tried(false, 0, phase::SETTLING),
             code::F_C_OVER => self.entered(phase::SETTLING, 0),
-            code::ABNORMAL => self.entered(phase::EXCEPTION, 0),
             _ => self,
         }
     }
 
     // Settling, 1,000 ticks.
     fn in_settling(self, code: u32) -> Supervisor
-        requires { ⌜ self .ticks ≤ 59999 ⌝ }
+        requires { ⌜ (code ≡ 8 → ⊥) × (self .ticks ≤ 59999) ⌝ }
         ensures { λ r. ⌜ r ≡ acted (rowOf Settling (ntu (self .silence))) self code ⌝ }
     {
         match code {
             code::TICK => self.waited(Self::SETTLING, phase::VALID),
-            code::ABNORMAL => self.entered(phase::EXCEPTION, 0),
             _ => self,
         }
     }
 
-    // Valid: only an 8 ends it.
-    fn in_valid(self, code: u32) -> Supervisor
-        ensures { λ r. ⌜ r ≡ acted (rowOf Valid (ntu (self .silence))) self code ⌝ }
-    {
-        match code {
-            code::ABNORMAL => self.entered(phase::EXCEPTION, 0),
-            _ => self,
-        }
-    }
-
-    // Exception for the silence, which an 8 starts again: that is no change of phase, so the rest stays as handed in.
+    // Exception for the silence.
     fn in_exception(self, code: u32) -> Supervisor
-        requires { ⌜ self .ticks ≤ 59999 ⌝ }
+        requires { ⌜ (code ≡ 8 → ⊥) × (self .ticks ≤ 59999) ⌝ }
         ensures { λ r. ⌜ r ≡ acted (rowOf Exception (ntu (self .silence))) self code ⌝ }
     {
         match code {
             code::TICK => self.waited(self.silence, phase::READY),
-            code::ABNORMAL => self.changed(self.phase, 0, self.attempt, self.converged, self.seen),
             _ => self,
         }
     }

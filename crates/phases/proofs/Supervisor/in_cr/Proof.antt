@@ -3,24 +3,14 @@ use borrow.Author.Needs.{needs}
 use Rattle.phases.proofs.Supervisor.in_cr.Statement.{statement}
 use Rattle.phases.proofs.Supervisor.in_cr.Tie as tie
 
-add-tried : tie.Need-add-tried
-add-tried c = search needs
-
 tried-requires : tie.Need-tried-requires
 tried-requires c κs = search needs
 
-entered-requires : tie.Need-entered-requires
-entered-requires c κs = search needs
-
 returns : tie.Need-returns
-returns c = rw (c .before .before .match .keys1) (c .tried .ensures)
+returns c = rw (c .before .match .keys1) (c .tried .ensures)
 
 returns-2 : tie.Need-returns-2
-returns-2 c = rw (c .before .match .keys2) (c .entered .ensures)
-
-returns-3 : tie.Need-returns-3
-returns-3 c = simp (ne-eqb _ _ (c .match .rest .0 .1), ne-eqb _ _ (c .match .rest .1))
+returns-2 c = simp (ne-eqb _ _ (c .match .rest .1), ne-eqb _ _ (c .before .pre .0))
 
 pub in-cr-spec : {M : Type 1} → statement M
-in-cr-spec =
-    tie.close (tie.spec add-tried tried-requires entered-requires returns returns-2 returns-3)
+in-cr-spec = tie.close (tie.spec tried-requires returns returns-2)

@@ -4,43 +4,20 @@ use Rattle.phases.proofs.Laws.{same-both}
 use Rattle.phases.proofs.Supervisor.in_quiet.Statement.{statement}
 use Rattle.phases.proofs.Supervisor.in_quiet.Tie as tie
 
-add-tried : tie.Need-add-tried
-add-tried c = search needs
-
 tried-requires : tie.Need-tried-requires
 tried-requires c κs = search needs
-
-add-tried-2 : tie.Need-add-tried-2
-add-tried-2 c = search needs
 
 tried-requires-2 : tie.Need-tried-requires-2
 tried-requires-2 c κs = search needs
 
-entered-requires : tie.Need-entered-requires
-entered-requires c κs = search needs
-
 returns : tie.Need-returns
-returns c = rw (c .before .before .before .before .match .keys1) (simp (eq-eqb _ _ (c .before .before .if1 .taken)) (c .tried .ensures))
+returns c = rw (c .before .before .before .match .keys1) (simp (eq-eqb _ _ (c .before .if1 .taken)) (c .tried .ensures))
 
 returns-2 : tie.Need-returns-2
-returns-2 c = rw (c .before .before .before .before .match .keys1) (simp (ne-eqb _ _ (c .before .before .if1 .left)) (c .tried2 .ensures))
+returns-2 c = rw (c .before .before .before .match .keys1) (simp (ne-eqb _ _ (c .before .if1 .left)) (c .tried2 .ensures))
 
 returns-3 : tie.Need-returns-3
-returns-3 c = rw (c .before .match .keys2) (simp same-both (c .entered .ensures))
-
-returns-4 : tie.Need-returns-4
-returns-4 c = simp (same-both, ne-eqb _ _ (c .match .rest .0 .1), ne-eqb _ _ (c .match .rest .1))
+returns-3 c = simp (same-both, ne-eqb _ _ (c .match .rest .1), ne-eqb _ _ (c .before .pre .0))
 
 pub in-quiet-spec : {M : Type 1} → statement M
-in-quiet-spec =
-    tie.close
-    (tie.spec
-    add-tried
-    tried-requires
-    add-tried-2
-    tried-requires-2
-    entered-requires
-    returns
-    returns-2
-    returns-3
-    returns-4)
+in-quiet-spec = tie.close (tie.spec tried-requires tried-requires-2 returns returns-2 returns-3)

@@ -14,11 +14,8 @@ told-requires c κs = search needs
 told-requires-2 : tie.Need-told-requires-2
 told-requires-2 c κs = search needs
 
-entered-requires : tie.Need-entered-requires
-entered-requires c κs = search needs
-
 returns : tie.Need-returns
-returns c = rw (c .before .before .before .match .keys1) (simp (leb·zero, and-true) (c .tried .ensures))
+returns c = rw (c .before .before .before .match .keys1) (simp and-true (c .tried .ensures))
 
 returns-2 : tie.Need-returns-2
 returns-2 c = rw (c .before .before .match .keys2) (simp (leb·zero, and-true) (c .told .ensures))
@@ -27,10 +24,7 @@ returns-3 : tie.Need-returns-3
 returns-3 c = rw (c .before .before .match .keys3) (simp (leb·zero, and-true) (c .told2 .ensures))
 
 returns-4 : tie.Need-returns-4
-returns-4 c = rw (c .before .match .keys4) (c .entered .ensures)
-
-returns-5 : tie.Need-returns-5
-returns-5 c = simp (ne-eqb _ _ (c .match .rest .0 .0 .0 .1), ne-eqb _ _ (c .match .rest .0 .0 .1), ne-eqb _ _ (c .match .rest .0 .1), ne-eqb _ _ (c .match .rest .1))
+returns-4 c = simp (ne-eqb _ _ (c .match .rest .0 .0 .1), ne-eqb _ _ (c .match .rest .0 .1), ne-eqb _ _ (c .match .rest .1), ne-eqb _ _ (c .before .pre .0))
 
 pub in-sr-spec : {M : Type 1} → statement M
 in-sr-spec =
@@ -39,9 +33,7 @@ in-sr-spec =
     tried-requires
     told-requires
     told-requires-2
-    entered-requires
     returns
     returns-2
     returns-3
-    returns-4
-    returns-5)
+    returns-4)
