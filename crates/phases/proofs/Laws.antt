@@ -29,7 +29,7 @@ by-cases false f g = g refl
 pub clash : {P : Type 0} (b : Bool) → b ≡ true → b ≡ false → P
 clash b p q = absurd (false≢true (sym q ∙ p))
 
--- two tests that give the same
+-- either of two tests gives the same
 pub either-gives : {A : Type 0} (t u : Bool) (x y : A) → cond (t || u) x y ≡ cond t x (cond u x y)
 either-gives true u x y = refl
 either-gives false u x y = refl

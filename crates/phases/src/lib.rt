@@ -138,8 +138,9 @@ impl Supervisor {
         ensures { λ r. ⌜ r ≡ (ltb 14999 attempt || (ltb 59999 ticks || (ltb silence 2000 || ltb 60000 silence))) ⌝ }
     {
         (Self::ATTEMPT <= attempt)
-            | ((Self::MOST_TICKS < ticks)
-                | ((silence < Self::SHORTEST_SILENCE) | (Self::LONGEST_SILENCE < silence)))
+            | (Self::MOST_TICKS < ticks)
+            | (silence < Self::SHORTEST_SILENCE)
+            | (Self::LONGEST_SILENCE < silence)
     }
 
     // Whether the phase is one of the end's. Both ends have Ready, Quiet, Settling, Valid and Exception.
