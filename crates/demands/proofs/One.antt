@@ -21,11 +21,11 @@ use Rattle.signal.specs.Shaper.{Exactly}
 use Rattle.signal.proofs.Order.{shaper-order}
 use Rattle.signal.proofs.Exact.{exact-zero, exact-unique}
 use Rattle.precoder.proofs.Order.{run-order as precoder-order}
-use Rattle.startup.specs.declared.Supervisor.{Supervisor as State}
+use Rattle.phases.specs.declared.Supervisor.{Supervisor as State}
+use Rattle.phases.specs.Step.{stateRefusals, stepOf}
+use Rattle.phases.proofs.One.{start-in-order, step-in-order, state-in-order}
 use Rattle.startup.specs.declared.Run.{Run as StartupRun}
-use Rattle.startup.specs.Step.{stateRefusals, stepOf}
 use Rattle.startup.specs.Run.{eventOf, goesOn, opens, ends, noted, takenOf, runFrom, begun}
-use Rattle.startup.proofs.One.{start-in-order, step-in-order, state-in-order}
 use Rattle.reader.specs.declared.Found.{Found}
 use Rattle.reader.specs.Promises.{foundOf}
 use Rattle.host.specs.declared.frames.FrameFields.{FrameFields}

@@ -21,7 +21,7 @@ use Rattle.signal.specs.Signal.{isSignal}
 use Rattle.signal.specs.Shaper.{Exactly, shaperTests}
 use Rattle.signal.proofs.Exact.{signal-abs, exact, exact-zero}
 use Rattle.precoder.specs.Runs.{outputsOf, inputsOf, pastAfterAll}
-use Rattle.startup.specs.Step.{startOf, stepOf}
+use Rattle.phases.specs.Step.{startOf, stepOf}
 use Rattle.startup.specs.Run.{runOf as codesRun}
 use Rattle.host.specs.Frames.{coefficientOctets}
 use Rattle.host.specs.Symbols.{encoder}

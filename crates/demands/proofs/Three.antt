@@ -6,9 +6,9 @@ use mathlib.Core.List.{List, [], _∷_}
 use Prim.Native.Nat.{ℕ, suc}
 use lib.Dec.{eqb}
 use lib.ListN.{take}
-use Rattle.startup.specs.declared.Supervisor.{Supervisor as State}
+use Rattle.phases.specs.declared.Supervisor.{Supervisor as State}
+use Rattle.phases.specs.Step.{startOf}
 use Rattle.startup.specs.Attempts.{at, Card, card, meant}
-use Rattle.startup.specs.Step.{startOf}
 use Rattle.startup.specs.Three.{Reply, Make, stepsBy, phaseAt, replyTo, FirstShows, Follows, ours}
 use Rattle.startup.proofs.Three.{demand3}
 use Rattle.host.specs.declared.supervisor.Supervisor.{Supervisor}

@@ -15,7 +15,7 @@ use Rattle.symbol.specs.Levels.{activationTests, dataTests, backTests}
 use Rattle.symbol.specs.Encoder.{stepTests, runTests}
 use Rattle.signal.specs.Shaper.{shaperTests}
 use Rattle.precoder.specs.Runs.{runTests as precoderTests}
-use Rattle.startup.specs.Step.{startRefusals, stepRefusals, stateRefusals}
+use Rattle.phases.specs.Step.{startRefusals, stepRefusals, stateRefusals}
 use Rattle.host.specs.declared.supervisor.Supervisor.{Supervisor}
 use Rattle.host.specs.Frames.{frameReadRefusals}
 use Rattle.host.specs.Symbols.{encoder}

@@ -1,11 +1,11 @@
--- What the exported supervisor promises: a start, a step and a run of startup, with the same numbers in the structs that cross.
+-- What the exported supervisor promises: a start and a step of phases and a run of startup, with the same numbers in the structs that cross.
 use mathlib.Core.Path.{_≡_}
 use mathlib.Core.List.{List}
 use Prim.Native.Nat.{ℕ}
-use Rattle.startup.specs.declared.Supervisor.{Supervisor as State}
-use Rattle.startup.specs.declared.Answer.{Answer}
+use Rattle.phases.specs.declared.Supervisor.{Supervisor as State}
+use Rattle.phases.specs.declared.Answer.{Answer}
+use Rattle.phases.specs.Step.{stepOf, startOf}
 use Rattle.startup.specs.declared.Run.{Run as StartupRun}
-use Rattle.startup.specs.Step.{stepOf, startOf}
 use Rattle.startup.specs.Run.{runOf}
 use Rattle.host.specs.declared.supervisor.Supervisor.{Supervisor}
 use Rattle.host.specs.declared.supervisor.Stepped.{Stepped}

@@ -39,10 +39,10 @@ pub struct Run {
 }
 
 // A state as it comes from C.
-fn state_in(s: Supervisor) -> startup::Supervisor
+fn state_in(s: Supervisor) -> phases::Supervisor
     ensures { λ r. ⌜ r ≡ stateIn s ⌝ }
 {
-    startup::Supervisor {
+    phases::Supervisor {
         end: s.end,
         phase: s.phase,
         ticks: s.ticks,
@@ -54,7 +54,7 @@ fn state_in(s: Supervisor) -> startup::Supervisor
 }
 
 // A state as it goes to C.
-fn state_out(s: startup::Supervisor) -> Supervisor
+fn state_out(s: phases::Supervisor) -> Supervisor
     ensures { λ r. ⌜ r ≡ stateOf s ⌝ }
 {
     Supervisor {
@@ -69,7 +69,7 @@ fn state_out(s: startup::Supervisor) -> Supervisor
 }
 
 // What a start or a step gave, as it goes to C.
-fn stepped_out(given: startup::Answer) -> Stepped
+fn stepped_out(given: phases::Answer) -> Stepped
     ensures { λ r. ⌜ r ≡ steppedOf given ⌝ }
 {
     let state = given.state;
@@ -86,7 +86,7 @@ fn stepped_out(given: startup::Answer) -> Stepped
 pub extern "C" fn sdsl_start(end: u32, silence: u32) -> Stepped
     ensures { λ r. ⌜ Started end silence r ⌝ }
 {
-    stepped_out(startup::Supervisor::start(end, silence))
+    stepped_out(phases::Supervisor::start(end, silence))
 }
 
 // One code.
@@ -102,7 +102,7 @@ pub extern "C" fn sdsl_step(state: Supervisor, code: u32) -> Stepped
 pub extern "C" fn sdsl_run_codes(state: Supervisor, codes: &[u8]) -> Run
     ensures { λ r. ⌜ CodesRun state (now (codes .entry)) r ⌝ }
 {
-    let run = state_in(state).run(codes);
+    let run = startup::Run::over(state_in(state), codes);
     let after = run.state;
     Run {
         answer: run.answer,

@@ -9,7 +9,7 @@ ghost use Rattle.replay.specs.Replay.{followed, linesOf, endingFrom};
 use libc::STDIN_FILENO;
 use libc::STDOUT_FILENO;
 use log::Line;
-use startup::Supervisor;
+use phases::Supervisor;
 use story::Event;
 use story::Story;
 use story::kind;

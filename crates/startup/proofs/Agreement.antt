@@ -11,16 +11,16 @@ use lib.Dec.{ltb, eqb}
 use lib.ListN.{length, take, drop}
 use Rattle.answer.specs.Answer.{answer}
 use Rattle.answer.proofs.Laws.{given}
-use Rattle.startup.specs.declared.Supervisor.{Supervisor}
+use Rattle.phases.specs.declared.Supervisor.{Supervisor}
+use Rattle.phases.specs.Phases.{inAttempt}
+use Rattle.phases.specs.Step.{stateRefusals, stepOf, fresh}
+use Rattle.phases.proofs.Laws.{by-cases, clash}
 use Rattle.startup.specs.declared.Run.{Run}
-use Rattle.startup.specs.Phases.{inAttempt}
-use Rattle.startup.specs.Step.{stateRefusals, stepOf, fresh}
 use Rattle.startup.specs.Attempts.{at, one, Card, card, meant, OpensAt}
 use Rattle.startup.specs.Three.{steps, after, Taken}
 use Rattle.startup.specs.Scan.{Attempt, ended, logged, attempts, Fate, Listed}
 use Rattle.startup.specs.Run.{eventOf, noted, takenOf, runFrom, begun, runOf}
 use Rattle.startup.specs.Agrees.{summary, Agrees}
-use Rattle.startup.proofs.Laws.{by-cases, clash}
 use Rattle.startup.proofs.Unique.{Sound}
 use Rattle.startup.proofs.Simulates.{kOf, sound, after-suc}
 use Rattle.startup.proofs.Fate.{next-fate, open-back, data-open}

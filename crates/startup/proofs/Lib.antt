@@ -1,4 +1,3 @@
-pub mod Laws
 pub mod Counts
 pub mod History
 pub mod Unique

@@ -9,9 +9,9 @@ use mathlib.Core.Bool.{false, false≢true}
 use borrow.Author.Tests.{leb-true, leb-false, eqb-true}
 use lib.Dec.{leb, eqb}
 use lib.ListN.{length, drop}
+use Rattle.phases.proofs.Laws.{by-cases}
 use Rattle.startup.specs.Attempts.{at, count, Need, shown, Card, StillOpen, EndsInData, EndsInException, OpensAt, opens}
 use Rattle.startup.specs.Scan.{Attempt, attempt, Stand, scanned, event, ended, logged, scan, attempts, Fate, Listed}
-use Rattle.startup.proofs.Laws.{by-cases}
 use Rattle.startup.proofs.History.{reached-le, not-all}
 use Rattle.startup.proofs.Unique.{Hist, ready as readyH, await, trying, done, failed, onward, next, Holds, Sound, choose, forth, histOf, unique, holds}
 use Rattle.startup.proofs.Fate.{next-fate, open-now, open-back, data-open, is-open, is-done, is-failed, is-told, is-begun}

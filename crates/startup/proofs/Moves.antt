@@ -8,11 +8,11 @@ use mathlib.Core.Bool.{Bool, true, false, cond, _&&_, and-true, and-comm}
 use borrow.Author.Tests.{leb-true, leb-false, le-leb, lt-leb, lt-ltb, eq-eqb, eqb-true, ne-eqb, ltb-true}
 use lib.Dec.{leb, ltb, eqb, leb·zero}
 use Rattle.answer.specs.Answer.{answer}
-use Rattle.startup.specs.declared.Supervisor.{Supervisor}
-use Rattle.startup.specs.Phases.{Ready, Gap, Await, Cr, Hearing, Sc, Sr, Tc, Tr, Settling, Valid, Exception, Row, row, ntu, ltu, phasesOf, rowOf, inAttempt, counts}
-use Rattle.startup.specs.Step.{heard, acted, among, here, moved, stateRefusals, stepOf}
+use Rattle.phases.specs.declared.Supervisor.{Supervisor}
+use Rattle.phases.specs.Phases.{Ready, Gap, Await, Cr, Hearing, Sc, Sr, Tc, Tr, Settling, Valid, Exception, Row, row, ntu, ltu, phasesOf, rowOf, inAttempt, counts}
+use Rattle.phases.specs.Step.{heard, acted, among, here, moved, stateRefusals, stepOf}
+use Rattle.phases.proofs.Laws.{by-cases}
 use Rattle.startup.specs.Attempts.{one}
-use Rattle.startup.proofs.Laws.{by-cases}
 use Rattle.startup.proofs.Counts.{and-left, and-right}
 
 -- a state by its numbers

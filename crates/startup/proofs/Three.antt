@@ -9,13 +9,13 @@ use mathlib.Core.Bool.{Bool, true, false, cond, and-true}
 use borrow.Author.Tests.{leb-true, leb-false, le-ltb, lt-ltb, ne-eqb}
 use lib.Dec.{leb, eqb}
 use Rattle.answer.specs.Answer.{answer}
-use Rattle.startup.specs.declared.Supervisor.{Supervisor}
-use Rattle.startup.specs.declared.Answer.{Answer}
-use Rattle.startup.specs.Phases.{Ready, Gap, Await, Cr, Hearing, Settling, Valid, Exception, phasesOf, isOf, inAttempt}
-use Rattle.startup.specs.Step.{moved, stateRefusals, answered as answeredOf, stepOf, fresh, startOf}
+use Rattle.phases.specs.declared.Supervisor.{Supervisor}
+use Rattle.phases.specs.declared.Answer.{Answer}
+use Rattle.phases.specs.Phases.{Ready, Gap, Await, Cr, Hearing, Settling, Valid, Exception, phasesOf, isOf, inAttempt}
+use Rattle.phases.specs.Step.{moved, stateRefusals, answered as answeredOf, stepOf, fresh, startOf}
+use Rattle.phases.proofs.Laws.{by-cases, clash}
 use Rattle.startup.specs.Attempts.{at, one, count, Need, shown, Card, card, meant, all, StillOpen, EndsInData, EndsInException, OpensAt}
 use Rattle.startup.specs.Three.{after, answerTo, FirstShows, Follows, Demand3, Taken, ours}
-use Rattle.startup.proofs.Laws.{by-cases, clash}
 use Rattle.startup.proofs.Counts.{count-self, shown-less}
 use Rattle.startup.proofs.History.{Reached, begun, went, reached-le, not-all}
 use Rattle.startup.proofs.Unique.{Hist, ready, await, trying, done, failed, Holds, Sound, histOf, holds}

@@ -1,5 +1,3 @@
-pub mod Phases
-pub mod Step
 pub mod Attempts
 pub mod Three
 pub mod Run

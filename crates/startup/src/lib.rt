@@ -1,43 +1,10 @@
-// The start-up supervisor (000, clauses 4.1.2 and 4.1.8): a state by value, and one step for each code.
+// The run over a list of codes: a step of the supervisor (phases) for each, and what became of the attempts that opened in it.
 ghost use mathlib.Core.Path.{_≡_};
-ghost use Prim.Native.Nat.{_≤_};
-ghost use Rattle.answer.specs.Answer.{answer};
-ghost use Rattle.startup.specs.Phases.{phasesOf, isOf, inAttempt};
-ghost use Rattle.startup.specs.Step.{stateRefusals, answered, stepOf, none, fresh, silenceOf, startOf};
-
-pub mod code;
-pub mod phase;
-mod rules;
-mod runs;
-
-pub use runs::event;
-
-// A supervisor's state. A mark is heard where it is not 0.
-pub struct Supervisor {
-    // LTU 0, NTU 1.
-    pub end: u32,
-    // One of the phases of its end, by number (src/phase.rt).
-    pub phase: u32,
-    // The ticks since the phase was entered, held at 59,999.
-    pub ticks: u32,
-    // The ticks since the attempt opened.
-    pub attempt: u32,
-    // How many ticks an exception lasts.
-    pub silence: u32,
-    // Own receiver converged, in S_r and S_c.
-    pub converged: u32,
-    // T_c seen, in S_r.
-    pub seen: u32,
-}
-
-// What a start and a step give. With any answer but 0 the other numbers are 0 and the state is the one handed in.
-pub struct Answer {
-    pub answer: u32,
-    pub phase: u32,
-    // In an attempt the ticks since its opening, else 0.
-    pub attempt: u32,
-    pub state: Supervisor,
-}
+ghost use Prim.Native.Nat.{_-_, _^_, _<_};
+ghost use Rattle.startup.specs.Run.{eventOf, noted, takenOf, runOf};
+use phases::Supervisor;
+use phases::in_attempt;
+use phases::phase;
 
 // What a run over a list of codes gives. Places are counted from 0.
 pub struct Run {
@@ -54,190 +21,105 @@ pub struct Run {
     pub ended: usize,
 }
 
-impl Supervisor {
-    // The end at the exchange.
-    pub const LTU: u32 = 0;
-    // The end at the customer.
-    pub const NTU: u32 = 1;
-    // NTU: how many ticks Gap lasts.
-    pub const GAP: u32 = 300;
-    // NTU: how many C_r lasts.
-    pub const C_R: u32 = 1000;
-    // NTU: how many Quiet lasts.
-    pub const NTU_QUIET: u32 = 1500;
-    // LTU: how many Quiet lasts.
-    pub const LTU_QUIET: u32 = 500;
-    // LTU: how many S_c lasts at least.
-    pub const S_C: u32 = 5000;
-    // How many Settling lasts.
-    pub const SETTLING: u32 = 1000;
-    // The tick since its opening that ends an attempt.
-    pub const ATTEMPT: u32 = 15000;
-    // Phase ticks stay here once there.
-    pub const MOST_TICKS: u32 = 59999;
-    // The silence that 0 stands for.
-    pub const DEFAULT_SILENCE: u32 = 2000;
-    // The shortest silence that is taken.
-    pub const SHORTEST_SILENCE: u32 = 2000;
-    // The longest.
-    pub const LONGEST_SILENCE: u32 = 60000;
+impl Run {
+    // No attempt opened in the list.
+    pub const NONE: u32 = 0;
+    // The last one is still open.
+    pub const OPEN: u32 = 1;
+    // It ended in data mode.
+    pub const DATA: u32 = 2;
+    // It ended in the exception state.
+    pub const EXCEPTION: u32 = 3;
 
-    // A card that is ready. The end is 2 where unknown, a silence out of its range 4, and then there is no state: all zeros.
-    pub fn start(end: u32, silence: u32) -> Answer
-        ensures { λ r. ⌜ r ≡ startOf end silence ⌝ }
+    // A step for each code of a list, one an octet; refused codes are skipped. The answer is 0, or what a step would refuse the state with.
+    pub fn over(state: Supervisor, codes: &[u8]) -> Run
+        ensures { λ r. ⌜ r ≡ runOf state (now (codes .entry)) ⌝ }
     {
-        let meant = Self::meant(silence);
-        if Self::NTU < end {
-            return Self::none().refused(answer::UNKNOWN);
+        let refusal = state.refusal();
+        let mut run = Run {
+            answer: refusal,
+            state,
+            attempts: 0,
+            opened: 0,
+            how: Self::NONE,
+            ended: 0,
+        };
+        if refusal != answer::DONE {
+            return run;
         }
-        if meant < Self::SHORTEST_SILENCE {
-            return Self::none().refused(answer::RANGE);
+        let mut place = 0;
+        while place < codes.len() {
+            run = run.taken(place, codes[place] as u32);
+            place += 1;
         }
-        if Self::LONGEST_SILENCE < meant {
-            return Self::none().refused(answer::RANGE);
-        }
-        Self::fresh(end, meant).answered()
+        run
     }
 
-    // The silence that is meant: 0 stands for the default.
-    fn meant(silence: u32) -> u32
-        ensures { λ r. ⌜ r ≡ silenceOf silence ⌝ }
+    // One code more, at this place.
+    fn taken(self, place: usize, code: u32) -> Run
+        requires { ⌜ self .attempts < 2 ^ 64 - 1 ⌝ }
+        ensures { λ r. ⌜ r ≡ takenOf place code self ⌝ }
     {
-        if silence == 0 {
-            Self::DEFAULT_SILENCE
-        } else {
-            silence
-        }
+        let state = self.state;
+        let answer = state.step(code);
+        let next = answer.state;
+        self.noted(next, place, event(state.phase, next.phase))
     }
 
-    // No state: every number 0, which each later step refuses.
-    fn none() -> Supervisor
-        ensures { λ r. ⌜ r ≡ none ⌝ }
+    // The run with this state, after this event at this place. An attempt that was open before the list is not one of it.
+    fn noted(self, state: Supervisor, place: usize, event: u32) -> Run
+        requires { ⌜ self .attempts < 2 ^ 64 - 1 ⌝ }
+        ensures { λ r. ⌜ r ≡ noted self state place event ⌝ }
     {
-        Supervisor {
-            end: 0,
-            phase: 0,
-            ticks: 0,
-            attempt: 0,
-            silence: 0,
-            converged: 0,
-            seen: 0,
-        }
-    }
-
-    // A card that is ready.
-    fn fresh(end: u32, silence: u32) -> Supervisor
-        ensures { λ r. ⌜ r ≡ fresh end silence ⌝ }
-    {
-        Supervisor {
-            end,
-            phase: phase::READY,
-            ticks: 0,
-            attempt: 0,
-            silence,
-            converged: 0,
-            seen: 0,
-        }
-    }
-
-    // A code above 8 and an unknown end are 2, a state that is not legal is 4, and then the state comes back equal.
-    pub fn step(self, code: u32) -> Answer
-        ensures { λ r. ⌜ r ≡ stepOf self code ⌝ }
-    {
-        if code::ABNORMAL < code {
-            return self.refused(answer::UNKNOWN);
-        }
-        let refusal = self.refusal();
-        if refusal == answer::DONE {
-            self.moved(code).answered()
-        } else {
-            self.refused(refusal)
-        }
-    }
-
-    // What a state is refused with, or 0 where it is legal.
-    fn refusal(self) -> u32
-        ensures { λ r. ⌜ r ≡ answer (stateRefusals self) ⌝ }
-    {
-        if Self::NTU < self.end {
-            return answer::UNKNOWN;
-        }
-        if !self.has_phase() {
-            return answer::RANGE;
-        }
-        if Self::ATTEMPT <= self.attempt {
-            return answer::RANGE;
-        }
-        if Self::MOST_TICKS < self.ticks {
-            return answer::RANGE;
-        }
-        if self.silence < Self::SHORTEST_SILENCE {
-            return answer::RANGE;
-        }
-        if Self::LONGEST_SILENCE < self.silence {
-            return answer::RANGE;
-        }
-        answer::DONE
-    }
-
-    // Whether the phase is one of the end's. Both ends have Ready, Quiet, Settling, Valid and Exception.
-    fn has_phase(self) -> bool
-        requires { ⌜ self .end ≤ 1 ⌝ }
-        ensures { λ r. ⌜ r ≡ isOf (self .phase) (phasesOf (self .end) (self .silence)) ⌝ }
-    {
-        let phase = self.phase;
-        if phase::EXCEPTION < phase {
-            return false;
-        }
-        match phase {
-            phase::GAP | phase::C_R | phase::S_R | phase::T_R => self.end == Self::NTU,
-            phase::AWAIT | phase::HEARING | phase::S_C | phase::T_C | phase::F_C => self.end
-                == Self::LTU,
-            _ => true,
-        }
-    }
-
-    // The answer with this number, and the state as it was handed in.
-    fn refused(self, number: u32) -> Answer
-        ensures { λ r. ⌜ r ≡ record { answer = number; phase = 0; attempt = 0; state = self } ⌝ }
-    {
-        Answer {
-            answer: number,
-            phase: 0,
-            attempt: 0,
-            state: self,
-        }
-    }
-
-    // The answer 0, with the phase and, in an attempt, the ticks since its opening.
-    fn answered(self) -> Answer
-        ensures { λ r. ⌜ r ≡ answered 0 self self ⌝ }
-    {
-        let phase = self.phase;
-        if in_attempt(phase) {
-            Answer {
+        if event == Self::OPEN {
+            return Run {
                 answer: answer::DONE,
-                phase,
-                attempt: self.attempt,
-                state: self,
+                state,
+                attempts: self.attempts + 1,
+                opened: place,
+                how: Self::OPEN,
+                ended: 0,
+            };
+        }
+        if Self::OPEN < event {
+            if self.how != Self::NONE {
+                return Run {
+                    answer: answer::DONE,
+                    state,
+                    attempts: self.attempts,
+                    opened: self.opened,
+                    how: event,
+                    ended: place,
+                };
             }
-        } else {
-            Answer {
-                answer: answer::DONE,
-                phase,
-                attempt: 0,
-                state: self,
-            }
+        }
+        Run {
+            answer: answer::DONE,
+            state,
+            attempts: self.attempts,
+            opened: self.opened,
+            how: self.how,
+            ended: self.ended,
         }
     }
 }
 
-// From the opening of an attempt, in C_r or Hearing, until it ends.
-pub fn in_attempt(phase: u32) -> bool
-    ensures { λ r. ⌜ r ≡ inAttempt phase ⌝ }
+// What a change of phase does to an attempt: opens it, ends it in data mode or in the exception state, or none of these.
+pub fn event(before: u32, after: u32) -> u32
+    ensures { λ r. ⌜ r ≡ eventOf before after ⌝ }
 {
-    match phase {
-        phase::C_R..=phase::F_C => true,
-        _ => false,
+    if in_attempt(before) {
+        if in_attempt(after) {
+            return Run::NONE;
+        }
+        if after == phase::SETTLING {
+            return Run::DATA;
+        }
+        return Run::EXCEPTION;
+    }
+    if in_attempt(after) {
+        Run::OPEN
+    } else {
+        Run::NONE
     }
 }

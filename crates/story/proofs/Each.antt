@@ -8,14 +8,14 @@ use native.Mathlib.Nat.{eq-or-lt-of-le}
 use native.Mathlib.Omega.{arith}
 use borrow.Author.Tests.{ne-eqb, eqb-true}
 use lib.Dec.{eqb}
-use Rattle.startup.specs.declared.Supervisor.{Supervisor}
-use Rattle.startup.specs.Phases.{Settling, inAttempt}
-use Rattle.startup.specs.Step.{fresh}
-use Rattle.startup.specs.Step.{startOf as supervisorStart}
+use Rattle.phases.specs.declared.Supervisor.{Supervisor}
+use Rattle.phases.specs.Phases.{Settling, inAttempt}
+use Rattle.phases.specs.Step.{fresh}
+use Rattle.phases.specs.Step.{startOf as supervisorStart}
+use Rattle.phases.proofs.Laws.{clash}
 use Rattle.startup.specs.Run.{eventOf as attemptEvent}
 use Rattle.startup.specs.Attempts.{at, one, count, Card, card, meant, StillOpen, EndsInData, EndsInException, OpensAt}
 use Rattle.startup.specs.Three.{Taken, after}
-use Rattle.startup.proofs.Laws.{clash}
 use Rattle.startup.proofs.Counts.{count-step}
 use Rattle.startup.proofs.Unique.{Sound}
 use Rattle.startup.proofs.Simulates.{kOf, sound, pre}

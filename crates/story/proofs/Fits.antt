@@ -11,8 +11,8 @@ use Rattle.ascii.specs.Text.{text, decimal}
 use Rattle.ascii.specs.Promises.{Put}
 use Rattle.ascii.proofs.Numbers.{decimal-length}
 use Rattle.ascii.proofs.Room.{told, told-whole}
-use Rattle.startup.specs.declared.Supervisor.{Supervisor}
-use Rattle.startup.specs.Phases.{Ready, Gap, Await, Cr, Hearing, Quiet, Sc, Sr, Tc, Tr, Fc, Settling, Valid, Exception, inAttempt}
+use Rattle.phases.specs.declared.Supervisor.{Supervisor}
+use Rattle.phases.specs.Phases.{Ready, Gap, Await, Cr, Hearing, Quiet, Sc, Sr, Tc, Tr, Fc, Settling, Valid, Exception, inAttempt}
 use Rattle.story.specs.declared.Story.{Story}
 use Rattle.story.specs.declared.Event.{Event}
 use Rattle.story.specs.Texts.{numbered, nameOf, phaseText, verbOf, attemptText, codeText, eventText, lasts, leftText, tryingText, waitingText, endText, refusedText}

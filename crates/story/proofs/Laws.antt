@@ -9,12 +9,12 @@ use borrow.Author.Tests.{eq-eqb, ne-eqb, le-leb, lt-leb}
 use lib.Dec.{eqb, ltb}
 use Rattle.answer.specs.Answer.{answer}
 use Rattle.answer.proofs.Laws.{none, kept}
-use Rattle.startup.specs.declared.Supervisor.{Supervisor}
-use Rattle.startup.specs.declared.Answer.{Answer}
+use Rattle.phases.specs.declared.Supervisor.{Supervisor}
+use Rattle.phases.specs.declared.Answer.{Answer}
+use Rattle.phases.specs.Step.{stepOf, stateRefusals}
+use Rattle.phases.proofs.Laws.{legal}
 use Rattle.startup.specs.Attempts.{one}
-use Rattle.startup.specs.Step.{stepOf, stateRefusals}
 use Rattle.startup.specs.Run.{eventOf as attemptEvent}
-use Rattle.startup.proofs.Laws.{legal}
 use Rattle.story.specs.declared.Story.{Story}
 use Rattle.story.specs.declared.Event.{Event}
 use Rattle.story.specs.Events.{story, refusedWith, kindWith, kindOf, sinceOpening, numberOf, told, eventWith, startWith}

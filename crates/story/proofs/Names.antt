@@ -1,4 +1,4 @@
--- The phases' words are those of startup's table, for every legal state. Assumes nothing.
+-- The phases' words are those of the table of phases, for every legal state. Assumes nothing.
 use mathlib.Core.Path.{_≡_, refl, sym, ap, subst, _∙_}
 use mathlib.Core.Bool.{Bool, true, false, cond, _||_, false≢true}
 use mathlib.Core.Logic.{_⊎_, inl, inr, ⊎-elim}
@@ -10,10 +10,10 @@ use borrow.Author.Tests.{eqb-true}
 use lib.Dec.{eqb}
 use Rattle.answer.specs.Answer.{answer}
 use Rattle.ascii.specs.Text.{decimal, decimalIn}
-use Rattle.startup.specs.declared.Supervisor.{Supervisor}
-use Rattle.startup.specs.Phases.{Ready, Exception, Row, row, ntu, ltu, phasesOf, isOf, rowOf}
-use Rattle.startup.specs.Step.{stateRefusals, here}
-use Rattle.startup.proofs.Laws.{legal}
+use Rattle.phases.specs.declared.Supervisor.{Supervisor}
+use Rattle.phases.specs.Phases.{Ready, Exception, Row, row, ntu, ltu, phasesOf, isOf, rowOf}
+use Rattle.phases.specs.Step.{stateRefusals, here}
+use Rattle.phases.proofs.Laws.{legal}
 use Rattle.story.specs.Texts.{phaseText, lasts}
 use Rattle.story.specs.Names.{awaitsText, ruleText, rowText}
 

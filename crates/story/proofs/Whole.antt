@@ -10,12 +10,12 @@ use lib.Dec.{eqb, ltb}
 use lib.ListN.{length, take}
 use lib.Seq.{take-suc, take-length}
 use Rattle.answer.specs.Answer.{answer, held}
-use Rattle.startup.specs.declared.Supervisor.{Supervisor}
-use Rattle.startup.specs.declared.Answer.{Answer}
+use Rattle.phases.specs.declared.Supervisor.{Supervisor}
+use Rattle.phases.specs.declared.Answer.{Answer}
+use Rattle.phases.specs.Phases.{inAttempt}
+use Rattle.phases.specs.Step.{stepOf, stateRefusals}
+use Rattle.phases.specs.Step.{startOf as supervisorStart}
 use Rattle.startup.specs.declared.Run.{Run}
-use Rattle.startup.specs.Phases.{inAttempt}
-use Rattle.startup.specs.Step.{stepOf, stateRefusals}
-use Rattle.startup.specs.Step.{startOf as supervisorStart}
 use Rattle.startup.specs.Run.{goesOn, opens, ends, noted, takenOf, runFrom, begun}
 use Rattle.startup.specs.Run.{eventOf as attemptEvent}
 use Rattle.startup.specs.Attempts.{at, one, upto, count, Card, card, meant, StillOpen, OpensAt}

@@ -1,15 +1,15 @@
--- The story of a log: for each code an event, over the supervisor's own definitions (startup: startOf, stepOf, eventOf, inAttempt).
+-- The story of a log: for each code an event, over the supervisor's own definitions (phases: startOf, stepOf, inAttempt; startup: eventOf).
 use Prim.Native.Nat.{ℕ, _+_}
 use mathlib.Core.Bool.{cond, not, _||_}
 use mathlib.Core.List.{List, [], _∷_}
 use lib.Dec.{leb, eqb}
 use Rattle.answer.specs.Answer.{Refusal, refuse, answer, held}
-use Rattle.startup.specs.declared.Supervisor.{Supervisor}
-use Rattle.startup.specs.declared.Answer.{Answer}
+use Rattle.phases.specs.declared.Supervisor.{Supervisor}
+use Rattle.phases.specs.declared.Answer.{Answer}
+use Rattle.phases.specs.Phases.{inAttempt}
+use Rattle.phases.specs.Step.{stepOf}
+use Rattle.phases.specs.Step.{startOf as supervisorStart}
 use Rattle.startup.specs.Attempts.{one}
-use Rattle.startup.specs.Phases.{inAttempt}
-use Rattle.startup.specs.Step.{stepOf}
-use Rattle.startup.specs.Step.{startOf as supervisorStart}
 use Rattle.startup.specs.Run.{eventOf as attemptEvent}
 use Rattle.story.specs.declared.Story.{Story}
 use Rattle.story.specs.declared.Event.{Event}

@@ -1,4 +1,4 @@
--- A phase in words from startup's own table: its name, and what its row says that it lasts and waits for.
+-- A phase in words from the table of phases (crate phases): its name, and what its row says that it lasts and waits for.
 use Prim.Native.Nat.{ℕ}
 use Prim.Native.String.{String}
 use mathlib.Core.Bool.{cond}
@@ -6,7 +6,7 @@ use mathlib.Core.List.{List, [], _∷_, _++_}
 use lib.Dec.{eqb}
 use lib.ListN.{getD}
 use Rattle.ascii.specs.Text.{text, decimal}
-use Rattle.startup.specs.Phases.{Exception, Row}
+use Rattle.phases.specs.Phases.{Exception, Row}
 use Rattle.story.specs.Texts.{numbered}
 
 -- the phases' names, by number

@@ -3,9 +3,9 @@ ghost use mathlib.Core.Path.{_≡_};
 ghost use Prim.Native.Nat.{_≤_, _<_};
 ghost use Rattle.startup.specs.Attempts.{one};
 ghost use Rattle.story.specs.Events.{refusedWith, kindOf, sinceOpening, numberOf, told, startOf, eventOf};
+use phases::Supervisor;
+use phases::code;
 use startup::Run;
-use startup::Supervisor;
-use startup::code;
 
 pub mod kind;
 mod text;
@@ -159,7 +159,7 @@ fn kind_of(before: Supervisor, after: Supervisor, code: u32) -> u32
 fn number_of(phase: u32, event: u32, attempts: u32) -> u32
     ensures { λ r. ⌜ r ≡ numberOf phase event attempts ⌝ }
 {
-    if startup::in_attempt(phase) {
+    if phases::in_attempt(phase) {
         return attempts;
     }
     if event == Run::OPEN {
@@ -173,7 +173,7 @@ fn since_opening(state: Supervisor, code: u32) -> u32
     requires { ⌜ state .attempt ≤ 14999 ⌝ }
     ensures { λ r. ⌜ r ≡ sinceOpening state code ⌝ }
 {
-    if startup::in_attempt(state.phase) {
+    if phases::in_attempt(state.phase) {
         state.attempt + one(code == code::TICK)
     } else {
         0

@@ -9,9 +9,9 @@ ghost use Rattle.story.specs.Texts.{nameOf, phaseText, verbOf, attemptTe
 use crate::Event;
 use crate::Story;
 use crate::kind;
-use startup::Supervisor;
-use startup::code;
-use startup::phase;
+use phases::Supervisor;
+use phases::code;
+use phases::phase;
 
 // A number between words.
 fn put_number(room: &mut [u8], at: usize, before: &[u8], n: u32, after: &[u8]) -> usize
@@ -193,7 +193,7 @@ pub fn put_end(room: &mut [u8], story: Story) -> usize
 {
     let state = story.state;
     let at = put_number(room, 0, b"end of log at tick ", story.clock, b": ");
-    if startup::in_attempt(state.phase) {
+    if phases::in_attempt(state.phase) {
         put_trying(room, at, story)
     } else {
         put_waiting(room, at, story)

@@ -1,8 +1,8 @@
 -- `host::supervisor::sdsl_step` meets its contract.
 use borrow.Author.Needs.{needs}
 use mathlib.Core.Path.{ap, _∙_}
-use Rattle.startup.specs.declared.Supervisor.{Supervisor as State}
-use Rattle.startup.specs.Step.{stepOf}
+use Rattle.phases.specs.declared.Supervisor.{Supervisor as State}
+use Rattle.phases.specs.Step.{stepOf}
 use Rattle.host.specs.Supervisor.{steppedOf}
 use Rattle.host.proofs.supervisor.sdsl_step.Statement.{statement}
 use Rattle.host.proofs.supervisor.sdsl_step.Tie as tie
