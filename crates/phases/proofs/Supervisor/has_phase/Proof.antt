@@ -1,4 +1,4 @@
-use mathlib.Core.Path.{sym, _∙_}
+use mathlib.Core.Path.{sym}
 use lib.Dec.{eqb}
 use Rattle.phases.proofs.Laws.{beyond, of-ntu, of-ltu, of-both}
 use Rattle.phases.proofs.Supervisor.has_phase.Statement.{statement}
