@@ -1,9 +1,9 @@
 // The text of a story, put into a lent room (crate ascii): what would lie past the room's end is left out, and how much of the room is
 // taken comes back. What the text is, is specs/Texts.antt.
 ghost use mathlib.Core.Path.{_≡_};
-ghost use mathlib.Core.List.{_++_};
+ghost use mathlib.Core.Bool.{cond};
 ghost use Prim.Native.Nat.{_-_};
-ghost use Rattle.ascii.specs.Text.{decimal};
+ghost use lib.Dec.{eqb, ltb};
 ghost use Rattle.ascii.specs.Promises.{Put};
 ghost use Rattle.telling.specs.Texts.{nameOf, phaseText, verbOf, attemptText, codeText, eventText, lasts, leftText, tryingText, waitingText, endText, refusedText};
 use startup::Supervisor;
@@ -13,39 +13,46 @@ use story::Event;
 use story::Story;
 use story::kind;
 
-// A number between words.
-fn put_number(room: &mut [u8], at: usize, before: &[u8], n: u32, after: &[u8]) -> usize
-    ensures { λ r. ⌜ Put (now (room .entry)) at (now (before .entry) ++ decimal n ++ now (after .entry)) r (now (room .exit)) ⌝ }
+// The row of a phase's name: its number, one for Quiet at the NTU, and one for what is no phase.
+fn name_row(end: u32, phase: u32) -> u32
+    ensures { λ r. ⌜ r ≡ cond (ltb 12 phase) 14 (cond (eqb phase 5) (cond (eqb end 1) 13 phase) phase) ⌝ }
 {
-    let named = ascii::put_word(room, at, before);
-    let next = ascii::put_decimal(room, named, n);
-    ascii::put_word(room, next, after)
+    if phase::VALID < phase {
+        return 14;
+    }
+    if phase != phase::QUIET {
+        return phase;
+    }
+    if end != Supervisor::NTU {
+        return phase;
+    }
+    13
 }
 
 // A phase by its name, and what it lasts or waits for.
 fn put_name(room: &mut [u8], at: usize, end: u32, phase: u32) -> usize
     ensures { λ r. ⌜ Put (now (room .entry)) at (nameOf end phase) r (now (room .exit)) ⌝ }
 {
-    match phase {
-        phase::READY => ascii::put_word(room, at, b"Ready (until code 1)"),
-        phase::GAP => ascii::put_word(room, at, b"Gap (300 ticks)"),
-        phase::AWAIT => ascii::put_word(room, at, b"Await (until code 2)"),
-        phase::C_R => ascii::put_word(room, at, b"C_r (1000 ticks)"),
-        phase::HEARING => ascii::put_word(room, at, b"Hearing (until code 3)"),
-        phase::QUIET => if end == Supervisor::NTU {
-            ascii::put_word(room, at, b"Quiet (1500 ticks)")
-        } else {
-            ascii::put_word(room, at, b"Quiet (500 ticks)")
-        },
-        phase::S_C => ascii::put_word(room, at, b"S_c (5000 ticks and until code 4)"),
-        phase::S_R => ascii::put_word(room, at, b"S_r (until codes 4 and 5)"),
-        phase::T_C => ascii::put_word(room, at, b"T_c (until code 6)"),
-        phase::T_R => ascii::put_word(room, at, b"T_r (until code 7)"),
-        phase::F_C => ascii::put_word(room, at, b"F_c (until code 7)"),
-        phase::SETTLING => ascii::put_word(room, at, b"Settling (1000 ticks)"),
-        phase::VALID => ascii::put_word(room, at, b"Valid (until code 8)"),
-        _ => ascii::put_word(room, at, b"no phase"),
-    }
+    forms::put_row(
+        room,
+        at,
+        b"Ready (until code 1)\n\
+          Gap (300 ticks)\n\
+          Await (until code 2)\n\
+          C_r (1000 ticks)\n\
+          Hearing (until code 3)\n\
+          Quiet (500 ticks)\n\
+          S_c (5000 ticks and until code 4)\n\
+          S_r (until codes 4 and 5)\n\
+          T_c (until code 6)\n\
+          T_r (until code 7)\n\
+          F_c (until code 7)\n\
+          Settling (1000 ticks)\n\
+          Valid (until code 8)\n\
+          Quiet (1500 ticks)\n\
+          no phase\n",
+        name_row(end, phase),
+    )
 }
 
 // The phase of a state. The exception state is named with its silence.
@@ -53,35 +60,50 @@ fn put_phase(room: &mut [u8], at: usize, state: Supervisor) -> usize
     ensures { λ r. ⌜ Put (now (room .entry)) at (phaseText state) r (now (room .exit)) ⌝ }
 {
     if state.phase == phase::EXCEPTION {
-        put_number(
+        forms::put_form(
             room,
             at,
-            b"Exception (silent for ",
-            state.silence,
-            b" ticks)",
+            b"Exception (silent for # ticks)",
+            &[state.silence],
         )
     } else {
         put_name(room, at, state.end, state.phase)
     }
 }
 
+// The row of an event's words: its kind, and one more for an attempt whose time is up, which ends on a tick.
+fn verb_row(kind: u32, code: u32) -> u32
+    ensures { λ r. ⌜ r ≡ cond (ltb 7 kind) 0 (cond (eqb kind 3) (cond (eqb code 0) 8 kind) kind) ⌝ }
+{
+    if kind::IGNORED < kind {
+        return kind::NOTHING;
+    }
+    if kind != kind::EXCEPTION {
+        return kind;
+    }
+    if code != code::TICK {
+        return kind;
+    }
+    8
+}
+
 // What an event is.
 fn put_verb(room: &mut [u8], at: usize, kind: u32, code: u32) -> usize
     ensures { λ r. ⌜ Put (now (room .entry)) at (verbOf kind code) r (now (room .exit)) ⌝ }
 {
-    match kind {
-        kind::OPENED => ascii::put_word(room, at, b"opens: "),
-        kind::DATA => ascii::put_word(room, at, b"ends in data mode: "),
-        kind::EXCEPTION => if code == code::TICK {
-            ascii::put_word(room, at, b"time is up, ends in exception: ")
-        } else {
-            ascii::put_word(room, at, b"ends in exception: ")
-        },
-        kind::AGAIN => ascii::put_word(room, at, b"silence starts again: "),
-        kind::HEARD => ascii::put_word(room, at, b"heard, still "),
-        kind::IGNORED => ascii::put_word(room, at, b"changes nothing, still "),
-        _ => at,
-    }
+    forms::put_row(
+        room,
+        at,
+        b"\n\
+          opens: \n\
+          ends in data mode: \n\
+          ends in exception: \n\n\
+          silence starts again: \n\
+          heard, still \n\
+          changes nothing, still \n\
+          time is up, ends in exception: \n",
+        verb_row(kind, code),
+    )
 }
 
 // The attempt's number and tick, where there is one.
@@ -91,9 +113,7 @@ fn put_attempt(room: &mut [u8], at: usize, attempt: u32, ticks: u32) -> usize
     if attempt == 0 {
         return at;
     }
-    let numbered = put_number(room, at, b"attempt ", attempt, b", tick ");
-    let next = ascii::put_decimal(room, numbered, ticks);
-    ascii::put_word(room, next, b": ")
+    forms::put_form(room, at, b"attempt #, tick #: ", &[attempt, ticks])
 }
 
 // The code, where it is no tick.
@@ -103,7 +123,7 @@ fn put_code(room: &mut [u8], at: usize, code: u32) -> usize
     if code == code::TICK {
         at
     } else {
-        put_number(room, at, b"code ", code, b": ")
+        forms::put_form(room, at, b"code #: ", &[code])
     }
 }
 
@@ -112,7 +132,7 @@ pub fn put_event(room: &mut [u8], event: Event) -> usize
     ensures { λ r. ⌜ Put (now (room .entry)) 0 (eventText event) r (now (room .exit)) ⌝ }
 {
     let story = event.story;
-    let mut at = put_number(room, 0, b"tick ", story.clock, b": ");
+    let mut at = forms::put_form(room, 0, b"tick #: ", &[story.clock]);
     at = put_attempt(room, at, event.attempt, event.ticks);
     at = put_code(room, at, event.code);
     at = put_verb(room, at, event.kind, event.code);
@@ -146,7 +166,7 @@ fn put_left(room: &mut [u8], at: usize, state: Supervisor) -> usize
     match phase {
         phase::GAP | phase::SETTLING | phase::EXCEPTION => {
             let left = rest(lasts(state.silence, phase), state.ticks);
-            put_number(room, at, b", ", left, b" left")
+            forms::put_form(room, at, b", # left", &[left])
         },
         _ => at,
     }
@@ -158,16 +178,19 @@ fn put_trying(room: &mut [u8], at: usize, story: Story) -> usize
 {
     let state = story.state;
     let left = rest(Supervisor::ATTEMPT, state.attempt);
-    let mut next = put_number(
+    let mut next = forms::put_form(
         room,
         at,
-        b"attempt ",
-        story.attempts,
-        b" is still trying in ",
+        b"attempt # is still trying in ",
+        &[story.attempts],
     );
     next = put_phase(room, next, state);
-    next = put_number(room, next, b", ", state.attempt, b" of 15000 ticks used");
-    put_number(room, next, b", ", left, b" left\n")
+    forms::put_form(
+        room,
+        next,
+        b", # of 15000 ticks used, # left\n",
+        &[state.attempt, left],
+    )
 }
 
 // A story outside one.
@@ -175,12 +198,11 @@ fn put_waiting(room: &mut [u8], at: usize, story: Story) -> usize
     ensures { λ r. ⌜ Put (now (room .entry)) at (waitingText story) r (now (room .exit)) ⌝ }
 {
     let state = story.state;
-    let mut next = put_number(
+    let mut next = forms::put_form(
         room,
         at,
-        b"no attempt is open, ",
-        story.attempts,
-        b" ended, now ",
+        b"no attempt is open, # ended, now ",
+        &[story.attempts],
     );
     next = put_phase(room, next, state);
     next = put_left(room, next, state);
@@ -192,7 +214,7 @@ pub fn put_end(room: &mut [u8], story: Story) -> usize
     ensures { λ r. ⌜ Put (now (room .entry)) 0 (endText story) r (now (room .exit)) ⌝ }
 {
     let state = story.state;
-    let at = put_number(room, 0, b"end of log at tick ", story.clock, b": ");
+    let at = forms::put_form(room, 0, b"end of log at tick #: ", &[story.clock]);
     if startup::in_attempt(state.phase) {
         put_trying(room, at, story)
     } else {
@@ -204,7 +226,5 @@ pub fn put_end(room: &mut [u8], story: Story) -> usize
 pub fn put_refused(room: &mut [u8], answer: u32, line: u32) -> usize
     ensures { λ r. ⌜ Put (now (room .entry)) 0 (refusedText answer line) r (now (room .exit)) ⌝ }
 {
-    let mut at = put_number(room, 0, b"refused ", answer, b" at line ");
-    at = ascii::put_decimal(room, at, line);
-    ascii::put(room, at, b'\n')
+    forms::put_form(room, 0, b"refused # at line #\n", &[answer, line])
 }

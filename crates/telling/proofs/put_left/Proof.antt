@@ -1,8 +1,9 @@
 -- `telling::put_left` meets its contract.
-use Rattle.telling.proofs.Laws.{left-some, left-none}
-use Rattle.ascii.proofs.Room.{put-none, put-as}
-use borrow.Author.Needs.{needs}
 use mathlib.Core.Logic.{inl, inr}
+use Rattle.ascii.proofs.Room.{put-none, put-as}
+use Rattle.telling.proofs.Laws.{left-some, left-none}
+use Rattle.forms.specs.Forms.{formed, formedBy, firstOf}
+use borrow.Author.Needs.{needs}
 use Rattle.telling.proofs.put_left.Statement.{statement}
 use Rattle.telling.proofs.put_left.Tie as tie
 
@@ -12,20 +13,21 @@ lasts-requires c κs = search needs
 rest-requires : tie.Need-rest-requires
 rest-requires c κs = search needs
 
-slice-aggregate-put-number : tie.Need-slice-aggregate-put-number
-slice-aggregate-put-number c = search needs
+slice-aggregate-put-form : tie.Need-slice-aggregate-put-form
+slice-aggregate-put-form c = search needs
 
-slice-aggregate-put-number-2 : tie.Need-slice-aggregate-put-number-2
-slice-aggregate-put-number-2 c = search needs
+slice-aggregate-put-form-2 : tie.Need-slice-aggregate-put-form-2
+slice-aggregate-put-form-2 c = search needs
 
-put-number-requires : tie.Need-put-number-requires
-put-number-requires c κs = search needs
+put-form-requires : tie.Need-put-form-requires
+put-form-requires c κs = search needs
 
 same-length : tie.Need-same-length
 same-length c = search needs
 
 returns : tie.Need-returns
-returns c = put-as (c .before .before .put-number .ensures) (left-some (c .before .before .before .before .before .before .before .before .before .before .args .state) (c .before .before .before .before .before .before .before .lasts .result) (c .before .before .before .before .before .before .rest .result) (c .before .before .before .before .before .before .before .before .match .keys1) (c .before .before .before .before .before .before .before .lasts .ensures) (c .before .before .before .before .before .before .rest .ensures))
+unfolding formed formedBy firstOf
+returns c = put-as (c .before .before .put-form .ensures) (left-some (c .before .before .before .before .before .before .before .before .before .before .args .state) (c .before .before .before .before .before .before .before .lasts .result) (c .before .before .before .before .before .before .rest .result) (c .before .before .before .before .before .before .before .before .match .keys1) (c .before .before .before .before .before .before .before .lasts .ensures) (c .before .before .before .before .before .before .rest .ensures))
 
 returns-2 : tie.Need-returns-2
 returns-2 c = put-as (put-none (c .before .before .args .room .now) (c .before .before .args .at)) (left-none (c .before .before .args .state) (λ a. c .match .rest .1 (inl a)) (λ a. c .match .rest .1 (inr (inl a))) (λ a. c .match .rest .1 (inr (inr a))))
@@ -36,9 +38,9 @@ put-left-spec =
     (tie.spec
     lasts-requires
     rest-requires
-    slice-aggregate-put-number
-    slice-aggregate-put-number-2
-    put-number-requires
+    slice-aggregate-put-form
+    slice-aggregate-put-form-2
+    put-form-requires
     same-length
     returns
     returns-2)
