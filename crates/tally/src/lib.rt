@@ -31,10 +31,10 @@ fn how_many(xs: &[u32], x: u32) -> usize
 fn one_if_both(a: u32, b: u32) -> usize
     ensures { λ r. ⌜ r ≡ cond (eqb a 1) (cond (eqb b 1) 1 0) 0 ⌝ }
 {
-    if a != sorting::SAME {
+    if a != verdict::SAME {
         return 0;
     }
-    one_if(b, sorting::SAME)
+    one_if(b, verdict::SAME)
 }
 
 // How many cards have both words the same.
@@ -83,7 +83,7 @@ fn put_reason_lines(room: &mut [u8], at: usize, answers: &[u32]) -> usize
 {
     let mut next = at;
     let mut n: u32 = 0;
-    while n < sorting::UNREAD {
+    while n < verdict::UNREAD {
         n += 1;
         next = put_reason_line(room, next, answers, n);
     }
@@ -103,9 +103,9 @@ fn put_like_line(room: &mut [u8], at: usize, name: &[u8], likes: &[u32]) -> usiz
     ensures { λ r. ⌜ Put (now (room .entry)) at (likeLine (now (name .entry)) (now (likes .entry))) r (now (room .exit)) ⌝ }
 {
     let mut next = ascii::put_word(room, at, name);
-    next = put_counted(room, next, likes, sorting::SAME, b" same, ");
-    next = put_counted(room, next, likes, sorting::TURNED, b" TURNED, ");
-    put_counted(room, next, likes, sorting::OTHER, b" other\n")
+    next = put_counted(room, next, likes, verdict::SAME, b" same, ");
+    next = put_counted(room, next, likes, verdict::TURNED, b" TURNED, ");
+    put_counted(room, next, likes, verdict::OTHER, b" other\n")
 }
 
 // Cards that have both words the same.

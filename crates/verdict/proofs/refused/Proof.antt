@@ -1,7 +1,7 @@
--- `sorting::refused` meets its contract.
+-- `verdict::refused` meets its contract.
 use borrow.Author.Needs.{needs}
-use Rattle.sorting.proofs.refused.Statement.{statement}
-use Rattle.sorting.proofs.refused.Tie as tie
+use Rattle.verdict.proofs.refused.Statement.{statement}
+use Rattle.verdict.proofs.refused.Tie as tie
 
 no-word-requires : tie.Need-no-word-requires
 no-word-requires c κs = search needs

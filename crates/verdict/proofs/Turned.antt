@@ -6,7 +6,7 @@ use native.Mathlib.Omega.{arith}
 use lib.ListN.{length, length-reverse}
 use Rattle.octets.specs.Bits.{digitsOf, valueOf}
 use Rattle.octets.proofs.Digits.{digits-length, digits-bits, digits-value, value-digits, reverse-bits}
-use Rattle.sorting.specs.Verdict.{lastFirst}
+use Rattle.verdict.specs.Verdict.{lastFirst}
 
 -- the digits of a word read last bit first
 turned-digits : (y : ℕ) → digitsOf 21 (valueOf (reverse (digitsOf 21 y))) ≡ reverse (digitsOf 21 y)

@@ -1,11 +1,11 @@
--- `sorting::like` meets its contract.
+-- `verdict::like` meets its contract.
 use borrow.Author.Needs.{needs}
 use borrow.Author.Tests.{not-true, not-false}
 use mathlib.Core.Path.{sym, _∙_}
-use Rattle.sorting.specs.Verdict.{lastFirst}
-use Rattle.sorting.proofs.Laws.{like-none, like-same, like-turned, like-other}
-use Rattle.sorting.proofs.like.Statement.{statement}
-use Rattle.sorting.proofs.like.Tie as tie
+use Rattle.verdict.specs.Verdict.{lastFirst}
+use Rattle.verdict.proofs.Laws.{like-none, like-same, like-turned, like-other}
+use Rattle.verdict.proofs.like.Statement.{statement}
+use Rattle.verdict.proofs.like.Tie as tie
 
 returns : tie.Need-returns
 returns c = like-none (c .before .args .given) (c .before .args .x) (c .before .args .y) (not-true _ (c .if1 .taken))

@@ -12,8 +12,8 @@ use Rattle.layout.specs.Frame.{trainingSync, fieldOf, coefficientsOf}
 use Rattle.layout.specs.Refusals.{hasSync, checkRefusals}
 use Rattle.reader.specs.Promises.{vendorOctets}
 use Rattle.listing.specs.Listing.{highest}
-use Rattle.sorting.specs.declared.Customer.{Customer}
-use Rattle.sorting.specs.declared.Verdict.{Verdict}
+use Rattle.verdict.specs.declared.Customer.{Customer}
+use Rattle.verdict.specs.declared.Verdict.{Verdict}
 
 -- a word of 21 bits read last bit first, the old bench program's mistake
 unfoldable pub lastFirst : ℕ → ℕ

@@ -16,9 +16,9 @@ use Rattle.reader.specs.declared.Found.{Found}
 use Rattle.reader.specs.Promises.{foundOf, Read}
 use Rattle.listing.specs.Listing.{highest}
 use Rattle.listing.proofs.Laws.{found, found-is, none-applies, coefficients-are, vendor-is}
-use Rattle.sorting.specs.declared.Customer.{Customer}
-use Rattle.sorting.specs.declared.Verdict.{Verdict}
-use Rattle.sorting.specs.Verdict.{lastFirst, likeOf, absent, refusedVerdict, trainingVerdict, finalVerdict, judged, verdictOf, nobody, customerBy, customerOf}
+use Rattle.verdict.specs.declared.Customer.{Customer}
+use Rattle.verdict.specs.declared.Verdict.{Verdict}
+use Rattle.verdict.specs.Verdict.{lastFirst, likeOf, absent, refusedVerdict, trainingVerdict, finalVerdict, judged, verdictOf, nobody, customerBy, customerOf}
 
 -- ---- a word beside the customer's
 
@@ -78,7 +78,7 @@ module _ (f : List ℕ) (cs : List ℤ) (v : List ℕ) (lc : length cs ≡ 180) 
           vendor = v;
         }
 
-    pub training-is : r .kind ≡ 0 → made cs′ r v′ ≡ verdictOf f k
+    training-is : r .kind ≡ 0 → made cs′ r v′ ≡ verdictOf f k
     unfolding judged
     training-is e =
         go (hasSync trainingSync B) (found-is f cs v lc lv r cs′ v′ d z) (coefficients-are f cs v lc lv r cs′ v′ d z) ∙ judged-is
@@ -91,17 +91,26 @@ module _ (f : List ℕ) (cs : List ℤ) (v : List ℕ) (lc : length cs ≡ 180) 
             let kind-is : _≡_ {A = ℕ} 0 1 = sym e ∙ ap (λ (x : Found). x .kind) p in
             absurd (omega arith)
 
-    pub final-is : (r .kind ≡ 0 → ⊥)
-        → record { answer = 0; kind = 1; used = 0; a = 0; b = 0; alike = absent (k .given); blike = absent (k .given); vendor = v′ } ≡ verdictOf f k
+    -- as the code makes it
+    pub training-made : (u l m : ℕ) → u ≡ highest cs′ → l ≡ likeOf (k .given) (r .a) (k .a) → m ≡ likeOf (k .given) (r .b) (k .b) → r .kind ≡ 0
+        → record { answer = 0; kind = 0; used = u; a = r .a; b = r .b; alike = l; blike = m; vendor = v′ } ≡ verdictOf f k
+    training-made u l m qu ql qm e = rw (qu, ql, qm) (training-is e)
+
+    -- the verdict on a final frame with this vendor data
+    abbrev with-vendor : List ℕ → Verdict
+    with-vendor x = record { answer = 0; kind = 1; used = 0; a = 0; b = 0; alike = absent (k .given); blike = absent (k .given); vendor = x }
+
+    final-is : (r .kind ≡ 0 → ⊥) → with-vendor v′ ≡ verdictOf f k
     unfolding judged
     final-is n = go (hasSync trainingSync B) (found-is f cs v lc lv r cs′ v′ d z) ∙ judged-is
       where
-        with-vendor : List ℕ → Verdict
-        with-vendor x = record { answer = 0; kind = 1; used = 0; a = 0; b = 0; alike = absent (k .given); blike = absent (k .given); vendor = x }
-
         go : (t : Bool) → r ≡ cond t T F → with-vendor v′ ≡ cond t (trainingVerdict B k) (finalVerdict B k)
         go true p = absurd (n (ap (λ (x : Found). x .kind) p))
         go false p = ap with-vendor (vendor-is f cs v lc lv r cs′ v′ d z)
+
+    pub final-made : (l m : ℕ) → l ≡ absent (k .given) → m ≡ absent (k .given) → (r .kind ≡ 0 → ⊥)
+        → record { answer = 0; kind = 1; used = 0; a = 0; b = 0; alike = l; blike = m; vendor = v′ } ≡ verdictOf f k
+    final-made l m ql qm n = rw (ql, qm) (final-is n)
 
 -- ---- the customer
 

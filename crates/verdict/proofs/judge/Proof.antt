@@ -1,11 +1,11 @@
--- `sorting::judge` meets its contract.
+-- `verdict::judge` meets its contract.
 use borrow.Author.Needs.{needs}
 use mathlib.Core.Path.{refl, _∙_}
 use native.Mathlib.Omega.{arith}
 use Rattle.listing.proofs.Laws.{highest-within}
-use Rattle.sorting.proofs.Laws.{refused-is, training-is, final-is}
-use Rattle.sorting.proofs.judge.Statement.{statement}
-use Rattle.sorting.proofs.judge.Tie as tie
+use Rattle.verdict.proofs.Laws.{refused-is, training-made, final-made}
+use Rattle.verdict.proofs.judge.Statement.{statement}
+use Rattle.verdict.proofs.judge.Tie as tie
 
 slice-aggregate-read : tie.Need-slice-aggregate-read
 slice-aggregate-read c = search needs
@@ -38,7 +38,7 @@ like-requires-2 : tie.Need-like-requires-2
 like-requires-2 c κs = search needs
 
 returns-2 : tie.Need-returns-2
-returns-2 c = cc (c .before .before .highest .ensures, c .before .like .ensures, c .like2 .ensures, training-is (c .before .before .before .before .before .before .before .before .before .before .before .before .before .before .args .frame .now) _ _ refl refl (c .before .before .before .before .before .before .before .before .before .before .read .result) (c .before .before .before .before .before .before .before .before .before .before .read .last .1 .0) (c .before .before .before .before .before .before .before .before .before .before .read .last .1 .1 .0) (c .before .before .before .before .before .before .before .before .before .before .read .ensures) (c .before .before .before .before .before .before .before .before .before .before .before .before .before .before .args .customer) (c .before .before .before .before .before .before .if1 .left) (c .before .before .before .before .if2 .taken))
+returns-2 c = training-made (c .before .before .before .before .before .before .before .before .before .before .before .before .before .before .args .frame .now) _ _ refl refl (c .before .before .before .before .before .before .before .before .before .before .read .result) (c .before .before .before .before .before .before .before .before .before .before .read .last .1 .0) (c .before .before .before .before .before .before .before .before .before .before .read .last .1 .1 .0) (c .before .before .before .before .before .before .before .before .before .before .read .ensures) (c .before .before .before .before .before .before .before .before .before .before .before .before .before .before .args .customer) (c .before .before .before .before .before .before .if1 .left) _ _ _ (c .before .before .highest .ensures) (c .before .like .ensures) (c .like2 .ensures) (c .before .before .before .before .if2 .taken)
 
 no-word-requires : tie.Need-no-word-requires
 no-word-requires c κs = search needs
@@ -47,7 +47,7 @@ no-word-requires-2 : tie.Need-no-word-requires-2
 no-word-requires-2 c κs = search needs
 
 returns-3 : tie.Need-returns-3
-returns-3 c = cc (c .before .no-word .ensures, c .no-word2 .ensures, final-is (c .before .before .before .before .before .before .before .before .before .before .before .before .args .frame .now) _ _ refl refl (c .before .before .before .before .before .before .before .before .read .result) (c .before .before .before .before .before .before .before .before .read .last .1 .0) (c .before .before .before .before .before .before .before .before .read .last .1 .1 .0) (c .before .before .before .before .before .before .before .before .read .ensures) (c .before .before .before .before .before .before .before .before .before .before .before .before .args .customer) (c .before .before .before .before .if1 .left) (c .before .before .if2 .left))
+returns-3 c = final-made (c .before .before .before .before .before .before .before .before .before .before .before .before .args .frame .now) _ _ refl refl (c .before .before .before .before .before .before .before .before .read .result) (c .before .before .before .before .before .before .before .before .read .last .1 .0) (c .before .before .before .before .before .before .before .before .read .last .1 .1 .0) (c .before .before .before .before .before .before .before .before .read .ensures) (c .before .before .before .before .before .before .before .before .before .before .before .before .args .customer) (c .before .before .before .before .if1 .left) _ _ (c .before .no-word .ensures) (c .no-word2 .ensures) (c .before .before .if2 .left)
 
 pub judge-spec : {M : Type 1} → statement M
 judge-spec =

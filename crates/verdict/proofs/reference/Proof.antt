@@ -1,9 +1,9 @@
--- `sorting::reference` meets its contract.
+-- `verdict::reference` meets its contract.
 use borrow.Author.Needs.{needs}
 use mathlib.Core.Path.{_∙_}
-use Rattle.sorting.proofs.Laws.{customer-refused, customer-final, customer-given}
-use Rattle.sorting.proofs.reference.Statement.{statement}
-use Rattle.sorting.proofs.reference.Tie as tie
+use Rattle.verdict.proofs.Laws.{customer-refused, customer-final, customer-given}
+use Rattle.verdict.proofs.reference.Statement.{statement}
+use Rattle.verdict.proofs.reference.Tie as tie
 
 nobody-requires : tie.Need-nobody-requires
 nobody-requires c κs = search needs
