@@ -50,7 +50,7 @@ same-length c = search needs
 
 returns-2 : tie.Need-returns-2
 unfolding likeLines
-returns-2 c = 
+returns-2 c =
     let a = c .before .before .before .before .before .before .before .before .before .before .before .before .before .before .before .before .before .before .args in
     let x = a .alikes .now in
     let y = a .blikes .now in
