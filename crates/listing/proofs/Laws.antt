@@ -25,6 +25,7 @@ use Rattle.layout.specs.Refusals.{hasSync, bitRefusals, checkRefusals, readRefu
 use Rattle.reader.specs.declared.Found.{Found}
 use Rattle.reader.specs.Promises.{foundOf, coefficientsLeft, vendorOctets, Read}
 use Rattle.ascii.specs.Text.{text, decimal}
+use Rattle.forms.specs.Forms.{firstOf, formedBy, formed}
 use Rattle.listing.specs.Listing.{isZero, allZero, highest, numberLine, coefficientLine, coefficientLines, trainingText, finalText, listed, listing}
 
 -- ---- the highest non-zero coefficient
@@ -121,6 +122,20 @@ lines-next cs k h =
     ∙ sym (lines-append 1 (take k cs) (getD cs k (pos 0)))
     ∙ ap (coefficientLines 1) (sym (take-suc cs k (pos 0) h) ∙ ap (λ (n : ℕ). take n cs) (sym (add-one k)))
 
+-- ---- lines by their forms
+
+pub coefficient-form : (k : ℕ) (v : List ℕ) → formed (text "c # ") (k ∷ []) ++ v ++ text "\n" ≡ text "c " ++ decimal k ++ text " " ++ v ++ text "\n"
+unfolding formed formedBy firstOf
+coefficient-form k v = refl
+
+pub kind-form : (n : ℕ) → formed (text "kind training\ncoefficients #\n") (n ∷ []) ≡ text "kind training\n" ++ numberLine "coefficients " n
+unfolding formed formedBy firstOf numberLine
+kind-form n = refl
+
+pub words-form : (a b : ℕ) → formed (text "A #\nB #\n") (a ∷ b ∷ []) ≡ numberLine "A " a ++ numberLine "B " b
+unfolding formed formedBy firstOf numberLine
+words-form a b = ap (λ (l : List ℕ). text "A " ++ l) (sym (append-assoc (decimal a) (text "\n") (numberLine "B " b)))
+
 -- ---- check bits as a number
 
 pub check-small : (c t : ℕ) → t ≡ valueOf (reverse (digitsOf 16 c)) → t < 65536
@@ -147,8 +162,8 @@ module _ (f : List ℕ) (cs : List ℤ) (v : List ℕ) (lc : length cs ≡ 180) 
   found = d .found ∙ ap (λ (n : ℕ). foundOf n B) same
 
   -- a refusal
-  pub refused-text : (r .answer ≡ 0 → ⊥) → text "refused " ++ decimal (r .answer) ++ (10 ∷ []) ≡ listing f
-  unfolding listing listed numberLine
+  pub refused-text : (r .answer ≡ 0 → ⊥) → formed (text "refused #\n") (r .answer ∷ []) ≡ listing f
+  unfolding listing listed numberLine formed formedBy firstOf
   refused-text h = go (answer (checkRefusals f)) found
     where
       done : (t : Bool) → cond {A = Found} t T F .answer ≡ 0

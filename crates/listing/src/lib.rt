@@ -1,30 +1,21 @@
 // The bench listing (document 01): a frame's text, put into a lent room. What the text is, is specs/Listing.antt.
 ghost use mathlib.Core.Path.{_≡_};
-ghost use mathlib.Core.List.{_∷_, [], _++_};
 ghost use Prim.Native.Nat.{_<_, _≤_};
 ghost use lib.ListN.{length, take};
-ghost use Rattle.ascii.specs.Text.{decimal};
+ghost use Rattle.octets.specs.Bits.{bitsOf};
+ghost use Rattle.remainder.specs.Division.{polynomial};
+ghost use Rattle.layout.specs.Places.{check};
+ghost use Rattle.layout.specs.Frame.{fieldOf};
 ghost use Rattle.ascii.specs.Promises.{Put};
 ghost use Rattle.listing.specs.Listing.{coefficientLine, coefficientLines, vendorLine, checkLine, trainingText, finalText};
 ghost use Rattle.listing.specs.Promises.{Highest, Listed};
-
-// A line that names a number.
-fn put_number_line(room: &mut [u8], at: usize, name: &[u8], n: u32) -> usize
-    ensures { λ r. ⌜ Put (now (room .entry)) at (now (name .entry) ++ decimal n ++ (10 ∷ [])) r (now (room .exit)) ⌝ }
-{
-    let named = ascii::put_word(room, at, name);
-    let next = ascii::put_decimal(room, named, n);
-    ascii::put(room, next, b'\n')
-}
 
 // The line of coefficient number k.
 fn put_coefficient_line(room: &mut [u8], at: usize, k: u32, c: i32) -> usize
     ensures { λ r. ⌜ Put (now (room .entry)) at (coefficientLine k c) r (now (room .exit)) ⌝ }
 {
-    let named = ascii::put_word(room, at, b"c ");
-    let numbered = ascii::put_decimal(room, named, k);
-    let parted = ascii::put(room, numbered, b' ');
-    let next = ascii::put_signed(room, parted, c);
+    let numbered = forms::put_form(room, at, b"c # ", &[k]);
+    let next = ascii::put_signed(room, numbered, c);
     ascii::put(room, next, b'\n')
 }
 
@@ -84,11 +75,9 @@ fn put_training(room: &mut [u8], cs: &[i32], a: u32, b: u32, vendor: &[u8], chec
     ensures { λ r. ⌜ Put (now (room .entry)) 0 (trainingText (now (cs .entry)) a b (now (vendor .entry)) check) r (now (room .exit)) ⌝ }
 {
     let n = highest(cs) as u32;
-    let mut at = ascii::put_word(room, 0, b"kind training\n");
-    at = put_number_line(room, at, b"coefficients ", n);
+    let mut at = forms::put_form(room, 0, b"kind training\ncoefficients #\n", &[n]);
     at = put_coefficient_lines(room, at, cs, n);
-    at = put_number_line(room, at, b"A ", a);
-    at = put_number_line(room, at, b"B ", b);
+    at = forms::put_form(room, at, b"A #\nB #\n", &[a, b]);
     at = put_vendor_line(room, at, vendor);
     put_check_line(room, at, check)
 }
@@ -103,6 +92,14 @@ fn put_final(room: &mut [u8], vendor: &[u8], check: u32) -> usize
     put_check_line(room, at, check)
 }
 
+// A frame's check bits as a number, c1 highest.
+fn check_of(frame: &[u8]) -> u32
+    ensures { λ r. ⌜ (r < 65536) × (length (now (frame .entry)) ≡ 529 → r ≡ polynomial (fieldOf check (bitsOf (now (frame .entry))))) ⌝ }
+{
+    let bits = words::field(frame, layout::CHECK_AT, layout::CHECK_BITS);
+    words::turned(layout::CHECK_BITS, bits)
+}
+
 // The listing of the octets read, and how much of the room it takes.
 pub fn list(frame: &[u8], room: &mut [u8]) -> usize
     ensures { λ r. ⌜ Listed (now (frame .entry)) (now (room .entry)) r (now (room .exit)) ⌝ }
@@ -111,10 +108,9 @@ pub fn list(frame: &[u8], room: &mut [u8]) -> usize
     let mut vendor = [0u8; layout::VENDOR_OCTETS];
     let found = reader::read(frame, &mut cs, &mut vendor);
     if found.answer != answer::DONE {
-        return put_number_line(room, 0, b"refused ", found.answer);
+        return forms::put_form(room, 0, b"refused #\n", &[found.answer]);
     }
-    let bits = words::field(frame, layout::CHECK_AT, layout::CHECK_BITS);
-    let check = words::turned(layout::CHECK_BITS, bits);
+    let check = check_of(frame);
     if found.kind == layout::TRAINING {
         put_training(room, &cs, found.a, found.b, &vendor, check)
     } else {

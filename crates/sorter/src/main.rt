@@ -1,5 +1,5 @@
-// The sorter: `sorter [--like FILE] FILE...`. A line for each card's frame, then the totals. The texts are those of crates sorting and
-// tally; here files are only read and texts written.
+// The sorter: `sorter [--like FILE] FILE...`. A line for each card's frame, then the totals. What a frame is found to be is crate verdict's, the
+// texts are those of sorting and tally; here files are only read and texts written.
 use libc::STDERR_FILENO;
 use libc::STDOUT_FILENO;
 ghost use Prim.Native.Nat.{_+_, _≤_, _<_};
@@ -43,22 +43,22 @@ fn fill(fd: i32, octets: &mut [u8]) -> usize
 }
 
 // What the card whose frame stands in the file of this name is found to be.
-fn look(name: &[u8], customer: sorting::Customer) -> sorting::Verdict {
+fn look(name: &[u8], customer: verdict::Customer) -> verdict::Verdict {
     let fd = os::open_read(name);
     if fd < 0 {
-        return sorting::unread(customer);
+        return verdict::unread(customer);
     }
     let mut octets = [0u8; READ];
     let n = fill(fd, &mut octets);
     libc::close(fd);
     if READ < n {
-        return sorting::unread(customer);
+        return verdict::unread(customer);
     }
-    sorting::judge(&octets[..n], customer)
+    verdict::judge(&octets[..n], customer)
 }
 
 // Writes a card's line: a name of at most 4,096 octets leaves room for the rest.
-fn tell(fd: i32, name: &[u8], v: sorting::Verdict) {
+fn tell(fd: i32, name: &[u8], v: verdict::Verdict) {
     let mut room = [0u8; 8192];
     let n = sorting::line(name, v, &mut room);
     if fd == STDOUT_FILENO {
@@ -91,11 +91,11 @@ fn clear(shown: bool) {
 }
 
 // Looks at the card whose file argument i names, and writes its line. A name that is too long for a path is cut, and its file unread.
-fn card(i: usize, shown: bool, customer: sorting::Customer) -> sorting::Verdict {
+fn card(i: usize, shown: bool, customer: verdict::Customer) -> verdict::Verdict {
     let mut path = io::buffer();
     let n = os::arg(i, &mut path);
     if os::errno() != 0 {
-        let cut = sorting::unread(customer);
+        let cut = verdict::unread(customer);
         clear(shown);
         tell(STDOUT_FILENO, &path, cut);
         return cut;
@@ -134,8 +134,8 @@ fn turn(
     k: usize,
     cards: usize,
     shown: bool,
-    customer: sorting::Customer,
-) -> sorting::Verdict
+    customer: verdict::Customer,
+) -> verdict::Verdict
     requires { ⌜ (first ≤ 3) × (k < 65536) ⌝ }
 {
     if shown {
@@ -145,7 +145,7 @@ fn turn(
 }
 
 // Sorts the cards whose files the arguments from `first` on name.
-fn sort(first: usize, cards: usize, customer: sorting::Customer)
+fn sort(first: usize, cards: usize, customer: verdict::Customer)
     requires { ⌜ (first ≤ 3) × (cards ≤ 65536) ⌝ }
 {
     let mut answers = [0u32; MOST];
@@ -173,7 +173,7 @@ fn sort(first: usize, cards: usize, customer: sorting::Customer)
 }
 
 // Sorts them, or says that there are none or too many.
-fn run(first: usize, count: usize, customer: sorting::Customer)
+fn run(first: usize, count: usize, customer: verdict::Customer)
     requires { ⌜ first ≤ 3 ⌝ }
 {
     if count <= first {
@@ -214,8 +214,8 @@ fn is_option(i: usize) -> bool {
 fn run_like(count: usize) {
     let mut path = io::buffer();
     let n = os::arg(2, &mut path);
-    let v = look(&path[..n], sorting::nobody());
-    let customer = sorting::reference(v);
+    let v = look(&path[..n], verdict::nobody());
+    let customer = verdict::reference(v);
     if !customer.given {
         io::write_all(
             STDERR_FILENO,
@@ -242,5 +242,5 @@ fn main() {
         usage();
         return;
     }
-    run(1, count, sorting::nobody());
+    run(1, count, verdict::nobody());
 }

@@ -16,9 +16,9 @@ use Rattle.layout.specs.Frame.{trainingSync, fieldOf, coefficientsOf}
 use Rattle.layout.specs.Refusals.{hasSync, checkRefusals}
 use Rattle.ascii.proofs.Numbers.{decimal-length, hexes-length}
 use Rattle.listing.proofs.Laws.{highest-within}
-use Rattle.sorting.specs.declared.Customer.{Customer}
-use Rattle.sorting.specs.declared.Verdict.{Verdict}
-use Rattle.sorting.specs.Verdict.{refusedVerdict, trainingVerdict, finalVerdict, judged, verdictOf}
+use Rattle.verdict.specs.declared.Customer.{Customer}
+use Rattle.verdict.specs.declared.Verdict.{Verdict}
+use Rattle.verdict.specs.Verdict.{refusedVerdict, trainingVerdict, finalVerdict, judged, verdictOf}
 use Rattle.sorting.specs.Line.{shown, reason, likeCell, trainingCells, finalCells, badCells, cells, cardLine, heading}
 
 -- either text

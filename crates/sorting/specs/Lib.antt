@@ -1,3 +1,2 @@
-pub mod Verdict
 pub mod Line
 pub mod Promises

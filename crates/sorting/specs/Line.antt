@@ -5,7 +5,7 @@ use mathlib.Core.List.{List, [], _∷_, _++_}
 use Prim.Native.Nat.{ℕ, zero, suc}
 use lib.Dec.{eqb, ltb}
 use Rattle.ascii.specs.Text.{text, decimal, hexes}
-use Rattle.sorting.specs.declared.Verdict.{Verdict}
+use Rattle.verdict.specs.declared.Verdict.{Verdict}
 
 -- an octet of a file's name as it is printed: a control octet, below 32 or 127, is a question mark
 abbrev pub shownOctet : ℕ → ℕ

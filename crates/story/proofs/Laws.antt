@@ -1,9 +1,7 @@
 -- Laws of events. Assumes nothing.
 use mathlib.Core.Path.{_≡_, sym, ap, _∙_}
 use mathlib.Core.Bool.{Bool, true, false}
-use mathlib.Core.Logic.{_⊎_, inl, inr}
-use mathlib.Core.List.{[]}
-use Prim.Native.Nat.{ℕ, _+_, _-_, _≤_, _<_}
+use Prim.Native.Nat.{ℕ, _+_, _≤_, _<_}
 use native.Mathlib.Omega.{arith}
 use borrow.Author.Tests.{eq-eqb, ne-eqb, le-leb, lt-leb}
 use lib.Dec.{eqb, ltb}
@@ -18,7 +16,6 @@ use Rattle.startup.specs.Run.{eventOf as attemptEvent}
 use Rattle.story.specs.declared.Story.{Story}
 use Rattle.story.specs.declared.Event.{Event}
 use Rattle.story.specs.Events.{story, refusedWith, kindWith, kindOf, sinceOpening, numberOf, told, eventWith, startWith}
-use Rattle.story.specs.Texts.{numbered, lasts, leftText}
 
 -- ---- what there is to tell
 
@@ -96,17 +93,3 @@ start-refused g r h e =
 pub start-told : (g : Answer) → g .answer ≡ 0
     → _≡_ {A = Event} (record { answer = 0; kind = 4; code = 0; attempt = 0; ticks = 0; story = story (g .state) 0 0 }) (startWith g)
 start-told g z = simp z
-
--- ---- what is left of a phase outside an attempt
-
-pub left-some : (s : Supervisor) (l n : ℕ) → (s .phase ≡ 1) ⊎ ((s .phase ≡ 11) ⊎ (s .phase ≡ 13)) → l ≡ lasts (s .silence) (s .phase) → n ≡ l - s .ticks
-    → numbered ", " n " left" ≡ leftText s
-left-some s l n h q e = ap (λ (k : ℕ). numbered ", " k " left") (e ∙ ap (λ (k : ℕ). k - s .ticks) q) ∙ go h
-  where
-    go : (s .phase ≡ 1) ⊎ ((s .phase ≡ 11) ⊎ (s .phase ≡ 13)) → numbered ", " (lasts (s .silence) (s .phase) - s .ticks) " left" ≡ leftText s
-    go (inl a) = rw a
-    go (inr (inl a)) = rw a
-    go (inr (inr a)) = rw a
-
-pub left-none : (s : Supervisor) → (s .phase ≡ 1 → ⊥) → (s .phase ≡ 11 → ⊥) → (s .phase ≡ 13 → ⊥) → [] ≡ leftText s
-left-none s a b c = simp (ne-eqb (s .phase) 1 a, ne-eqb (s .phase) 11 b, ne-eqb (s .phase) 13 c)

@@ -1,5 +1,5 @@
 -- One result per call (the name One is taken: rattle makes a module of that name for the function `one`). The promises of a story are
--- equations; those of its text are ascii's `Put`, which allows one result (ascii: put-one). Assumes nothing.
+-- equations. Assumes nothing.
 use mathlib.Core.Path.{_≡_, sym, _∙_}
 use Prim.Native.Nat.{ℕ}
 use Rattle.story.specs.declared.Story.{Story}

@@ -1,4 +1,2 @@
 pub mod Events
-pub mod Texts
-pub mod Names
 pub mod Whole

@@ -1,4 +1,4 @@
-// The story of a start-up log: what each code did, as an event (specs/Events.antt), and the text of it (src/text.rt).
+// The story of a start-up log: what each code did, as an event (specs/Events.antt). The text of it is crate telling's.
 ghost use mathlib.Core.Path.{_≡_};
 ghost use Prim.Native.Nat.{_≤_, _<_};
 ghost use Rattle.startup.specs.Attempts.{one};
@@ -8,11 +8,6 @@ use phases::code;
 use startup::Run;
 
 pub mod kind;
-mod text;
-
-pub use text::put_end;
-pub use text::put_event;
-pub use text::put_refused;
 
 // How far a log has been told.
 pub struct Story {

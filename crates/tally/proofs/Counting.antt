@@ -1,8 +1,8 @@
 -- Laws of the totals. Assumes nothing.
 use mathlib.Core.Path.{_≡_, refl, sym, ap, _∙_}
 use mathlib.Core.Bool.{Bool, true, false, cond}
-use mathlib.Core.List.{List, [], _∷_, _++_}
-use Prim.Native.Nat.{ℕ, zero, suc, _+_, _≤_, _<_, min}
+use mathlib.Core.List.{List, [], _∷_, _++_, append-assoc}
+use Prim.Native.Nat.{ℕ, zero, suc, _+_, _-_, _≤_, _<_, min}
 use native.Mathlib.Numerals.{add-one}
 use native.Mathlib.Omega.{arith}
 use borrow.Author.Tests.{eq-eqb, ne-eqb}
@@ -10,8 +10,9 @@ use lib.Dec.{eqb}
 use lib.ListN.{length, getD, take}
 use Rattle.ascii.specs.Text.{text, decimal}
 use Rattle.ascii.proofs.Numbers.{word-next}
+use Rattle.forms.specs.Forms.{firstOf, formedBy, formed}
 use Rattle.sorting.specs.Line.{reason}
-use Rattle.tally.specs.Totals.{howMany, bothSame, countText, reasonLine, reasonLines, allAre, allGood, likeLines, lastLine, cardsLine, totalsText}
+use Rattle.tally.specs.Totals.{howMany, bothSame, countText, counted, likeLine, bothLine, reasonLine, reasonLines, allAre, allGood, likeLines, lastLine, cardsLine, totalsText}
 
 -- ---- how many are x
 
@@ -97,15 +98,24 @@ both-second-ends (x ∷ xs) [] (suc k) h = refl
 both-second-ends (x ∷ xs) (y ∷ ys) zero h = absurd (omega arith)
 both-second-ends (x ∷ xs) (y ∷ ys) (suc k) h = ap (λ (n : ℕ). both x y + n) (both-second-ends xs ys k (omega arith))
 
--- ---- a count in decimal
+-- ---- lines by their forms
 
-pub count-small : (n : ℕ) → n < 4294967295 → decimal n ≡ countText n
-unfolding countText
-count-small n h = let e : n ≡ min n 4294967295 = omega arith in ap decimal e
+abbrev w : ℕ → ℕ
+w n = min n 4294967295
 
-pub count-large : (n : ℕ) → 4294967295 ≤ n → decimal 4294967295 ≡ countText n
-unfolding countText
-count-large n h = let e : 4294967295 ≡ min n 4294967295 = omega arith in ap decimal e
+pub cards-form : (answers : List ℕ) (n g b : ℕ) → n ≡ w (length answers) → g ≡ howMany 0 answers → b ≡ w (length answers - g)
+    → (m : ℕ) → m ≡ w g → formed (text "# cards: # good, # bad\n") (n ∷ m ∷ b ∷ []) ≡ cardsLine answers
+unfolding formed formedBy firstOf cardsLine countText
+cards-form answers n g b en eg eb m em = rw (en, em, eb, eg) (simp append-assoc)
+
+-- seven numbers of two lists, as the code has them
+pub likes-form : (xs ys : List ℕ) (a b c d e f m n : ℕ)
+    → a ≡ w (howMany 1 xs) → b ≡ w (howMany 2 xs) → c ≡ w (howMany 3 xs) → d ≡ w (howMany 1 ys) → e ≡ w (howMany 2 ys) → f ≡ w (howMany 3 ys)
+    → n ≡ w m → m ≡ bothSame xs ys
+    → formed (text "A: # same, # TURNED, # other\nB: # same, # TURNED, # other\nA and B: # same\n") (a ∷ b ∷ c ∷ d ∷ e ∷ f ∷ n ∷ [])
+    ≡ likeLine (text "A: ") xs ++ likeLine (text "B: ") ys ++ bothLine xs ys
+unfolding formed formedBy firstOf likeLine bothLine counted countText
+likes-form xs ys a b c d e f m n qa qb qc qd qe qf qn qm = rw (qa, qb, qc, qd, qe, qf, qn, qm) (simp append-assoc)
 
 -- ---- lines for reasons
 
@@ -113,10 +123,11 @@ pub reason-none : (n : ℕ) (answers : List ℕ) (m : ℕ) → m ≡ howMany n a
 unfolding reasonLine
 reason-none n answers m e z = simp (eq-eqb (howMany n answers) 0 (sym e ∙ z))
 
-pub some-reason : (n : ℕ) (answers : List ℕ) (m : ℕ) → m ≡ howMany n answers → (m ≡ 0 → ⊥) → countText m ++ text " " ++ reason n ++ text "\n" ≡ reasonLine n answers
-unfolding reasonLine
-some-reason n answers m e h =
-    ap (λ (x : ℕ). countText x ++ text " " ++ reason n ++ text "\n") e ∙ simp (ne-eqb (howMany n answers) 0 (λ z. h (e ∙ z)))
+pub some-reason : (n : ℕ) (answers : List ℕ) (m d : ℕ) → m ≡ howMany n answers → (m ≡ 0 → ⊥) → d ≡ w m
+    → formed (text "# ") (d ∷ []) ++ reason n ++ text "\n" ≡ reasonLine n answers
+unfolding formed formedBy firstOf reasonLine countText
+some-reason n answers m d e h q =
+    ap (λ (x : ℕ). decimal x ++ text " " ++ reason n ++ text "\n") (q ∙ ap w e) ∙ simp (ne-eqb (howMany n answers) 0 (λ z. h (e ∙ z)))
 
 pub reasons-none : (answers : List ℕ) → [] ≡ reasonLines 0 answers
 unfolding reasonLines

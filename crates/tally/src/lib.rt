@@ -1,9 +1,10 @@
 // The totals of a sorting: their text, of three lists with an entry for each card. What it is, is specs/Totals.antt.
 ghost use mathlib.Core.Path.{_≡_};
 ghost use mathlib.Core.Bool.{cond};
+ghost use Prim.Native.Nat.{min};
 ghost use lib.Dec.{eqb};
 ghost use Rattle.ascii.specs.Promises.{Put};
-ghost use Rattle.tally.specs.Totals.{howMany, bothSame, countText, reasonLine, reasonLines, counted, likeLine, bothLine, likeLines};
+ghost use Rattle.tally.specs.Totals.{howMany, bothSame, reasonLine, reasonLines, likeLines};
 ghost use Rattle.tally.specs.Totals.{allAre, allGood, lastLine, cardsLine};
 ghost use Rattle.tally.specs.Promises.{Totalled};
 
@@ -31,10 +32,10 @@ fn how_many(xs: &[u32], x: u32) -> usize
 fn one_if_both(a: u32, b: u32) -> usize
     ensures { λ r. ⌜ r ≡ cond (eqb a 1) (cond (eqb b 1) 1 0) 0 ⌝ }
 {
-    if a != sorting::SAME {
+    if a != verdict::SAME {
         return 0;
     }
-    one_if(b, sorting::SAME)
+    one_if(b, verdict::SAME)
 }
 
 // How many cards have both words the same.
@@ -53,14 +54,18 @@ fn both_same(alikes: &[u32], blikes: &[u32]) -> usize
     n
 }
 
-// A count in decimal.
-fn put_count(room: &mut [u8], at: usize, n: usize) -> usize
-    ensures { λ r. ⌜ Put (now (room .entry)) at (countText n) r (now (room .exit)) ⌝ }
+// A count as it is written.
+fn written(n: usize) -> u32
+    ensures { λ r. ⌜ r ≡ min n 4294967295 ⌝ }
 {
-    if n < 4294967295 {
-        return ascii::put_decimal(room, at, n as u32);
-    }
-    ascii::put_decimal(room, at, 4294967295)
+    if n < 4294967295 { n as u32 } else { 4294967295 }
+}
+
+// How many entries of a list are x, as it is written.
+fn counted(xs: &[u32], x: u32) -> u32
+    ensures { λ r. ⌜ r ≡ min (howMany x (now (xs .entry))) 4294967295 ⌝ }
+{
+    written(how_many(xs, x))
 }
 
 // A line for a reason, where a card has it.
@@ -71,10 +76,9 @@ fn put_reason_line(room: &mut [u8], at: usize, answers: &[u32], n: u32) -> usize
     if m == 0 {
         return at;
     }
-    let mut next = put_count(room, at, m);
-    next = ascii::put_word(room, next, b" ");
+    let mut next = forms::put_form(room, at, b"# ", &[written(m)]);
     next = sorting::put_reason(room, next, n);
-    ascii::put_word(room, next, b"\n")
+    ascii::put(room, next, b'\n')
 }
 
 // A line for each reason that a card has.
@@ -83,38 +87,11 @@ fn put_reason_lines(room: &mut [u8], at: usize, answers: &[u32]) -> usize
 {
     let mut next = at;
     let mut n: u32 = 0;
-    while n < sorting::UNREAD {
+    while n < verdict::UNREAD {
         n += 1;
         next = put_reason_line(room, next, answers, n);
     }
     next
-}
-
-// How many entries are x, and a word behind.
-fn put_counted(room: &mut [u8], at: usize, likes: &[u32], x: u32, word: &[u8]) -> usize
-    ensures { λ r. ⌜ Put (now (room .entry)) at (counted x (now (likes .entry)) (now (word .entry))) r (now (room .exit)) ⌝ }
-{
-    let next = put_count(room, at, how_many(likes, x));
-    ascii::put_word(room, next, word)
-}
-
-// How a word compares.
-fn put_like_line(room: &mut [u8], at: usize, name: &[u8], likes: &[u32]) -> usize
-    ensures { λ r. ⌜ Put (now (room .entry)) at (likeLine (now (name .entry)) (now (likes .entry))) r (now (room .exit)) ⌝ }
-{
-    let mut next = ascii::put_word(room, at, name);
-    next = put_counted(room, next, likes, sorting::SAME, b" same, ");
-    next = put_counted(room, next, likes, sorting::TURNED, b" TURNED, ");
-    put_counted(room, next, likes, sorting::OTHER, b" other\n")
-}
-
-// Cards that have both words the same.
-fn put_both_line(room: &mut [u8], at: usize, alikes: &[u32], blikes: &[u32]) -> usize
-    ensures { λ r. ⌜ Put (now (room .entry)) at (bothLine (now (alikes .entry)) (now (blikes .entry))) r (now (room .exit)) ⌝ }
-{
-    let mut next = ascii::put_word(room, at, b"A and B: ");
-    next = put_count(room, next, both_same(alikes, blikes));
-    ascii::put_word(room, next, b" same\n")
 }
 
 // How the words compare, with a customer.
@@ -124,9 +101,22 @@ fn put_like_lines(room: &mut [u8], at: usize, given: bool, alikes: &[u32], blike
     if !given {
         return at;
     }
-    let mut next = put_like_line(room, at, b"A: ", alikes);
-    next = put_like_line(room, next, b"B: ", blikes);
-    put_both_line(room, next, alikes, blikes)
+    forms::put_form(
+        room,
+        at,
+        b"A: # same, # TURNED, # other\n\
+          B: # same, # TURNED, # other\n\
+          A and B: # same\n",
+        &[
+            counted(alikes, verdict::SAME),
+            counted(alikes, verdict::TURNED),
+            counted(alikes, verdict::OTHER),
+            counted(blikes, verdict::SAME),
+            counted(blikes, verdict::TURNED),
+            counted(blikes, verdict::OTHER),
+            written(both_same(alikes, blikes)),
+        ],
+    )
 }
 
 // So many cards, so many good and bad.
@@ -134,12 +124,14 @@ fn put_cards(room: &mut [u8], answers: &[u32]) -> usize
     ensures { λ r. ⌜ Put (now (room .entry)) 0 (cardsLine (now (answers .entry))) r (now (room .exit)) ⌝ }
 {
     let good = how_many(answers, answer::DONE);
-    let mut next = put_count(room, 0, answers.len());
-    next = ascii::put_word(room, next, b" cards: ");
-    next = put_count(room, next, good);
-    next = ascii::put_word(room, next, b" good, ");
-    next = put_count(room, next, answers.len() - good);
-    ascii::put_word(room, next, b" bad\n")
+    let cards = written(answers.len());
+    let bad = written(answers.len() - good);
+    forms::put_form(
+        room,
+        0,
+        b"# cards: # good, # bad\n",
+        &[cards, written(good), bad],
+    )
 }
 
 // Whether every entry is x.

@@ -1,0 +1,136 @@
+-- Laws of the verdict. Assumes nothing.
+use mathlib.Core.Path.{_≡_, refl, sym, ap, ap₂, _∙_}
+use mathlib.Core.Bool.{Bool, true, false, cond}
+use mathlib.Core.List.{List}
+use Prim.Native.Nat.{ℕ, zero, suc}
+use native.Mathlib.Omega.{arith}
+use borrow.Author.Tests.{eq-eqb, ne-eqb}
+use lib.IntN.{ℤ}
+use lib.ListN.{length}
+use Rattle.answer.specs.Answer.{answer}
+use Rattle.octets.specs.Bits.{valueOf, bitsOf}
+use Rattle.layout.specs.Places.{wordA, wordB}
+use Rattle.layout.specs.Frame.{trainingSync, fieldOf, coefficientsOf}
+use Rattle.layout.specs.Refusals.{hasSync, checkRefusals}
+use Rattle.reader.specs.declared.Found.{Found}
+use Rattle.reader.specs.Promises.{foundOf, Read}
+use Rattle.listing.specs.Listing.{highest}
+use Rattle.listing.proofs.Laws.{found, found-is, none-applies, coefficients-are, vendor-is}
+use Rattle.verdict.specs.declared.Customer.{Customer}
+use Rattle.verdict.specs.declared.Verdict.{Verdict}
+use Rattle.verdict.specs.Verdict.{lastFirst, likeOf, absent, refusedVerdict, trainingVerdict, finalVerdict, judged, verdictOf, nobody, customerBy, customerOf}
+
+-- ---- a word beside the customer's
+
+pub like-none : (given : Bool) (x y : ℕ) → given ≡ false → 0 ≡ likeOf given x y
+like-none given x y g = simp g
+
+pub like-same : (given : Bool) (x y : ℕ) → given ≡ true → x ≡ y → 1 ≡ likeOf given x y
+like-same given x y g e = simp (g, eq-eqb x y e)
+
+pub like-turned : (given : Bool) (x y : ℕ) → given ≡ true → (x ≡ y → ⊥) → x ≡ lastFirst y → 2 ≡ likeOf given x y
+like-turned given x y g n e = simp (g, ne-eqb x y n, eq-eqb x (lastFirst y) e)
+
+pub like-other : (given : Bool) (x y : ℕ) → given ≡ true → (x ≡ y → ⊥) → (x ≡ lastFirst y → ⊥) → 3 ≡ likeOf given x y
+like-other given x y g n m = simp (g, ne-eqb x y n, ne-eqb x (lastFirst y) m)
+
+-- ---- the verdict, of what reading gives
+
+module _ (f : List ℕ) (cs : List ℤ) (v : List ℕ) (lc : length cs ≡ 180) (lv : length v ≡ 16) (r : Found) (cs′ : List ℤ) (v′ : List ℕ) (d : Read f cs v r cs′ v′) (k : Customer) where
+  abbrev B : List ℕ
+  B = bitsOf f
+
+  -- a training frame's numbers and a final one's
+  abbrev T : Found
+  T = record { answer = 0; kind = 0; a = valueOf (fieldOf wordA B); b = valueOf (fieldOf wordB B) }
+
+  abbrev F : Found
+  F = record { answer = 0; kind = 1; a = 0; b = 0 }
+
+  pub refused-is : (r .answer ≡ 0 → ⊥) → refusedVerdict (r .answer) k ≡ verdictOf f k
+  unfolding verdictOf judged
+  refused-is h = go (answer (checkRefusals f)) (found f cs v lc lv r cs′ v′ d)
+    where
+      done : (t : Bool) → cond {A = Found} t T F .answer ≡ 0
+      done true = refl
+      done false = refl
+
+      go : (n : ℕ) → r ≡ foundOf n B → refusedVerdict (r .answer) k ≡ judged n B k
+      go zero e = absurd (h (ap (λ (x : Found). x .answer) e ∙ done (hasSync trainingSync B)))
+      go (suc n) e = ap (λ (x : Found). refusedVerdict (x .answer) k) e
+
+  module _ (z : r .answer ≡ 0) where
+    judged-is : judged 0 B k ≡ verdictOf f k
+    unfolding verdictOf
+    judged-is = ap (λ (n : ℕ). judged n B k) (sym (none-applies f cs v lc lv r cs′ v′ d z))
+
+    -- the verdict on a training frame with these coefficients, numbers and vendor data
+    abbrev made : List ℤ → Found → List ℕ → Verdict
+    made cs x v =
+        record {
+          answer = 0;
+          kind = 0;
+          used = highest cs;
+          a = x .a;
+          b = x .b;
+          alike = likeOf (k .given) (x .a) (k .a);
+          blike = likeOf (k .given) (x .b) (k .b);
+          vendor = v;
+        }
+
+    training-is : r .kind ≡ 0 → made cs′ r v′ ≡ verdictOf f k
+    unfolding judged
+    training-is e =
+        go (hasSync trainingSync B) (found-is f cs v lc lv r cs′ v′ d z) (coefficients-are f cs v lc lv r cs′ v′ d z) ∙ judged-is
+      where
+        go : (t : Bool) → r ≡ cond t T F → cs′ ≡ cond t (coefficientsOf B) cs → made cs′ r v′ ≡ cond t (trainingVerdict B k) (finalVerdict B k)
+        go true p q =
+            ap (λ (x : List ℤ). made x r v′) q ∙ ap (λ (x : Found). made (coefficientsOf B) x v′) p
+            ∙ ap (made (coefficientsOf B) T) (vendor-is f cs v lc lv r cs′ v′ d z)
+        go false p q =
+            let kind-is : _≡_ {A = ℕ} 0 1 = sym e ∙ ap (λ (x : Found). x .kind) p in
+            absurd (omega arith)
+
+    -- as the code makes it
+    pub training-made : (u l m : ℕ) → u ≡ highest cs′ → l ≡ likeOf (k .given) (r .a) (k .a) → m ≡ likeOf (k .given) (r .b) (k .b) → r .kind ≡ 0
+        → record { answer = 0; kind = 0; used = u; a = r .a; b = r .b; alike = l; blike = m; vendor = v′ } ≡ verdictOf f k
+    training-made u l m qu ql qm e = rw (qu, ql, qm) (training-is e)
+
+    -- the verdict on a final frame with this vendor data
+    abbrev with-vendor : List ℕ → Verdict
+    with-vendor x = record { answer = 0; kind = 1; used = 0; a = 0; b = 0; alike = absent (k .given); blike = absent (k .given); vendor = x }
+
+    final-is : (r .kind ≡ 0 → ⊥) → with-vendor v′ ≡ verdictOf f k
+    unfolding judged
+    final-is n = go (hasSync trainingSync B) (found-is f cs v lc lv r cs′ v′ d z) ∙ judged-is
+      where
+        go : (t : Bool) → r ≡ cond t T F → with-vendor v′ ≡ cond t (trainingVerdict B k) (finalVerdict B k)
+        go true p = absurd (n (ap (λ (x : Found). x .kind) p))
+        go false p = ap with-vendor (vendor-is f cs v lc lv r cs′ v′ d z)
+
+    pub final-made : (l m : ℕ) → l ≡ absent (k .given) → m ≡ absent (k .given) → (r .kind ≡ 0 → ⊥)
+        → record { answer = 0; kind = 1; used = 0; a = 0; b = 0; alike = l; blike = m; vendor = v′ } ≡ verdictOf f k
+    final-made l m ql qm n = rw (ql, qm) (final-is n)
+
+-- ---- the customer
+
+module _ (v : Verdict) where
+  pub customer-refused : (v .answer ≡ 0 → ⊥) → nobody ≡ customerOf v
+  unfolding customerBy
+  customer-refused h = go (v .answer) h
+    where
+      go : (n : ℕ) → (n ≡ 0 → ⊥) → nobody ≡ customerBy n (v .kind) v
+      go zero h = absurd (h refl)
+      go (suc n) h = refl
+
+  pub customer-final : v .answer ≡ 0 → (v .kind ≡ 0 → ⊥) → nobody ≡ customerOf v
+  unfolding customerBy
+  customer-final z h = go (v .kind) h ∙ ap (λ (n : ℕ). customerBy n (v .kind) v) (sym z)
+    where
+      go : (n : ℕ) → (n ≡ 0 → ⊥) → nobody ≡ customerBy 0 n v
+      go zero h = absurd (h refl)
+      go (suc n) h = refl
+
+  pub customer-given : v .answer ≡ 0 → v .kind ≡ 0 → record { given = true; a = v .a; b = v .b } ≡ customerOf v
+  unfolding customerBy
+  customer-given z h = ap₂ (λ (n m : ℕ). customerBy n m v) (sym z) (sym h)

@@ -1,0 +1,23 @@
+-- What the verdict's functions promise.
+use mathlib.Core.Path.{_≡_}
+use mathlib.Core.List.{List}
+use Prim.Native.Nat.{ℕ}
+use Rattle.verdict.specs.declared.Customer.{Customer}
+use Rattle.verdict.specs.declared.Verdict.{Verdict}
+use Rattle.verdict.specs.Verdict.{verdictOf, refusedVerdict, nobody, customerOf}
+
+-- judge
+abbrev pub Judged : List ℕ → Customer → Verdict → Type 0
+Judged frame k r = r ≡ verdictOf frame k
+
+-- unread: 9, which is none of document 01's numbers
+abbrev pub Unread : Customer → Verdict → Type 0
+Unread k r = r ≡ refusedVerdict 9 k
+
+-- nobody
+abbrev pub IsNobody : Customer → Type 0
+IsNobody r = r ≡ nobody
+
+-- reference
+abbrev pub IsCustomer : Verdict → Customer → Type 0
+IsCustomer v r = r ≡ customerOf v
