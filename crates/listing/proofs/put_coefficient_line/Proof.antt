@@ -30,7 +30,7 @@ same-length c = search needs
 
 returns : tie.Need-returns
 unfolding coefficientLine
-returns c = 
+returns c =
     let a = c .before .before .before .before .before .before .before .before .before .before .before .before .before .before .before .args in
     let w = formed (text "c # ") (a .k ∷ []) in
     put-as (put-more (w ++ signed (a .c)) (text "\n") (put-more w (signed (a .c)) (c .before .before .before .before .before .before .before .before .before .before .put-form .ensures) (rw (toZ-ofZ (c .before .before .before .before .before .before .before .before .before .before .before .before .before .before .before .fits .c)) at (c .before .before .before .before .before .before .put-signed .ensures))) (c .before .before .put .ensures))
