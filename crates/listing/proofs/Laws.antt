@@ -162,17 +162,17 @@ module _ (f : List ℕ) (cs : List ℤ) (v : List ℕ) (lc : length cs ≡ 180) 
   found = d .found ∙ ap (λ (n : ℕ). foundOf n B) same
 
   -- a refusal
-  pub refused-text : (r .answer ≡ 0 → ⊥) → formed (text "refused #\n") (r .answer ∷ []) ≡ listing f
-  unfolding listing listed numberLine formed formedBy firstOf
+  pub refused-text : (r .answer ≡ 0 → ⊥) → numberLine "refused " (r .answer) ≡ listing f
+  unfolding listing listed
   refused-text h = go (answer (checkRefusals f)) found
     where
       done : (t : Bool) → cond {A = Found} t T F .answer ≡ 0
       done true = refl
       done false = refl
 
-      go : (n : ℕ) → r ≡ foundOf n B → text "refused " ++ decimal (r .answer) ++ (10 ∷ []) ≡ listed n B
+      go : (n : ℕ) → r ≡ foundOf n B → numberLine "refused " (r .answer) ≡ listed n B
       go zero e = absurd (h (ap (λ (x : Found). x .answer) e ∙ done (hasSync trainingSync B)))
-      go (suc n) e = ap (λ (x : Found). text "refused " ++ decimal (x .answer) ++ (10 ∷ [])) e
+      go (suc n) e = ap (λ (x : Found). numberLine "refused " (x .answer)) e
 
   module _ (z : r .answer ≡ 0) where
     -- no refusal

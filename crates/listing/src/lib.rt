@@ -1,13 +1,15 @@
 // The bench listing (document 01): a frame's text, put into a lent room. What the text is, is specs/Listing.antt.
 ghost use mathlib.Core.Path.{_≡_};
+ghost use mathlib.Core.List.{_∷_, [], _++_};
 ghost use Prim.Native.Nat.{_<_, _≤_};
 ghost use lib.ListN.{length, take};
 ghost use Rattle.octets.specs.Bits.{bitsOf};
 ghost use Rattle.remainder.specs.Division.{polynomial};
 ghost use Rattle.layout.specs.Places.{check};
 ghost use Rattle.layout.specs.Frame.{fieldOf};
+ghost use Rattle.ascii.specs.Text.{hexes};
 ghost use Rattle.ascii.specs.Promises.{Put};
-ghost use Rattle.listing.specs.Listing.{coefficientLine, coefficientLines, vendorLine, checkLine, trainingText, finalText};
+ghost use Rattle.listing.specs.Listing.{numberLine, coefficientLine, coefficientLines, vendorLine, checkLine, trainingText, finalText};
 ghost use Rattle.listing.specs.Promises.{Highest, Listed};
 
 // The line of coefficient number k.
@@ -49,24 +51,27 @@ pub fn highest(cs: &[i32]) -> usize
     0
 }
 
-// The vendor line.
-fn put_vendor_line(room: &mut [u8], at: usize, vendor: &[u8]) -> usize
-    ensures { λ r. ⌜ Put (now (room .entry)) at (vendorLine (now (vendor .entry))) r (now (room .exit)) ⌝ }
+// A line that names octets.
+fn put_hex_line(room: &mut [u8], at: usize, name: &[u8], octets: &[u8]) -> usize
+    ensures { λ r. ⌜ Put (now (room .entry)) at (now (name .entry) ++ hexes (now (octets .entry)) ++ (10 ∷ [])) r (now (room .exit)) ⌝ }
 {
-    let named = ascii::put_word(room, at, b"vendor ");
-    let next = ascii::put_hexes(room, named, vendor);
+    let named = ascii::put_word(room, at, name);
+    let next = ascii::put_hexes(room, named, octets);
     ascii::put(room, next, b'\n')
 }
 
-// The check line.
-fn put_check_line(room: &mut [u8], at: usize, check: u32) -> usize
+// The vendor line and the check line.
+fn put_tail(room: &mut [u8], at: usize, vendor: &[u8], check: u32) -> usize
     requires { ⌜ check < 65536 ⌝ }
-    ensures { λ r. ⌜ Put (now (room .entry)) at (checkLine check) r (now (room .exit)) ⌝ }
+    ensures { λ r. ⌜ Put (now (room .entry)) at (vendorLine (now (vendor .entry)) ++ checkLine check) r (now (room .exit)) ⌝ }
 {
-    let named = ascii::put_word(room, at, b"check ");
-    let half = ascii::put_hex(room, named, (check / 256) as u8);
-    let next = ascii::put_hex(room, half, (check % 256) as u8);
-    ascii::put(room, next, b'\n')
+    let next = put_hex_line(room, at, b"vendor ", vendor);
+    put_hex_line(
+        room,
+        next,
+        b"check ",
+        &[(check / 256) as u8, (check % 256) as u8],
+    )
 }
 
 // A training frame's text.
@@ -78,8 +83,7 @@ fn put_training(room: &mut [u8], cs: &[i32], a: u32, b: u32, vendor: &[u8], chec
     let mut at = forms::put_form(room, 0, b"kind training\ncoefficients #\n", &[n]);
     at = put_coefficient_lines(room, at, cs, n);
     at = forms::put_form(room, at, b"A #\nB #\n", &[a, b]);
-    at = put_vendor_line(room, at, vendor);
-    put_check_line(room, at, check)
+    put_tail(room, at, vendor, check)
 }
 
 // A final frame's text.
@@ -87,9 +91,15 @@ fn put_final(room: &mut [u8], vendor: &[u8], check: u32) -> usize
     requires { ⌜ check < 65536 ⌝ }
     ensures { λ r. ⌜ Put (now (room .entry)) 0 (finalText (now (vendor .entry)) check) r (now (room .exit)) ⌝ }
 {
-    let mut at = ascii::put_word(room, 0, b"kind final\n");
-    at = put_vendor_line(room, at, vendor);
-    put_check_line(room, at, check)
+    let at = ascii::put_word(room, 0, b"kind final\n");
+    put_tail(room, at, vendor, check)
+}
+
+// What is refused.
+fn put_refused(room: &mut [u8], n: u32) -> usize
+    ensures { λ r. ⌜ Put (now (room .entry)) 0 (numberLine "refused " n) r (now (room .exit)) ⌝ }
+{
+    forms::put_form(room, 0, b"refused #\n", &[n])
 }
 
 // A frame's check bits as a number, c1 highest.
@@ -108,7 +118,7 @@ pub fn list(frame: &[u8], room: &mut [u8]) -> usize
     let mut vendor = [0u8; layout::VENDOR_OCTETS];
     let found = reader::read(frame, &mut cs, &mut vendor);
     if found.answer != answer::DONE {
-        return forms::put_form(room, 0, b"refused #\n", &[found.answer]);
+        return put_refused(room, found.answer);
     }
     let check = check_of(frame);
     if found.kind == layout::TRAINING {

@@ -6,8 +6,8 @@ use lib.ListN.{length, getD, drop}
 use Rattle.ascii.specs.Text.{decimal}
 use mathlib.Core.List.{[], _∷_}
 use Rattle.ascii.proofs.Room.{put-length}
-use Rattle.forms.specs.Forms.{formed, rowOf}
-use Rattle.forms.proofs.Laws.{Sofar, at-first, further, passed, at-last, form-octet, form-number, form-none, form-end, row-octet, row-passed, row-next, row-over, row-end}
+use Rattle.forms.specs.Forms.{formed}
+use Rattle.forms.proofs.Laws.{Sofar, at-first, further, passed, at-last, form-octet, form-number, form-none, form-end}
 use Rattle.forms.proofs.put_form.Statement.{statement}
 use Rattle.forms.proofs.put_form.Tie as tie
 

@@ -3,11 +3,10 @@ use borrow.Author.Needs.{needs}
 use Prim.Native.Nat.{_-_, _≤_}
 use native.Mathlib.Omega.{arith}
 use lib.ListN.{length, getD, drop}
-use Rattle.ascii.specs.Text.{decimal}
 use mathlib.Core.List.{[], _∷_}
 use Rattle.ascii.proofs.Room.{put-length}
-use Rattle.forms.specs.Forms.{formed, rowOf}
-use Rattle.forms.proofs.Laws.{Sofar, at-first, further, passed, at-last, form-octet, form-number, form-none, form-end, row-octet, row-passed, row-next, row-over, row-end}
+use Rattle.forms.specs.Forms.{rowOf}
+use Rattle.forms.proofs.Laws.{Sofar, at-first, further, passed, at-last, row-octet, row-passed, row-next, row-over, row-end}
 use Rattle.forms.proofs.put_row.Statement.{statement}
 use Rattle.forms.proofs.put_row.Tie as tie
 

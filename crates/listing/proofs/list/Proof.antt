@@ -16,20 +16,14 @@ slice-aggregate-read-2 c = search needs
 read-requires : tie.Need-read-requires
 read-requires c κs = search needs
 
-slice-aggregate-put-form : tie.Need-slice-aggregate-put-form
-slice-aggregate-put-form c = search needs
-
-slice-aggregate-put-form-2 : tie.Need-slice-aggregate-put-form-2
-slice-aggregate-put-form-2 c = search needs
-
-put-form-requires : tie.Need-put-form-requires
-put-form-requires c κs = search needs
+put-refused-requires : tie.Need-put-refused-requires
+put-refused-requires c κs = search needs
 
 same-length : tie.Need-same-length
 same-length c = search needs
 
 returns : tie.Need-returns
-returns c = told (listing (c .before .before .before .before .before .before .before .before .before .before .before .before .before .before .before .args .frame .now)) (c .before .before .before .before .before .before .before .before .before .before .before .before .before .before .before .args .room .now) _ _ (put-as (c .before .before .put-form .ensures) (refused-text (c .before .before .before .before .before .before .before .before .before .before .before .before .before .before .before .args .frame .now) _ _ refl refl (c .before .before .before .before .before .before .before .before .before .before .read .result) (c .before .before .before .before .before .before .before .before .before .before .read .last .1 .0) (c .before .before .before .before .before .before .before .before .before .before .read .last .1 .1 .0) (c .before .before .before .before .before .before .before .before .before .before .read .ensures) (c .before .before .before .before .before .before .if1 .taken)))
+returns c = told (listing (c .before .before .before .before .before .before .before .before .before .before .before .before .before .args .frame .now)) (c .before .before .before .before .before .before .before .before .before .before .before .before .before .args .room .now) _ _ (put-as (c .before .before .put-refused .ensures) (refused-text (c .before .before .before .before .before .before .before .before .before .before .before .before .before .args .frame .now) _ _ refl refl (c .before .before .before .before .before .before .before .before .read .result) (c .before .before .before .before .before .before .before .before .read .last .1 .0) (c .before .before .before .before .before .before .before .before .read .last .1 .1 .0) (c .before .before .before .before .before .before .before .before .read .ensures) (c .before .before .before .before .if1 .taken)))
 
 check-of-requires : tie.Need-check-of-requires
 check-of-requires c κs = search needs
@@ -68,9 +62,7 @@ list-spec =
     slice-aggregate-read
     slice-aggregate-read-2
     read-requires
-    slice-aggregate-put-form
-    slice-aggregate-put-form-2
-    put-form-requires
+    put-refused-requires
     same-length
     returns
     check-of-requires

@@ -1,9 +1,10 @@
 -- `listing::put_final` meets its contract.
-use borrow.Author.Needs.{needs}
-use mathlib.Core.List.{_++_}
+use mathlib.Core.Path.{sym}
+use mathlib.Core.List.{_++_, append-assoc}
 use Rattle.ascii.specs.Text.{text}
+use Rattle.ascii.proofs.Room.{put-more, put-as}
 use Rattle.listing.specs.Listing.{vendorLine, checkLine, finalText}
-use Rattle.ascii.proofs.Room.{put-more}
+use borrow.Author.Needs.{needs}
 use Rattle.listing.proofs.put_final.Statement.{statement}
 use Rattle.listing.proofs.put_final.Tie as tie
 
@@ -13,11 +14,8 @@ slice-aggregate-put-word c = search needs
 put-word-requires : tie.Need-put-word-requires
 put-word-requires c κs = search needs
 
-put-vendor-line-requires : tie.Need-put-vendor-line-requires
-put-vendor-line-requires c κs = search needs
-
-put-check-line-requires : tie.Need-put-check-line-requires
-put-check-line-requires c κs = search needs
+put-tail-requires : tie.Need-put-tail-requires
+put-tail-requires c κs = c .before .before .before .before .before .before .before .before .pre
 
 same-length : tie.Need-same-length
 same-length c = search needs
@@ -25,17 +23,12 @@ same-length c = search needs
 returns : tie.Need-returns
 unfolding finalText
 returns c =
-    let w = text "kind final\n" in
-    let v = vendorLine (c .before .before .before .before .before .before .before .before .before .before .before .before .before .before .before .args .vendor .now) in
-    put-more (w ++ v) (checkLine (c .before .before .before .before .before .before .before .before .before .before .before .before .before .before .before .args .check)) (put-more w v (c .before .before .before .before .before .before .before .before .before .before .put-word .ensures) (c .before .before .before .before .before .before .put-vendor-line .ensures)) (c .before .before .put-check-line .ensures)
+    let a = c .before .before .before .before .before .before .before .before .before .before .before .args in
+    let v = vendorLine (a .vendor .now) in
+    let b = checkLine (a .check) in
+    put-as (put-more (text "kind final\n") (v ++ b) (c .before .before .before .before .before .before .put-word .ensures) (c .before .before .put-tail .ensures)) (sym (append-assoc (text "kind final\n") v b))
 
 pub put-final-spec : {M : Type 1} → statement M
 put-final-spec =
     tie.close
-    (tie.spec
-    slice-aggregate-put-word
-    put-word-requires
-    put-vendor-line-requires
-    put-check-line-requires
-    same-length
-    returns)
+    (tie.spec slice-aggregate-put-word put-word-requires put-tail-requires same-length returns)

@@ -39,11 +39,8 @@ slice-aggregate-put-form-4 c = search needs
 put-form-requires-2 : tie.Need-put-form-requires-2
 put-form-requires-2 c κs = search needs
 
-put-vendor-line-requires : tie.Need-put-vendor-line-requires
-put-vendor-line-requires c κs = search needs
-
-put-check-line-requires : tie.Need-put-check-line-requires
-put-check-line-requires c κs = c .before .before .before .before .before .before .before .before .before .before .before .before .before .before .before .before .before .before .before .before .before .before .before .before .pre .1
+put-tail-requires : tie.Need-put-tail-requires
+put-tail-requires c κs = c .before .before .before .before .before .before .before .before .before .before .before .before .before .before .before .before .before .before .before .before .pre .1
 
 same-length : tie.Need-same-length
 same-length c = search needs
@@ -51,8 +48,8 @@ same-length c = search needs
 returns : tie.Need-returns
 unfolding trainingText
 returns c =
-    let a = c .before .before .before .before .before .before .before .before .before .before .before .before .before .before .before .before .before .before .before .before .before .before .before .before .before .before .before .args in
-    let n = c .before .before .before .before .before .before .before .before .before .before .before .before .before .before .before .before .before .before .before .before .before .before .before .before .highest in
+    let a = c .before .before .before .before .before .before .before .before .before .before .before .before .before .before .before .before .before .before .before .before .before .before .before .args in
+    let n = c .before .before .before .before .before .before .before .before .before .before .before .before .before .before .before .before .before .before .before .before .highest in
     let k = text "kind training\n" ++ numberLine "coefficients " (n .result) in
     let cs = coefficientLines 1 (take (n .result) (a .cs .now)) in
     let wa = numberLine "A " (a .a) in
@@ -60,13 +57,11 @@ returns c =
     let v = vendorLine (a .vendor .now) in
     let b = checkLine (a .check) in
     put-as
-    (put-more (k ++ cs ++ (wa ++ wb) ++ v) b
-    (put-more (k ++ cs ++ (wa ++ wb)) v
-    (put-more (k ++ cs) (wa ++ wb) (put-more k cs (put-as (c .before .before .before .before .before .before .before .before .before .before .before .before .before .before .before .before .before .before .before .before .put-form .ensures) (kind-form (n .result))) (c .before .before .before .before .before .before .before .before .before .before .before .before .before .before .before .before .put-coefficient-lines .ensures))
-    (put-as (c .before .before .before .before .before .before .before .before .before .before .put-form2 .ensures) (words-form (a .a) (a .b))))
-    (c .before .before .before .before .before .before .put-vendor-line .ensures))
-    (c .before .before .put-check-line .ensures))
-    (ap (λ l. l ++ v ++ b) (sym (append-assoc (k ++ cs) wa wb))
+    (put-more (k ++ cs ++ (wa ++ wb)) (v ++ b)
+    (put-more (k ++ cs) (wa ++ wb) (put-more k cs (put-as (c .before .before .before .before .before .before .before .before .before .before .before .before .before .before .before .before .put-form .ensures) (kind-form (n .result))) (c .before .before .before .before .before .before .before .before .before .before .before .before .put-coefficient-lines .ensures))
+    (put-as (c .before .before .before .before .before .before .put-form2 .ensures) (words-form (a .a) (a .b))))
+    (c .before .before .put-tail .ensures))
+    (sym (append-assoc (k ++ cs ++ (wa ++ wb)) v b) ∙ ap (λ l. l ++ v ++ b) (sym (append-assoc (k ++ cs) wa wb))
     ∙ ap (λ (m : ℕ). text "kind training\n" ++ numberLine "coefficients " m ++ coefficientLines 1 (take m (a .cs .now)) ++ wa ++ wb ++ v ++ b) (n .ensures))
 
 pub put-training-spec : {M : Type 1} → statement M
@@ -82,7 +77,6 @@ put-training-spec =
     slice-aggregate-put-form-3
     slice-aggregate-put-form-4
     put-form-requires-2
-    put-vendor-line-requires
-    put-check-line-requires
+    put-tail-requires
     same-length
     returns)

@@ -1,6 +1,5 @@
 -- `sorting::least` meets its contract.
 use borrow.Author.Tests.{lt-ltb, le-ltb}
-use borrow.Author.Needs.{needs}
 use Rattle.sorting.proofs.least.Statement.{statement}
 use Rattle.sorting.proofs.least.Tie as tie
 

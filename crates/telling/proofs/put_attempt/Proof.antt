@@ -1,5 +1,4 @@
 -- `telling::put_attempt` meets its contract.
-use mathlib.Core.Path.{sym}
 use borrow.Author.Tests.{eq-eqb, ne-eqb}
 use Rattle.ascii.proofs.Room.{put-none, put-as}
 use Rattle.telling.proofs.Laws.{attempt-form}
