@@ -1,5 +1,4 @@
 pub mod Laws
-pub mod NonZero
 pub mod Fits
 pub mod One
 pub mod Example

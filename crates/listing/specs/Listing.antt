@@ -1,9 +1,9 @@
 -- The bench listing (document 01): the text that the lister prints for the octets that it reads, line by line.
-use mathlib.Core.Bool.{Bool, true, false, cond, _&&_}
+use mathlib.Core.Bool.{cond}
 use mathlib.Core.List.{List, [], _∷_, _++_}
 use Prim.Native.Nat.{ℕ, zero, suc, _/_, _%_}
 use Prim.Native.String.{String}
-use lib.IntN.{ℤ, pos, negsuc}
+use lib.IntN.{ℤ}
 use lib.ListN.{take}
 use Rattle.answer.specs.Answer.{answer}
 use Rattle.octets.specs.Bits.{valueOf, bitsOf}
@@ -12,23 +12,8 @@ use Rattle.layout.specs.Places.{wordA, wordB, check}
 use Rattle.layout.specs.Frame.{trainingSync, fieldOf, coefficientsOf}
 use Rattle.layout.specs.Refusals.{hasSync, checkRefusals}
 use Rattle.reader.specs.Promises.{vendorOctets}
+use Rattle.used.specs.Used.{highest}
 use Rattle.ascii.specs.Text.{text, decimal, signed, hex, hexes}
-
--- whether a coefficient is zero
-unfoldable pub isZero : ℤ → Bool
-isZero (pos zero) = true
-isZero (pos (suc n)) = false
-isZero (negsuc n) = false
-
--- whether all are
-unfoldable pub allZero : List ℤ → Bool
-allZero [] = true
-allZero (c ∷ cs) = isZero c && allZero cs
-
--- the number of the highest non-zero coefficient, the first being number 1; 0 where all are zero
-unfoldable pub highest : List ℤ → ℕ
-highest [] = 0
-highest (c ∷ cs) = cond (allZero (c ∷ cs)) 0 (suc (highest cs))
 
 -- a line that names a number: "A 0", "refused 7"
 unfoldable pub numberLine : String → ℕ → List ℕ

@@ -10,7 +10,7 @@ ghost use Rattle.layout.specs.Frame.{fieldOf};
 ghost use Rattle.ascii.specs.Text.{hexes};
 ghost use Rattle.ascii.specs.Promises.{Put};
 ghost use Rattle.listing.specs.Listing.{numberLine, coefficientLine, coefficientLines, vendorLine, checkLine, trainingText, finalText};
-ghost use Rattle.listing.specs.Promises.{Highest, Listed};
+ghost use Rattle.listing.specs.Promises.{Listed};
 
 // The line of coefficient number k.
 fn put_coefficient_line(room: &mut [u8], at: usize, k: u32, c: i32) -> usize
@@ -34,21 +34,6 @@ fn put_coefficient_lines(room: &mut [u8], at: usize, cs: &[i32], n: u32) -> usiz
         k += 1;
     }
     next
-}
-
-// The number of the highest non-zero coefficient, counted from 1; 0 where there is none.
-pub fn highest(cs: &[i32]) -> usize
-    ensures { λ r. ⌜ Highest (now (cs .entry)) r ⌝ }
-{
-    let mut n = cs.len();
-    while 0 < n {
-        let i = n - 1;
-        if cs[i] != 0 {
-            return n;
-        }
-        n -= 1;
-    }
-    0
 }
 
 // A line that names octets.
@@ -79,7 +64,7 @@ fn put_training(room: &mut [u8], cs: &[i32], a: u32, b: u32, vendor: &[u8], chec
     requires { ⌜ (length (now cs) ≡ 180) × (check < 65536) ⌝ }
     ensures { λ r. ⌜ Put (now (room .entry)) 0 (trainingText (now (cs .entry)) a b (now (vendor .entry)) check) r (now (room .exit)) ⌝ }
 {
-    let n = highest(cs) as u32;
+    let n = used::highest(cs) as u32;
     let mut at = forms::put_form(room, 0, b"kind training\ncoefficients #\n", &[n]);
     at = put_coefficient_lines(room, at, cs, n);
     at = forms::put_form(room, at, b"A #\nB #\n", &[a, b]);
@@ -106,8 +91,9 @@ fn put_refused(room: &mut [u8], n: u32) -> usize
 fn check_of(frame: &[u8]) -> u32
     ensures { λ r. ⌜ (r < 65536) × (length (now (frame .entry)) ≡ 529 → r ≡ polynomial (fieldOf check (bitsOf (now (frame .entry))))) ⌝ }
 {
-    let bits = words::field(frame, layout::CHECK_AT, layout::CHECK_BITS);
-    words::turned(layout::CHECK_BITS, bits)
+    let c1_lowest = words::field(frame, layout::CHECK_AT, layout::CHECK_BITS);
+    let c1_highest = words::turned(layout::CHECK_BITS, c1_lowest);
+    c1_highest
 }
 
 // The listing of the octets read, and how much of the room it takes.

@@ -15,7 +15,7 @@ use Rattle.layout.specs.Places.{coefficients, vendor}
 use Rattle.layout.specs.Frame.{trainingSync, fieldOf, coefficientsOf}
 use Rattle.layout.specs.Refusals.{hasSync, checkRefusals}
 use Rattle.ascii.proofs.Numbers.{decimal-length, hexes-length}
-use Rattle.listing.proofs.Laws.{highest-within}
+use Rattle.used.proofs.Laws.{highest-within}
 use Rattle.verdict.specs.declared.Customer.{Customer}
 use Rattle.verdict.specs.declared.Verdict.{Verdict}
 use Rattle.verdict.specs.Verdict.{refusedVerdict, trainingVerdict, finalVerdict, judged, verdictOf}

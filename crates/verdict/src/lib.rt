@@ -90,7 +90,7 @@ pub fn judge(frame: &[u8], customer: Customer) -> Verdict
         return Verdict {
             answer: answer::DONE,
             kind: layout::TRAINING,
-            used: listing::highest(&cs) as u32,
+            used: used::highest(&cs) as u32,
             a: found.a,
             b: found.b,
             alike: like(customer.given, found.a, customer.a),

@@ -6,7 +6,7 @@ use Prim.Native.Nat.{ℕ, zero, suc, _≤_}
 use native.Mathlib.Omega.{arith}
 use lib.IntN.{ℤ, pos, negsuc}
 use lib.ListN.{getD}
-use Rattle.listing.specs.Listing.{isZero, allZero, highest}
+use Rattle.used.specs.Used.{isZero, allZero, highest}
 use Rattle.ranges.proofs.Laws.{both}
 
 is-zero : (c : ℤ) → isZero c ≡ true → c ≡ pos 0

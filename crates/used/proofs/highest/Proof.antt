@@ -1,13 +1,13 @@
--- `listing::highest` meets its contract. The coefficients from number n + 1 on are zero.
+-- `used::highest` meets its contract. The coefficients from number n + 1 on are zero.
 use mathlib.Core.Path.{_≡_, sym, ap, _∙_}
 use Prim.Native.Nat.{_≤_}
 use native.Mathlib.Omega.{arith}
 use lib.ListN.{length, take}
 use lib.Seq.{take-all}
-use Rattle.listing.specs.Listing.{highest}
-use Rattle.listing.proofs.Laws.{zero-is, zero-not, highest-here, highest-below, highest-none}
-use Rattle.listing.proofs.highest.Statement.{statement}
-use Rattle.listing.proofs.highest.Tie as tie
+use Rattle.used.specs.Used.{highest}
+use Rattle.used.proofs.Laws.{zero-is, zero-not, highest-here, highest-below, highest-none}
+use Rattle.used.proofs.highest.Statement.{statement}
+use Rattle.used.proofs.highest.Tie as tie
 
 abbrev Inv-loop : tie.InvT-loop
 Inv-loop cs n₀ n = (n ≤ length cs) × (highest (take n cs) ≡ highest cs)
