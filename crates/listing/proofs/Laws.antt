@@ -20,6 +20,7 @@ use Rattle.layout.specs.Places.{wordA, wordB, check}
 use Rattle.layout.specs.Frame.{trainingSync, fieldOf, coefficientsOf}
 use Rattle.layout.specs.Refusals.{hasSync, bitRefusals, checkRefusals, readRefusals}
 use Rattle.reader.specs.declared.Found.{Found}
+use Rattle.reader.proofs.Given.{found, none-applies, coefficients-are, vendor-is, found-is}
 use Rattle.reader.specs.Promises.{foundOf, coefficientsLeft, vendorOctets, Read}
 use Rattle.ascii.specs.Text.{text, decimal}
 use Rattle.forms.specs.Forms.{firstOf, formedBy, formed}
@@ -79,17 +80,10 @@ module _ (f : List ℕ) (cs : List ℤ) (v : List ℕ) (lc : length cs ≡ 180) 
   abbrev F : Found
   F = record { answer = 0; kind = 1; a = 0; b = 0 }
 
-  -- with rooms of the right length, reading answers as checking does
-  pub same : answer (readRefusals f cs v) ≡ answer (checkRefusals f)
-  same = simp (eq-eqb (length cs) 180 lc, eq-eqb (length v) 16 lv)
-
-  pub found : r ≡ foundOf (answer (checkRefusals f)) B
-  found = d .found ∙ ap (λ (n : ℕ). foundOf n B) same
-
   -- a refusal
   pub refused-text : (r .answer ≡ 0 → ⊥) → numberLine "refused " (r .answer) ≡ listing f
   unfolding listing listed
-  refused-text h = go (answer (checkRefusals f)) found
+  refused-text h = go (answer (checkRefusals f)) (found f cs v lc lv r cs′ v′ d)
     where
       done : (t : Bool) → cond {A = Found} t T F .answer ≡ 0
       done true = refl
@@ -100,30 +94,10 @@ module _ (f : List ℕ) (cs : List ℤ) (v : List ℕ) (lc : length cs ≡ 180) 
       go (suc n) e = ap (λ (x : Found). numberLine "refused " (x .answer)) e
 
   module _ (z : r .answer ≡ 0) where
-    -- no refusal
-    pub none-applies : answer (checkRefusals f) ≡ 0
-    none-applies = go (answer (checkRefusals f)) found
-      where
-        go : (n : ℕ) → r ≡ foundOf n B → n ≡ 0
-        go zero e = refl
-        go (suc n) e = sym (ap (λ (x : Found). x .answer) e) ∙ z
-
-    pub read-length : length f ≡ 529
-    read-length = eqb-true (length f) 529 (not-false _ (none 0 (not (eqb (length f) 529)) (bitRefusals B) none-applies .0))
-
-    pub coefficients-are : cs′ ≡ coefficientsLeft B cs
-    coefficients-are = d .coefficients-left ∙ given _ cs (coefficientsLeft B cs) (same ∙ none-applies)
-
-    pub vendor-is : v′ ≡ vendorOctets B
-    vendor-is = d .vendor-left ∙ given _ v (vendorOctets B) (same ∙ none-applies)
-
-    pub found-is : r ≡ foundOf 0 B
-    found-is = found ∙ ap (λ (n : ℕ). foundOf n B) none-applies
-
     -- what is printed where nothing is wrong
     listing-is : listed 0 B ≡ listing f
     unfolding listing
-    listing-is = ap (λ (n : ℕ). listed n B) (sym none-applies)
+    listing-is = ap (λ (n : ℕ). listed n B) (sym (none-applies f cs v lc lv r cs′ v′ d z))
 
     module _ (c : ℕ) (e : c ≡ polynomial (fieldOf check B)) where
       abbrev training : List ℕ
@@ -134,21 +108,21 @@ module _ (f : List ℕ) (cs : List ℤ) (v : List ℕ) (lc : length cs ≡ 180) 
 
       pub training-text : r .kind ≡ 0 → trainingText cs′ (r .a) (r .b) v′ c ≡ listing f
       unfolding listed
-      training-text k = go (hasSync trainingSync B) found-is coefficients-are ∙ listing-is
+      training-text k = go (hasSync trainingSync B) (found-is f cs v lc lv r cs′ v′ d z) (coefficients-are f cs v lc lv r cs′ v′ d z) ∙ listing-is
         where
           go : (t : Bool) → r ≡ cond t T F → cs′ ≡ cond t (coefficientsOf B) cs → trainingText cs′ (r .a) (r .b) v′ c ≡ cond t training final
           go true p q =
               ap (λ (x : List ℤ). trainingText x (r .a) (r .b) v′ c) q
               ∙ ap (λ (x : Found). trainingText (coefficientsOf B) (x .a) (x .b) v′ c) p
-              ∙ ap₂ (trainingText (coefficientsOf B) (T .a) (T .b)) vendor-is e
+              ∙ ap₂ (trainingText (coefficientsOf B) (T .a) (T .b)) (vendor-is f cs v lc lv r cs′ v′ d z) e
           go false p q =
               let kind-is : _≡_ {A = ℕ} 0 1 = sym k ∙ ap (λ (x : Found). x .kind) p in
               absurd (omega arith)
 
       pub final-text : (r .kind ≡ 0 → ⊥) → finalText v′ c ≡ listing f
       unfolding listed
-      final-text k = go (hasSync trainingSync B) found-is ∙ listing-is
+      final-text k = go (hasSync trainingSync B) (found-is f cs v lc lv r cs′ v′ d z) ∙ listing-is
         where
           go : (t : Bool) → r ≡ cond t T F → finalText v′ c ≡ cond t training final
           go true p = absurd (k (ap (λ (x : Found). x .kind) p))
-          go false p = ap₂ finalText vendor-is e
+          go false p = ap₂ finalText (vendor-is f cs v lc lv r cs′ v′ d z) e

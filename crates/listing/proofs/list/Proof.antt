@@ -2,7 +2,8 @@
 use mathlib.Core.Path.{refl}
 use Rattle.ascii.proofs.Room.{put-as, told}
 use Rattle.listing.specs.Listing.{listing}
-use Rattle.listing.proofs.Laws.{refused-text, read-length, training-text, final-text}
+use Rattle.reader.proofs.Given.{read-length}
+use Rattle.listing.proofs.Laws.{refused-text, training-text, final-text}
 use borrow.Author.Needs.{needs}
 use Rattle.listing.proofs.list.Statement.{statement}
 use Rattle.listing.proofs.list.Tie as tie

@@ -1,0 +1,44 @@
+-- What reading gives, where the two rooms have their lengths. Assumes nothing.
+use mathlib.Core.Path.{_≡_, refl, sym, ap, _∙_}
+use mathlib.Core.Bool.{not}
+use mathlib.Core.List.{List}
+use Prim.Native.Nat.{ℕ, zero, suc}
+use borrow.Author.Tests.{eq-eqb, eqb-true, not-false}
+use lib.Dec.{eqb}
+use lib.IntN.{ℤ}
+use lib.ListN.{length}
+use Rattle.answer.specs.Answer.{answer}
+use Rattle.answer.proofs.Laws.{none, given}
+use Rattle.octets.specs.Bits.{bitsOf}
+use Rattle.layout.specs.Refusals.{bitRefusals, checkRefusals, readRefusals}
+use Rattle.reader.specs.declared.Found.{Found}
+use Rattle.reader.specs.Promises.{foundOf, coefficientsLeft, vendorOctets, Read}
+
+module _ (f : List ℕ) (cs : List ℤ) (v : List ℕ) (lc : length cs ≡ 180) (lv : length v ≡ 16) (r : Found) (cs′ : List ℤ) (v′ : List ℕ) (d : Read f cs v r cs′ v′) where
+  -- reading answers as checking does
+  same : answer (readRefusals f cs v) ≡ answer (checkRefusals f)
+  same = simp (eq-eqb (length cs) 180 lc, eq-eqb (length v) 16 lv)
+
+  pub found : r ≡ foundOf (answer (checkRefusals f)) (bitsOf f)
+  found = d .found ∙ ap (λ (n : ℕ). foundOf n (bitsOf f)) same
+
+  -- where nothing is refused
+  module _ (z : r .answer ≡ 0) where
+    pub none-applies : answer (checkRefusals f) ≡ 0
+    none-applies = go (answer (checkRefusals f)) found
+      where
+        go : (n : ℕ) → r ≡ foundOf n (bitsOf f) → n ≡ 0
+        go zero e = refl
+        go (suc n) e = sym (ap (λ (x : Found). x .answer) e) ∙ z
+
+    pub read-length : length f ≡ 529
+    read-length = eqb-true (length f) 529 (not-false _ (none 0 (not (eqb (length f) 529)) (bitRefusals (bitsOf f)) none-applies .0))
+
+    pub coefficients-are : cs′ ≡ coefficientsLeft (bitsOf f) cs
+    coefficients-are = d .coefficients-left ∙ given _ cs (coefficientsLeft (bitsOf f) cs) (same ∙ none-applies)
+
+    pub vendor-is : v′ ≡ vendorOctets (bitsOf f)
+    vendor-is = d .vendor-left ∙ given _ v (vendorOctets (bitsOf f)) (same ∙ none-applies)
+
+    pub found-is : r ≡ foundOf 0 (bitsOf f)
+    found-is = found ∙ ap (λ (n : ℕ). foundOf n (bitsOf f)) none-applies
