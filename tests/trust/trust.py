@@ -16,12 +16,16 @@ def counted(crate):
 names = [line.split(":")[0] for line in (ROOT / "crates.txt").read_text().splitlines() if ":" in line and not line.startswith("#")]
 true = {n: counted(n) for n in names if counted(n)[0]}
 said = {m[1]: (int(m[2]), int(m[3])) for m in re.finditer(r"^\| (\w+) \| (\d+) \| (\d+) \|", (ROOT / "docs/TRUST.md").read_text(), re.M)}
+total = sum(n for _, n in true.values())
+stated = re.search(r"([\d,]+) lines define something", (ROOT / "docs/TRUST.md").read_text())
 wrong = [f"{n}: said {said.get(n)}, is {true.get(n)}" for n in sorted(set(said) | set(true)) if said.get(n) != true.get(n)]
+if not stated or int(stated[1].replace(",", "")) != total:
+    wrong.append(f"all lines that define: said {stated and stated[1]}, are {total}")
 if "--write" in sys.argv:
     for n in true:
         print(f"| {n} | {true[n][0]} | {true[n][1]} |")
     sys.exit()
 for w in wrong:
     print("  " + w)
-print(("FAIL" if wrong else "pass") + f": docs/TRUST.md counts the definitions of {len(true)} crates, {sum(n for _, n in true.values())} lines")
+print(("FAIL" if wrong else "pass") + f": docs/TRUST.md counts the definitions of {len(true)} crates, {total} lines")
 sys.exit(bool(wrong))
