@@ -1,0 +1,38 @@
+"""Where `rt ci` refused a crate with an edit, each wrong program in the edit is refused, and by itself.
+
+An edit may hold several wrong programs, each in a function of its own and under a line `# NAME (FUNCTION): what is wrong`. A function is
+proved against its own code and its callees' contracts, so one wrong function does not hide another. The prover's log, which rt ci leaves
+in target/must-fail, has to have an error in the proof of each FUNCTION, and one that is not just about another proof that was refused.
+"""
+import pathlib
+import re
+import sys
+
+ROOT = pathlib.Path(__file__).resolve().parents[2]
+failed = 0
+
+
+def refused(log, crate, function):
+    """Whether the log has a fact that fails in this function's own proof."""
+    own = rf"/proofs/{function.replace('::', '/')}/Proof\.antt:\d+:\d+: error: (?!.*was not admitted)"
+    searched = rf"^fn {crate}::{function}: no proof: .*`search` does not close"
+    named = re.search(rf"^fn {crate}::{function}: (not proved|no proof)", log, re.M)
+    return named and (re.search(own, log) or re.search(searched, log, re.M))
+
+
+edits = sorted(ROOT.glob("crates/*/must-fail/*.edit"))
+for edit in edits:
+    crate = edit.parts[-3]
+    programs = re.findall(r"^# (\w+) \(([\w:]+)\)", edit.read_text(), re.M)
+    if not programs:
+        continue
+    log = ROOT / "target" / "must-fail" / crate / edit.stem / ".log"
+    text = log.read_text() if log.exists() else ""
+    for name, function in programs:
+        right = refused(text, crate, function)
+        failed += not right
+        why = "" if right else " is NOT refused in its own proof" if text else ": no log of it in target/must-fail; `rt ci` or `rt must-fail` leaves one"
+        print(f"{'pass' if right else 'FAIL'}: {crate}/{name}, {function}{why}")
+if not edits:
+    print("FAIL: no edits")
+sys.exit(bool(failed or not edits))
