@@ -1,27 +1,24 @@
 -- Laws of the listing's lines. Assumes nothing.
 use mathlib.Core.Path.{_≡_, refl, sym, ap, ap₂, _∙_}
-use mathlib.Core.Bool.{Bool, true, false, cond, not}
+use mathlib.Core.Bool.{Bool, true, false, cond}
 use mathlib.Core.List.{List, [], _∷_, _++_, append-nil, append-assoc, reverse}
-use Prim.Native.Nat.{ℕ, zero, suc, _+_, _-_, _<_}
+use Prim.Native.Nat.{ℕ, zero, suc, _+_, _<_}
 use native.Mathlib.Nat.{add-zero}
 use native.Mathlib.Numerals.{add-one}
 use native.Mathlib.Omega.{arith}
-use borrow.Author.Tests.{eq-eqb, eqb-true, not-false}
-use lib.Dec.{eqb}
 use lib.IntN.{ℤ, pos}
 use lib.ListN.{length, getD, take}
 use lib.Seq.{take-suc, length-take-le}
 use Rattle.answer.specs.Answer.{answer}
-use Rattle.answer.proofs.Laws.{none, given}
 use Rattle.octets.specs.Bits.{digitsOf, valueOf, bitsOf}
 use Rattle.octets.proofs.Digits.{turned-lt}
 use Rattle.remainder.specs.Division.{polynomial}
 use Rattle.layout.specs.Places.{wordA, wordB, check}
 use Rattle.layout.specs.Frame.{trainingSync, fieldOf, coefficientsOf}
-use Rattle.layout.specs.Refusals.{hasSync, bitRefusals, checkRefusals, readRefusals}
+use Rattle.layout.specs.Refusals.{hasSync, checkRefusals}
 use Rattle.reader.specs.declared.Found.{Found}
 use Rattle.reader.proofs.Given.{found, none-applies, coefficients-are, vendor-is, found-is}
-use Rattle.reader.specs.Promises.{foundOf, coefficientsLeft, vendorOctets, Read}
+use Rattle.reader.specs.Promises.{foundOf, vendorOctets, Read}
 use Rattle.ascii.specs.Text.{text, decimal}
 use Rattle.forms.specs.Forms.{firstOf, formedBy, formed}
 use Rattle.listing.specs.Listing.{numberLine, coefficientLine, coefficientLines, trainingText, finalText, listed, listing}

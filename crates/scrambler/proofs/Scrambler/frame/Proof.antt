@@ -1,5 +1,4 @@
 -- `scrambler::Scrambler::frame` meets its contract.
-use borrow.Author.Needs.{needs}
 use mathlib.Core.Path.{refl, sym, _∙_}
 use Rattle.line.specs.Run.{wayOf}
 use Rattle.scrambler.proofs.Laws.{frame-refused, frame-taken}

@@ -1,7 +1,7 @@
 -- `scrambler::Scrambler::step` meets its contract.
 use borrow.Author.Needs.{needs}
 use borrow.Author.Tests.{lt-ltb, le-ltb}
-use mathlib.Core.Path.{ap, subst}
+use mathlib.Core.Path.{subst}
 use Prim.Native.Nat.{ℕ}
 use Rattle.line.specs.Run.{wayOf}
 use Rattle.line.specs.Promises as OnLine
