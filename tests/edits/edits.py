@@ -1,8 +1,11 @@
-"""Where `rt ci` refused a crate with an edit, each wrong program in the edit is refused, and by itself.
+"""Where `rt ci` refused a crate with an edit, it is for a fact that no longer holds, and each wrong program in the edit is refused by itself.
 
 An edit may hold several wrong programs, each in a function of its own and under a line `# NAME (FUNCTION): what is wrong`. A function is
 proved against its own code and its callees' contracts, so one wrong function does not hide another. The prover's log, which rt ci leaves
 in target/must-fail, has to have an error in the proof of each FUNCTION, and one that is not just about another proof that was refused.
+
+An edit of a definition has no such line. The first error in its log has to stand in a proof: one in specs/ would mean that the edited
+definition is no definition, as where it names what its crate does not.
 """
 import pathlib
 import re
@@ -10,6 +13,8 @@ import sys
 
 ROOT = pathlib.Path(__file__).resolve().parents[2]
 failed = 0
+# what the prover says of a name that it does not find: then no fact was looked at
+NAMELESS = r": error: .*(no module is found|can be named from here|has no field|is not in scope|has no `Need)"
 
 
 def refused(log, crate, function):
@@ -24,12 +29,16 @@ edits = sorted(ROOT.glob("crates/*/must-fail/*.edit"))
 for edit in edits:
     crate = edit.parts[-3]
     programs = re.findall(r"^# (\w+) \(([\w:]+)\)", edit.read_text(), re.M)
-    if not programs:
-        continue
     log = ROOT / "target" / "must-fail" / crate / edit.stem / ".log"
     text = log.read_text() if log.exists() else ""
+    nameless = re.search(NAMELESS, text, re.M)
+    if not programs:
+        first = re.search(r"^\S*/must-fail/\w+/\w+/(\S+?):\d+:\d+: error", text, re.M)
+        right = first and first[1].startswith("proofs/") and not nameless
+        failed += not right
+        print(f"{'pass' if right else 'FAIL'}: {crate}/{edit.stem}, {first[1] if first else 'no error in a log of it'}{' (a name that is not found)' if nameless else ''}")
     for name, function in programs:
-        right = refused(text, crate, function)
+        right = refused(text, crate, function) and not nameless
         failed += not right
         why = "" if right else " is NOT refused in its own proof" if text else ": no log of it in target/must-fail; `rt ci` or `rt must-fail` leaves one"
         print(f"{'pass' if right else 'FAIL'}: {crate}/{name}, {function}{why}")
