@@ -1,4 +1,4 @@
-"""Activation frames written from document 01 alone, for the tests of the programs: laid bit by bit, check bits divided out by hand."""
+"""Activation frames written from SCOPE alone, for the tests of the programs: laid bit by bit, check bits divided out by hand."""
 
 TRAINING = "11111001101011"
 FINAL = "11010110011111"

@@ -33,7 +33,7 @@ static void frames(void)
     look(back.state == sent.state && memcmp(heard, frame, sizeof frame) == 0, "sdsl_descramble_frame");
 }
 
-/* Example 7 of document 01: the NTU from state 0, 24 ones: eighteen 1, five 0, one 1. */
+/* Example 7 of SCOPE: the NTU from state 0, 24 ones: eighteen 1, five 0, one 1. */
 static void runs(void)
 {
     const uint8_t ones[3] = {0xFF, 0xFF, 0xFF}, line[3] = {0xFF, 0xFF, 0x83};

@@ -1,4 +1,4 @@
-"""The lister's cases, from document 01 alone: frames by tests/frames.py, and the text put together here.
+"""The lister's cases, from SCOPE alone: frames by tests/frames.py, and the text put together here.
 The command to run is given as arguments.
 """
 import pathlib
@@ -64,9 +64,9 @@ zeros = bytes(16)
 counted = bytes(range(0xF0, 0x100))
 none = [0] * 180
 
-# document 01's example, its octets and its text written out
+# SCOPE's example, its octets and its text written out
 example = bytes([0x9F, 0x35]) + bytes(527)
-case("document 01's example", example,
+case("SCOPE's example", example,
      "kind training\ncoefficients 0\nA 0\nB 0\nvendor 00000000000000000000000000000000\ncheck 0000\n")
 assert training(none, 0, 0, zeros)[0] == example
 

@@ -1,4 +1,4 @@
-"""The replayer's cases, from document 01's "The start-up supervisor" alone: each story is written out by hand, and random logs are told by the
+"""The replayer's cases, from SCOPE's "The start-up supervisor" alone: each story is written out by hand, and random logs are told by the
 small supervisor below. The command to run is given as arguments.
 """
 import random

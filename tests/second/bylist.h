@@ -1,5 +1,5 @@
 /*
- * bylist.h: a third opinion on a run of codes, from a fresh start only. It finds openings and endings in the list as document 01's
+ * bylist.h: a third opinion on a run of codes, from a fresh start only. It finds openings and endings in the list as SCOPE's
  * section on demand 3 states them, by the places of reports and ticks, without running any steps.
  */
 #ifndef BYLIST_H

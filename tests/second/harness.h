@@ -36,7 +36,7 @@ size_t scaled(size_t cases); /* a number of random cases, by the driver's second
 void set_number(uint8_t *octets, size_t i, int32_t number);
 int32_t get_number(const uint8_t *octets, size_t i);
 
-/* Bit n, from 1, as document 01 lays it. */
+/* Bit n, from 1, as SCOPE lays it. */
 void flip_bit(uint8_t *octets, size_t n);
 bool get_bit(const uint8_t *octets, size_t n);
 

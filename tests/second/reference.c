@@ -1,5 +1,5 @@
 /*
- * reference.c: the second implementation, from document 01's sentences, by the bit and with no tricks.
+ * reference.c: the second implementation, from SCOPE's sentences, by the bit and with no tricks.
  *
  * Bits are kept one to an array element and numbered from 1, as in the paper: bits[n] is bit n and bits[0] is not used. Refusals stand
  * in each function in the order of the paper's table. Everything is checked before the first octet of lent memory is written.

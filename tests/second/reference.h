@@ -1,7 +1,7 @@
 /*
  * reference.h: the second implementation of everything that sdsl.h exports.
  *
- * Written from document 01 (and the ETSI text it names) alone, by the bit, with no line shared with the library. Each function has the
+ * Written from SCOPE (and the ETSI text it names) alone, by the bit, with no line shared with the library. Each function has the
  * signature of its namesake in sdsl.h.
  */
 #ifndef REFERENCE_H

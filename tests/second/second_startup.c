@@ -354,7 +354,7 @@ static void short_lists(void)
     }
 }
 
-/* ---- Cases that document 01 names, with literal results, on either side ---- */
+/* ---- Cases that SCOPE names, with literal results, on either side ---- */
 
 struct side {
     const char *name;

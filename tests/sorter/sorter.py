@@ -1,4 +1,4 @@
-"""The sorter's cases, from document 01 alone: frames by tests/frames.py, and the texts put together here.
+"""The sorter's cases, from SCOPE alone: frames by tests/frames.py, and the texts put together here.
 The command to run is given as arguments.
 """
 import os
@@ -155,12 +155,12 @@ rng = random.Random(SEED)
 ONE = good("one.frame", [3, 0, -4], 5, 6)
 SOUND = ONE.octets
 
-# the two words of the task's example, and document 01's own frame
+# the two words of the task's example, and SCOPE's own frame
 assert frame(TRAINING, payload([], 0, 0, bytes(16))) == bytes([0x9F, 0x35]) + bytes(527)
 assert turned(1) == 1 << 20 and turned(0b110) == 0b11 << 18
 
 case("one good card", [ONE])
-case("document 01's example", [good("empty.frame", [], 0, 0, bytes(16))])
+case("SCOPE's example", [good("empty.frame", [], 0, 0, bytes(16))])
 case("180 coefficients at the least, A and B at the most", [good("full.frame", [-2097152] * 180, 2097151, 2097151)])
 case("coefficient 180 alone", [good("last.frame", [0] * 179 + [1], 1398101, 699050)])
 case("a final frame", [final("final.frame")])

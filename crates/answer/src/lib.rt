@@ -1,4 +1,4 @@
-// What comes back: document 01's nine numbers by name. The rule for choosing one is specs/Answer.antt.
+// What comes back: SCOPE's nine numbers by name. The rule for choosing one is specs/Answer.antt.
 
 // Done.
 pub const DONE: u32 = 0;

@@ -1,4 +1,4 @@
-// Checking an activation frame (document 01, "The activation frame").
+// Checking an activation frame (SCOPE, "The activation frame").
 ghost use mathlib.Core.Path.{_≡_};
 ghost use mathlib.Core.Bool.{_||_};
 ghost use lib.ListN.{length};
@@ -27,7 +27,7 @@ fn checks(frame: &[u8], c: u32) -> bool
     ensures { λ r. ⌜ r ≡ eqb (polynomial (fieldOf check (bitsOf (now (frame .entry))))) (checkOf (messageOf (bitsOf (now (frame .entry))))) ⌝ }
 {
     let r = remainder::check_bits(frame, layout::COEFFICIENTS_AT, layout::MESSAGE_BITS);
-    words::turned(layout::CHECK_BITS, c) == r
+    bitfields::turned(layout::CHECK_BITS, c) == r
 }
 
 // What is wrong with a frame of the right length, or 0.

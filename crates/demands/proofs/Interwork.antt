@@ -19,17 +19,17 @@ use Rattle.layout.specs.Frame.{used, trainingBits, finalBits, fieldOf, coeffici
 use Rattle.layout.specs.Refusals.{bitRefusals, hasSync}
 use Rattle.layout.proofs.RoundTrip.{training-laid, training-answers, a-back, b-back, used-back, vendor-back, final-laid, final-answers, final-vendor}
 use Rattle.numbers.specs.Promises.{numbersOf, numberOctets}
-use Rattle.line.specs.Line.{newest}
+use Rattle.recurrence.specs.Line.{newest}
 use Rattle.scrambler.specs.Ends.{tapOf}
-use Rattle.line.specs.Run.{scramble, descramble, runOf}
+use Rattle.recurrence.specs.Run.{scramble, descramble, runOf}
 use Rattle.scrambler.specs.Promises.{frameOut}
 use Rattle.scrambler.specs.declared.Scrambler.{Scrambler}
-use Rattle.line.proofs.Laws.{run-bits}
+use Rattle.recurrence.proofs.Laws.{run-bits}
 use Rattle.scrambler.proofs.Laws.{tap-range}
-use Rattle.line.proofs.Exactly.{scrambles-run, descrambles-run, back as comes-back}
+use Rattle.recurrence.proofs.Exactly.{scrambles-run, descrambles-run, back as comes-back}
 use Rattle.scrambler.proofs.Frames.{received, pad-out, frame-back}
 use Rattle.ranges.specs.Ranges.{every}
-use Rattle.signal.specs.Signal.{isSignal, pastAfter}
+use Rattle.samples.specs.Samples.{isSignal, pastAfter}
 use Rattle.ranges.proofs.Laws.{both}
 use Rattle.precoder.specs.Runs.{SendsAll, outputsOf, inputsOf, pastAfterAll, PrecodesRun, DecodesRun}
 use Rattle.precoder.proofs.Signals.{input-is}

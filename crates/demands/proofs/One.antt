@@ -13,26 +13,26 @@ use Rattle.layout.specs.Places.{wordA, wordB}
 use Rattle.layout.specs.Frame.{trainingSync, fieldOf}
 use Rattle.layout.specs.Refusals.{hasSync}
 use Rattle.layout.proofs.Order.{check-order}
-use Rattle.line.specs.Run.{Way}
+use Rattle.recurrence.specs.Run.{Way}
 use Rattle.scrambler.proofs.One.{run-order as scrambler-order, frame-order}
 use Rattle.symbol.specs.declared.Encoder.{Encoder}
 use Rattle.symbol.proofs.Order.{activation-order, data-order, back-order, step-order, run-order}
-use Rattle.signal.specs.Shaper.{Exactly}
-use Rattle.signal.proofs.Order.{shaper-order}
-use Rattle.signal.proofs.Exact.{exact-zero, exact-unique}
+use Rattle.samples.specs.Shaper.{Exactly}
+use Rattle.samples.proofs.Order.{shaper-order}
+use Rattle.samples.proofs.Exact.{exact-zero, exact-unique}
 use Rattle.precoder.proofs.Order.{run-order as precoder-order}
-use Rattle.phases.specs.declared.Supervisor.{Supervisor as State}
-use Rattle.phases.specs.Step.{stateRefusals, stepOf}
-use Rattle.phases.proofs.One.{start-in-order, step-in-order, state-in-order}
+use Rattle.supervisor.specs.declared.Supervisor.{Supervisor as State}
+use Rattle.supervisor.specs.Step.{stateRefusals, stepOf}
+use Rattle.supervisor.proofs.One.{start-in-order, step-in-order, state-in-order}
 use Rattle.startup.specs.declared.Run.{Run as StartupRun}
 use Rattle.startup.specs.Run.{eventOf, goesOn, opens, ends, noted, takenOf, runFrom, begun}
 use Rattle.reader.specs.declared.Found.{Found}
 use Rattle.reader.specs.Promises.{foundOf}
 use Rattle.host.specs.declared.frames.FrameFields.{FrameFields}
 use Rattle.host.specs.declared.scrambling.Scrambled.{Scrambled}
-use Rattle.host.specs.declared.supervisor.Stepped.{Stepped}
-use Rattle.host.specs.declared.supervisor.Run.{Run}
-use Rattle.host.specs.Supervisor.{stateIn, stateOf, runFieldsOf}
+use Rattle.host.specs.declared.supervising.Stepped.{Stepped}
+use Rattle.host.specs.declared.supervising.Run.{Run}
+use Rattle.host.specs.Supervising.{stateIn, stateOf, runFieldsOf}
 use Rattle.host.specs.Frames.{fieldsOf}
 use Rattle.host.specs.Symbols.{encoder}
 use Rattle.host.proofs.One.{frame-write-order, frame-read-order}

@@ -14,18 +14,18 @@ use Rattle.numbers.specs.Promises.{numbersOf, numberOctets}
 use Rattle.writer.specs.Promises.{frameOctets}
 use Rattle.reader.specs.Promises.{foundOf, vendorOctets}
 use Rattle.scrambler.specs.Ends.{tapOf}
-use Rattle.line.specs.Run.{runOf, afterOf}
+use Rattle.recurrence.specs.Run.{runOf, afterOf}
 use Rattle.symbol.specs.Levels.{activationLevels, dataLevels, levelAt, placeIn, activationTests, dataTests, backTests}
 use Rattle.symbol.specs.Encoder.{codeOf, codesOf, x1, sentAfter, heldIn, registerOf, withRegister}
-use Rattle.signal.specs.Signal.{isSignal}
-use Rattle.signal.specs.Shaper.{Exactly, shaperTests}
-use Rattle.signal.proofs.Exact.{signal-abs, exact, exact-zero}
+use Rattle.samples.specs.Samples.{isSignal}
+use Rattle.samples.specs.Shaper.{Exactly, shaperTests}
+use Rattle.samples.proofs.Exact.{signal-abs, exact, exact-zero}
 use Rattle.precoder.specs.Runs.{outputsOf, inputsOf, pastAfterAll}
-use Rattle.phases.specs.Step.{startOf, stepOf}
+use Rattle.supervisor.specs.Step.{startOf, stepOf}
 use Rattle.startup.specs.Run.{runOf as codesRun}
 use Rattle.host.specs.Frames.{coefficientOctets}
 use Rattle.host.specs.Symbols.{encoder}
-use Rattle.host.specs.Supervisor.{stateIn, stateOf, runFieldsOf}
+use Rattle.host.specs.Supervising.{stateIn, stateOf, runFieldsOf}
 use Rattle.demands.specs.Library.{none, Library}
 use Rattle.demands.specs.Contracts.{Keeps}
 use Rattle.demands.specs.One.{One, writeChecks, readChecks, runChecks, frameChecks, encodeChecks, encodeRunChecks, precodeChecks}

@@ -1,4 +1,4 @@
--- No version that document 01 rejects meets its demand. Assumes nothing.
+-- No version that SCOPE rejects meets its demand. Assumes nothing.
 use mathlib.Core.Path.{_≡_, refl, sym, _∙_, subst}
 use mathlib.Core.Bool.{true, false, true≢false}
 use mathlib.Core.Logic.{_⊎_, inl, ⊎-elim}

@@ -1,4 +1,4 @@
--- No library that document 01 rejects meets demands 1 and 2. Assumes nothing.
+-- No library that SCOPE rejects meets demands 1 and 2. Assumes nothing.
 use mathlib.Core.Path.{_≡_, refl, sym, ap, _∙_}
 use mathlib.Core.Bool.{not}
 use mathlib.Core.List.{List, [], _∷_, reverse}
@@ -21,12 +21,12 @@ use Rattle.layout.proofs.Laws.{used-length, training-length}
 use Rattle.layout.proofs.Fields.{a-field, b-field}
 use Rattle.layout.proofs.RoundTrip.{training-laid, final-laid, final-answers}
 use Rattle.numbers.specs.Promises.{numbersOf, numberOctets}
-use Rattle.line.specs.Run.{Way, scramble, descramble, runOf}
-use Rattle.line.proofs.Exactly.{scrambles-run, descrambles-run}
+use Rattle.recurrence.specs.Run.{Way, scramble, descramble, runOf}
+use Rattle.recurrence.proofs.Exactly.{scrambles-run, descrambles-run}
 use Rattle.ranges.specs.Ranges.{every}
 use Rattle.symbol.specs.Levels.{placeIn}
 use Rattle.symbol.specs.Encoder.{symbolsIn}
-use Rattle.host.specs.declared.supervisor.Supervisor.{Supervisor}
+use Rattle.host.specs.declared.supervising.Supervisor.{Supervisor}
 use Rattle.precoder.specs.Precoder.{exactSum}
 use Rattle.precoder.specs.Runs.{outputsOf}
 use Rattle.precoder.proofs.Back.{sent-unique, outputs-sent}

@@ -6,14 +6,14 @@ use mathlib.Core.List.{List, [], _∷_}
 use Prim.Native.Nat.{ℕ, suc}
 use lib.Dec.{eqb}
 use lib.ListN.{take}
-use Rattle.phases.specs.declared.Supervisor.{Supervisor as State}
-use Rattle.phases.specs.Step.{startOf}
+use Rattle.supervisor.specs.declared.Supervisor.{Supervisor as State}
+use Rattle.supervisor.specs.Step.{startOf}
 use Rattle.startup.specs.Attempts.{at, Card, card, meant}
 use Rattle.startup.specs.Three.{Reply, Make, stepsBy, phaseAt, replyTo, FirstShows, Follows, ours}
 use Rattle.startup.proofs.Three.{demand3}
-use Rattle.host.specs.declared.supervisor.Supervisor.{Supervisor}
-use Rattle.host.specs.declared.supervisor.Stepped.{Stepped}
-use Rattle.host.specs.Supervisor.{stateIn, stateOf}
+use Rattle.host.specs.declared.supervising.Supervisor.{Supervisor}
+use Rattle.host.specs.declared.supervising.Stepped.{Stepped}
+use Rattle.host.specs.Supervising.{stateIn, stateOf}
 use Rattle.demands.specs.Library.{Library}
 use Rattle.demands.specs.Contracts.{Keeps}
 use Rattle.demands.specs.Three.{Three, supervisor}

@@ -22,16 +22,16 @@ use Rattle.layout.specs.Refusals.{bitRefusals}
 use Rattle.layout.proofs.RoundTrip.{training-laid, training-answers, final-laid, final-answers, sound}
 use Rattle.numbers.specs.Promises.{numbersOf, numberOctets}
 use Rattle.scrambler.specs.Ends.{tapOf}
-use Rattle.line.specs.Run.{Way, scramble, descramble, runOf, afterOf}
+use Rattle.recurrence.specs.Run.{Way, scramble, descramble, runOf, afterOf}
 use Rattle.scrambler.specs.declared.Scrambler.{Scrambler}
 use Rattle.scrambler.proofs.Laws.{tap-range, run-sound, frame-sound}
-use Rattle.line.proofs.Exactly.{run-scrambles, run-descrambles, scrambled-state, descrambled-state}
+use Rattle.recurrence.proofs.Exactly.{run-scrambles, run-descrambles, scrambled-state, descrambled-state}
 use Rattle.symbol.specs.declared.Encoder.{Encoder}
 use Rattle.symbol.specs.Levels.{dataLevels, levelAt}
 use Rattle.symbol.proofs.Levels.{code-of-level}
 use Rattle.ranges.specs.Ranges.{every}
-use Rattle.signal.specs.Signal.{isSignal, pastAfter}
-use Rattle.signal.specs.Shaper.{Exactly}
+use Rattle.samples.specs.Samples.{isSignal, pastAfter}
+use Rattle.samples.specs.Shaper.{Exactly}
 use Rattle.ranges.proofs.Laws.{both}
 use Rattle.precoder.specs.Runs.{SendsAll, outputsOf, inputsOf}
 use Rattle.precoder.proofs.Signals.{receives-input}

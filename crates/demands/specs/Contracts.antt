@@ -3,13 +3,13 @@
 use mathlib.Core.List.{List}
 use Prim.Native.Nat.{ℕ}
 use lib.IntN.{ℤ}
-use Rattle.line.specs.Run.{Way}
+use Rattle.recurrence.specs.Run.{Way}
 use Rattle.checker.specs.Promises.{Checked}
 use Rattle.precoder.specs.Runs.{PrecodesRun, DecodesRun}
 use Rattle.host.specs.Frames.{FrameWritten, FrameRead}
 use Rattle.host.specs.Scrambling.{ScrambledRun, ScrambledFrame}
 use Rattle.host.specs.Symbols.{ActivationLevelGiven, DataLevelGiven, CodeGiven, SymbolEncoded, SymbolsEncoded, SampleShaped}
-use Rattle.host.specs.Supervisor.{Started, StateStepped, CodesRun}
+use Rattle.host.specs.Supervising.{Started, StateStepped, CodesRun}
 use Rattle.demands.specs.Library.{Library, WriteCall, ReadCall, RunCall, FrameCall, EncodeCall, EncodeRunCall, PrecodeCall, StartCall, StepCall, CodesCall}
 
 -- each function keeps the contract of the exported one

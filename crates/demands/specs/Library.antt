@@ -4,8 +4,8 @@ use mathlib.Core.List.{List}
 use Prim.Native.Nat.{ℕ}
 use lib.Ieee.{Float}
 use lib.IntN.{ℤ}
-use Rattle.line.specs.Run.{Way}
-use Rattle.host.specs.declared.supervisor.Supervisor.{Supervisor}
+use Rattle.recurrence.specs.Run.{Way}
+use Rattle.host.specs.declared.supervising.Supervisor.{Supervisor}
 
 -- what a call gives: the answer's number, every other number returned, and what the state and the lent memory that it may write hold afterwards
 pub record Outcome (N M : Type 0) : Type 0 where

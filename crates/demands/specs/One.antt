@@ -1,5 +1,5 @@
 -- DEMAND 1, over a library of any make. "Junk, short buffers, impossible numbers, reports out of turn: each call ends and answers with a number
--- of document 01's table. A refused call changes no lent memory and no state, and no caller has to check first."
+-- of SCOPE's table. A refused call changes no lent memory and no state, and no caller has to check first."
 use mathlib.Core.Path.{_≡_}
 use mathlib.Core.Bool.{true}
 use mathlib.Core.List.{List, _∷_}
@@ -8,21 +8,21 @@ use lib.Ieee.{binary32, ofBits}
 use lib.IntN.{pos}
 use Rattle.answer.specs.Answer.{Refusal, wrongLength, answer, inOrder}
 use Rattle.layout.specs.Refusals.{writeRefusals, checkRefusals}
-use Rattle.line.specs.Run.{Way}
+use Rattle.recurrence.specs.Run.{Way}
 use Rattle.scrambler.specs.Promises.{runRefusals, frameRefusals}
 use Rattle.numbers.specs.Promises.{numbersOf}
 use Rattle.symbol.specs.Levels.{activationTests, dataTests, backTests}
 use Rattle.symbol.specs.Encoder.{stepTests, runTests}
-use Rattle.signal.specs.Shaper.{shaperTests}
+use Rattle.samples.specs.Shaper.{shaperTests}
 use Rattle.precoder.specs.Runs.{runTests as precoderTests}
-use Rattle.phases.specs.Step.{startRefusals, stepRefusals, stateRefusals}
-use Rattle.host.specs.declared.supervisor.Supervisor.{Supervisor}
+use Rattle.supervisor.specs.Step.{startRefusals, stepRefusals, stateRefusals}
+use Rattle.host.specs.declared.supervising.Supervisor.{Supervisor}
 use Rattle.host.specs.Frames.{frameReadRefusals}
 use Rattle.host.specs.Symbols.{encoder}
-use Rattle.host.specs.Supervisor.{stateIn}
+use Rattle.host.specs.Supervising.{stateIn}
 use Rattle.demands.specs.Library.{Outcome, none, WriteCall, ReadCall, RunCall, FrameCall, EncodeCall, EncodeRunCall, PrecodeCall, Library}
 
--- a function answers by document 01's table: by these checks, what its memory holds before, and nothing in its other numbers
+-- a function answers by SCOPE's table: by these checks, what its memory holds before, and nothing in its other numbers
 pub record Answers {C N M : Type 0} (f : C → Outcome N M) (checks : C → List Refusal) (before : C → M) (nothing : N) : Type 0 where
   -- the number is one of the table
   pub in-table : (c : C) → f c .answer ≤ 8

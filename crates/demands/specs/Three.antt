@@ -5,7 +5,7 @@
 use mathlib.Core.List.{List}
 use Prim.Native.Nat.{ℕ, _≤_}
 use Rattle.startup.specs.Three.{Make, Demand3, Taken}
-use Rattle.host.specs.declared.supervisor.Supervisor.{Supervisor}
+use Rattle.host.specs.declared.supervising.Supervisor.{Supervisor}
 use Rattle.demands.specs.Library.{Library}
 
 -- THE DEMAND: for either end, every silence that a start takes, and every list

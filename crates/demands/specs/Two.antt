@@ -1,5 +1,5 @@
 -- DEMAND 2, over libraries of any make. "Frames, check bits, scrambling, symbol levels and precoded values are exactly those of ETSI TS 101 524-2
--- as document 01 sets them out. What one card writes or scrambles, the other gets back unchanged."
+-- as SCOPE sets them out. What one card writes or scrambles, the other gets back unchanged."
 use mathlib.Core.Path.{_≡_}
 use mathlib.Core.Bool.{true, false}
 use mathlib.Core.List.{List, _∷_, _++_}
@@ -13,19 +13,19 @@ use Rattle.layout.specs.Places.{wordA, wordB, vendor, check}
 use Rattle.layout.specs.Frame.{trainingSync, used, trainingBits, finalBits, fieldOf, messageOf, coefficientsOf}
 use Rattle.layout.specs.Refusals.{hasSync}
 use Rattle.numbers.specs.Promises.{numbersOf, numberOctets}
-use Rattle.line.specs.Line.{Scrambles, Descrambles, newest}
+use Rattle.recurrence.specs.Line.{Scrambles, Descrambles, newest}
 use Rattle.scrambler.specs.Ends.{tapOf}
-use Rattle.line.specs.Run.{scramble, descramble}
+use Rattle.recurrence.specs.Run.{scramble, descramble}
 use Rattle.symbol.specs.Levels.{activationLevels, dataLevels, levelAt, activationTests, dataTests}
 use Rattle.symbol.specs.Encoder.{codeOf, codesOf, x1, sentAfter, heldIn, registerOf}
 use Rattle.ranges.specs.Ranges.{every}
-use Rattle.signal.specs.Signal.{isSignal}
-use Rattle.signal.specs.Shaper.{Exactly, shaperTests}
+use Rattle.samples.specs.Samples.{isSignal}
+use Rattle.samples.specs.Shaper.{Exactly, shaperTests}
 use Rattle.precoder.specs.Runs.{SendsAll, pastAfterAll}
 use Rattle.demands.specs.Library.{Outcome, none, WriteCall, ReadCall, RunCall, FrameCall, EncodeCall, EncodeRunCall, PrecodeCall, Library}
 use Rattle.demands.specs.One.{writeChecks, readChecks, runChecks, frameChecks, encodeChecks, encodeRunChecks, precodeChecks}
 
--- no check of document 01's table applies
+-- no check of SCOPE's table applies
 abbrev pub Right : List Refusal → Type 0
 Right checks = answer checks ≡ 0
 

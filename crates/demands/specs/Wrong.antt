@@ -1,4 +1,4 @@
--- VERSIONS THAT HAVE TO BE REJECTED (document 01, "What the contracts owe"): what such a library or supervisor does. proofs/Refuted.antt shows that none meets its demand.
+-- VERSIONS THAT HAVE TO BE REJECTED (SCOPE, "What the contracts owe"): what such a library or supervisor does. proofs/Refuted.antt shows that none meets its demand.
 use mathlib.Core.Path.{_≡_}
 use mathlib.Core.List.{List, reverse}
 use Prim.Native.Nat.{ℕ, suc, _≤_, _<_}
@@ -6,7 +6,7 @@ use lib.ListN.{getD}
 use Rattle.octets.specs.Bits.{valueOf, bitsOf}
 use Rattle.layout.specs.Places.{wordA, wordB}
 use Rattle.layout.specs.Frame.{fieldOf}
-use Rattle.line.specs.Run.{Way, scramble}
+use Rattle.recurrence.specs.Run.{Way, scramble}
 use Rattle.startup.specs.Three.{Make}
 use Rattle.demands.specs.Library.{Outcome, WriteCall, ReadCall, RunCall, PrecodeCall, Library}
 

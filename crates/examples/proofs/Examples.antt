@@ -7,11 +7,11 @@ use Rattle.octets.specs.Bits.{digitsOf, valueOf, bitsOf, octetsOf}
 use Rattle.octets.specs.Signed.{twosOf, numberBits}
 use Rattle.remainder.specs.Register.{registerOf}
 use Rattle.layout.specs.Frame.{trainingSync, finalSync, message}
-use Rattle.line.specs.Run.{runOf}
+use Rattle.recurrence.specs.Run.{runOf}
 use Rattle.symbol.specs.Encoder.{onesLeft, sentAfter, codesOf}
-use Rattle.signal.specs.Signal.{isSignal}
-use Rattle.signal.specs.Shaper.{Exactly}
-use Rattle.signal.proofs.Rounding.{rounds-nearest}
+use Rattle.samples.specs.Samples.{isSignal}
+use Rattle.samples.specs.Shaper.{Exactly}
+use Rattle.samples.proofs.Rounding.{rounds-nearest}
 use Rattle.precoder.specs.Precoder.{exactSum, Sends}
 use Rattle.examples.specs.Table.{lowest, furthest, minusEighth, places, table, given, whole, levels, onesFrom, exponents, Claim, Hold}
 

@@ -1,4 +1,4 @@
--- The thirteen examples of document 01 ("Proved examples"): what is called, on what, and what is due. What is due is copied from document 01.
+-- The thirteen examples of SCOPE ("Proved examples"): what is called, on what, and what is due. What is due is copied from SCOPE.
 use mathlib.Core.Path.{_≡_}
 use mathlib.Core.Bool.{true}
 use mathlib.Core.List.{List, [], _∷_, _++_, map}
@@ -11,12 +11,12 @@ use Rattle.remainder.specs.Division.{checkBits, generator}
 use Rattle.remainder.specs.Register.{registerOf}
 use Rattle.layout.specs.Frame.{trainingSync, finalSync, message, checkOf}
 use Rattle.scrambler.specs.Ends.{tapOf}
-use Rattle.line.specs.Run.{scramble, runOf}
+use Rattle.recurrence.specs.Run.{scramble, runOf}
 use Rattle.symbol.specs.Levels.{levelAt, dataLevels}
 use Rattle.symbol.specs.Encoder.{codesOf, sentAfter, heldIn}
 use Rattle.symbol.specs.Encoder.{registerOf as encoderRegister}
-use Rattle.signal.specs.Signal.{nearest}
-use Rattle.signal.specs.Shaper.{Exactly}
+use Rattle.samples.specs.Samples.{nearest}
+use Rattle.samples.specs.Shaper.{Exactly}
 use Rattle.precoder.specs.Precoder.{exactSum, outputOf}
 
 -- what an example calls, and on what
@@ -76,7 +76,7 @@ given (encoded a b register symbols) =
 given (rounded cs past) = nearest (exactSum 180 cs past) ∷ []
 given (precoded cs past x) = outputOf cs past x ∷ []
 
--- a row: an example's number in document 01, what it calls and the numbers due; or y and the shaper's float due
+-- a row: an example's number in SCOPE, what it calls and the numbers due; or y and the shaper's float due
 pub data Row : Type 0 where
   row : ℕ → Call → List ℤ → Row
   shaped : ℕ → ℤ → Float → Row

@@ -3,7 +3,7 @@
 --     function     the MIR, with the key left open
 --     Reading      the contract of the function that is called
 --     meets        the MIR meets the contract, over any tables whose entries for the two functions called meet theirs
--- The borrow of the reader is opened; the function is called on the frame that it holds and its place; `words::behind` says the place behind, which is stored beside the frame; and
+-- The borrow of the reader is opened; the function is called on the frame that it holds and its place; `bitfields::behind` says the place behind, which is stored beside the frame; and
 -- the borrow is closed at the reader with that place. The struct is Copy: what it owns is had twice, and of one copy what the frame owns goes to the function called.
 -- Assumes nothing.
 use mathlib.Core.Path.{_≡_, refl, ap}
@@ -49,9 +49,9 @@ use denote.Triple.Spec.{Meets, tripleOf}
 use denote.Triple.Statement.{Contract, Triple}
 use denote.Triple.Walked.{says, Stays, stay-ref, stay-none, walkOf, goes-none, goes-ref, Walks, ends-at, walked, walk-meets}
 use denote.Exit.{yes}
-use Rattle.words.specs.Promises.{Behind}
-use Rattle.words.proofs.behind as behind
-use Rattle.words.proofs.behind.Symbol.{name as #words·behind}
+use Rattle.bitfields.specs.Promises.{Behind}
+use Rattle.bitfields.proofs.behind as behind
+use Rattle.bitfields.proofs.behind.Symbol.{name as #bitfields·behind}
 use Rattle.fields.specs.declared.FieldReader.{FieldReader}
 use Rattle.fields.proofs.FieldReader as T
 use Rattle.fields.proofs.FieldReader.Laws as T′
@@ -76,7 +76,7 @@ function read = record {
       (seq (assign (place 5 []) (rvOpd (copy (held 1))))
       (seq (call read (copy (place 4 []) ∷ copy (place 5 []) ∷ copy (place 2 []) ∷ []) (place 3 []))
       (seq (assign (place 6 []) (rvOpd (copy (held 1))))
-      (seq (call #words·behind (copy (place 6 []) ∷ copy (place 2 []) ∷ []) (place 5 []))
+      (seq (call #bitfields·behind (copy (place 6 []) ∷ copy (place 2 []) ∷ []) (place 5 []))
       (seq (assign (held 1) (rvOpd (copy (place 5 []))))
       (seq (assign (place 0 []) (rvOpd (copy (place 3 []))))
       return))))));
@@ -95,7 +95,7 @@ module _ (X : RattleType) (P : List ℕ → ℕ → ℕ → X .Denot → Type 0)
   abbrev pub Reading : {M : Type 1} (𝓤 : URA M) (H : Heap 𝓤) (A : Atoms 𝓤) → Contract 𝓤
   Reading 𝓤 H A = tripleOf 𝓤 H A readSignature (closing 𝓤 H A readEnded (readClauses 𝓤))
 
--- the contract of `words::behind`
+-- the contract of `bitfields::behind`
 abbrev pub Past : {M : Type 1} (𝓤 : URA M) (H : Heap 𝓤) (A : Atoms 𝓤) (at-mem : Memory → SProp 𝓤) (run : Routine → Fun 𝓤) → Contract 𝓤
 Past 𝓤 H A at-mem run = tripleOf 𝓤 H A behind.signature (behind.spec 𝓤 H A at-mem run)
 
@@ -171,7 +171,7 @@ module _ (X : RattleType) (P : List ℕ → ℕ → ℕ → X .Denot → Type 0)
   read-said : (v : X .Denot) → ent 𝓤 (ensured 𝓤 H A (readEnded X P) (readClauses X P 𝓤) (κ′, tt) (h .frame, (h .at, (w, tt))) tt v) (fact 𝓤 (P (now (h .frame)) (h .at) w v))
   read-said v = exE 𝓤 _ (λ ws. snd∗ 𝓤 (sem 𝓤 H A (lasts (readEnded X P) (κ′, tt) (h .frame, (h .at, (w, tt))) ws)) (fact 𝓤 (P (now (h .frame)) (h .at) w v)))
 
-  -- ---- `words::behind`
+  -- ---- `bitfields::behind`
   abbrev to-behind : Past 𝓤 H A at-mem run .Ghost
   to-behind = ((tt, tt, tt, (h .at, (w, tt)), (vint w64 (h .at) ∷ [], (vint w32 w ∷ [], tt))), tt)
 
@@ -199,7 +199,7 @@ module _ (X : RattleType) (P : List ℕ → ℕ → ℕ → X .Denot → Type 0)
       done !
 
   module _ (C : Calls 𝓤 H) (Λ : Loops 𝓤 H) (fm : FmC 𝓤 H (W .laws) C) (known-read : Triple 𝓤 (C read) (Reading X P 𝓤 H A))
-      (known-behind : Triple 𝓤 (C #words·behind) (Past 𝓤 H A at-mem run)) where
+      (known-behind : Triple 𝓤 (C #bitfields·behind) (Past 𝓤 H A at-mem run)) where
     walk : ent 𝓤 (onEntry 𝓤 H A (take.signature X P) (κ, (κ′, tt)) (q, (q′, tt)) a vals) (WpFn 𝓤 H C Λ (function read) (vptr b o ∷ vint w32 w ∷ []) Post)
     walk =
         qed W ((‵ (flft κ q) ⊛ ‵ (flft κ′ q′) ⊛ ‵ ftrue) ∷ ‵ (owns (MutRef (named 0) κ R ∷ u32 ∷ []) a vals) ∷ []) ∵ enter ! C Λ (function read) (vptr b o ∷ vint w32 w ∷ []) _ $
@@ -222,7 +222,7 @@ module _ (X : RattleType) (P : List ℕ → ℕ → ℕ → X .Denot → Type 0)
         -- [the value; 'a's token; what the struct owns; its cell; the open borrow; obs; auth; w's; _6; …; room for _0; …]
         peeks ! X (Is X) (shows 𝓤 H A X) v (u ∷ []) (λ is. land ! (from ! (stop !)) (init ! 14 refl (typed v u is)) $
         assigns ! (of-opd ! (load ! (from ! (hop ! (look ! 18 refl) (fld ! refl (stop !)))) (look-in ! 3 (sub ! 1 refl (whole !))))) (from ! (stop !)) (init ! 8 refl (tt, wt was .1 .1 .0)) $
-        -- `words::behind`
+        -- `bitfields::behind`
         use0 W (raw (Past 𝓤 H A at-mem run .pre to-behind)) (goes-behind (wt was .1 .1 .0 .fits)) $
         calls-at ! fm (Past 𝓤 H A at-mem run) known-behind to-behind (and-then ! (load ! (from ! (stop !)) (look ! 9 refl)) (and-then ! (load ! (from ! (stop !)) (look ! 17 refl)) (no-more !))) (λ u′.
         use1 W (later (some (λ (n : ℕ). (‵ ftrue ⊛ ‵ (usize .own n (u′ ∷ []))) ⊛ raw (ensured 𝓤 H A behind.ended (behind.clauses 𝓤 H A at-mem run) tt (h .at, (w, tt)) tt n)))) (id⊢ 𝓤 _) $
@@ -253,14 +253,14 @@ module _ (X : RattleType) (P : List ℕ → ℕ → ℕ → X .Denot → Type 0)
 module _ (X : RattleType) (P : List ℕ → ℕ → ℕ → X .Denot → Type 0)
     (typed : (v : X .Denot) (u : Val) → Is X v (u ∷ []) → Holds (hasTy (tyInt w32) u) × WT u) (read : Name) {M : Type 1} (𝓤 : URA M)
     (H : Heap 𝓤) (A : Atoms 𝓤) (W : Given 𝓤 H A) (mem : Memory → SProp 𝓤) (run : Routine → Fun 𝓤) where
-  walks : (C : Calls 𝓤 H) (Λ : Loops 𝓤 H) → FmC 𝓤 H (W .laws) C → Triple 𝓤 (C read) (Reading X P 𝓤 H A) → Triple 𝓤 (C #words·behind) (Past 𝓤 H A mem run)
+  walks : (C : Calls 𝓤 H) (Λ : Loops 𝓤 H) → FmC 𝓤 H (W .laws) C → Triple 𝓤 (C read) (Reading X P 𝓤 H A) → Triple 𝓤 (C #bitfields·behind) (Past 𝓤 H A mem run)
       → Walks 𝓤 H A (take.ended X P) (stayed X P) (WpFn 𝓤 H C Λ (function read)) (take.clauses X P 𝓤)
   walks C Λ fm known-read known-behind =
       walked 𝓤 H A (take.ended X P) (stayed X P) (take.clauses X P 𝓤) (WpFn 𝓤 H C Λ (function read)) (λ κs. (ptr-vals, (uint-vals w32, tt))) (λ κs. (mut-tells (named 0) (κs .0) (T.the-row (namedLft 2 1 tt κs)), (uint-tells w32, tt)))
       (λ κs qs bounds a g are. via 𝓤 _ (fst∗ 𝓤 _ (emp 𝓤)) (walk X P typed read 𝓤 H A W mem run (κs .0) (κs .1 .0) (qs .0) (qs .1 .0) bounds (a .0 .ptr .0) (a .0 .ptr .1) (a .0 .name) (a .0 .now) (a .1 .0) (are .1 .0 .1) C Λ fm known-read known-behind))
 
 pub meets : (X : RattleType) (P : List ℕ → ℕ → ℕ → X .Denot → Type 0) (typed : (v : X .Denot) (u : Val) → Is X v (u ∷ []) → Holds (hasTy (tyInt w32) u) × WT u) (read : Name) {M : Type 1} (𝓤 : URA M) (H : Heap 𝓤) (A : Atoms 𝓤) (W : Given 𝓤 H A) (mem : Memory → SProp 𝓤) (run : Routine → Fun 𝓤) (𝓣 : Tables 𝓤 H)
-    → Triple 𝓤 (𝓣 .C read) (Reading X P 𝓤 H A) → Triple 𝓤 (𝓣 .C #words·behind) (Past 𝓤 H A mem run)
+    → Triple 𝓤 (𝓣 .C read) (Reading X P 𝓤 H A) → Triple 𝓤 (𝓣 .C #bitfields·behind) (Past 𝓤 H A mem run)
     → Meets 𝓤 H A (take.signature X P) (WpFn 𝓤 H (𝓣 .C) (𝓣 .Λ) (function read)) (closing 𝓤 H A (take.ended X P) (take.clauses X P 𝓤))
 meets X P typed read 𝓤 H A W mem run 𝓣 known-read known-behind =
     walk-meets 𝓤 H A (take.ended X P) (stayed X P) W (goes-ref 𝓤 H A W 2 0 tt behind-ref, (goes-none 𝓤 H A W 2 (λ _. u32) yes (λ κs x f. refl), tt)) (take.clauses X P 𝓤) (WpFn 𝓤 H (𝓣 .C) (𝓣 .Λ) (function read))

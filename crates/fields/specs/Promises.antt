@@ -1,10 +1,10 @@
--- The field reader keeps the lent frame it walks and the place of the next field (document 01, "The activation frame"): what its functions promise.
+-- The field reader keeps the lent frame it walks and the place of the next field (SCOPE, "The activation frame"): what its functions promise.
 use mathlib.Core.Path.{_≡_}
 use mathlib.Core.List.{List}
 use Prim.Native.Nat.{ℕ}
 use lib.IntN.{ℤ}
 use denote.Ref.{RefT, now}
-use Rattle.words.specs.Promises.{FieldRead, SignedRead, behindOf}
+use Rattle.bitfields.specs.Promises.{FieldRead, SignedRead, behindOf}
 use Rattle.fields.specs.declared.FieldReader.{FieldReader}
 
 -- the reader behind a field of w bits: the same lent frame, and the place behind the field

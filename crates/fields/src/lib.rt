@@ -1,6 +1,6 @@
-// The field reader (document 01, "The activation frame"): it keeps the lent frame it walks and the place of the next field.
+// The field reader (SCOPE, "The activation frame"): it keeps the lent frame it walks and the place of the next field.
 // The borrow checker covers no function over such a struct, so those here are proved by hand and are thin: the work is
-// done by the slice-and-place functions of words.
+// done by the slice-and-place functions of bitfields.
 ghost use Rattle.fields.specs.Promises.{Made, FieldTaken, SignedTaken};
 
 // The lent frame, and the place of the next field.
@@ -21,8 +21,8 @@ impl<'a> FieldReader<'a> {
     pub fn take(&mut self, w: u32) -> u32
         ensures { λ v. ⌜ FieldTaken (now (self .entry)) w v (now (self .exit)) ⌝ }
     {
-        let v = words::field(self.frame, self.at, w);
-        self.at = words::behind(self.at, w);
+        let v = bitfields::field(self.frame, self.at, w);
+        self.at = bitfields::behind(self.at, w);
         v
     }
 
@@ -30,8 +30,8 @@ impl<'a> FieldReader<'a> {
     pub fn take_signed(&mut self, w: u32) -> i32
         ensures { λ v. ⌜ SignedTaken (now (self .entry)) w v (now (self .exit)) ⌝ }
     {
-        let v = words::signed_field(self.frame, self.at, w);
-        self.at = words::behind(self.at, w);
+        let v = bitfields::signed_field(self.frame, self.at, w);
+        self.at = bitfields::behind(self.at, w);
         v
     }
 }

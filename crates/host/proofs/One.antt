@@ -9,7 +9,7 @@ use Rattle.layout.specs.Refusals.{writeRefusals}
 use Rattle.numbers.specs.Promises.{numbersOf}
 use Rattle.writer.specs.Promises.{frameOctets}
 use Rattle.symbol.proofs.One.{activation-level-one, data-level-one, level-code-one, step-one, run-one}
-use Rattle.signal.proofs.One.{shaper-one}
+use Rattle.samples.proofs.One.{shaper-one}
 use Rattle.precoder.specs.Runs.{PrecodesRun, DecodesRun}
 use Rattle.precoder.proofs.One.{precode-run-one, decode-run-one}
 use Rattle.host.specs.declared.frames.FrameFields.{FrameFields}
@@ -18,13 +18,13 @@ use Rattle.host.specs.declared.symbols.Code.{Code}
 use Rattle.host.specs.declared.symbols.Encoded.{Encoded}
 use Rattle.host.specs.declared.symbols.EncodedRun.{EncodedRun}
 use Rattle.host.specs.declared.symbols.Shaped.{Shaped}
-use Rattle.host.specs.declared.supervisor.Supervisor.{Supervisor}
-use Rattle.host.specs.declared.supervisor.Stepped.{Stepped}
-use Rattle.host.specs.declared.supervisor.Run.{Run}
+use Rattle.host.specs.declared.supervising.Supervisor.{Supervisor}
+use Rattle.host.specs.declared.supervising.Stepped.{Stepped}
+use Rattle.host.specs.declared.supervising.Run.{Run}
 use Rattle.host.specs.Frames.{FrameWritten, FrameRead, frameReadRefusals}
 use Rattle.host.specs.Symbols.{ActivationLevelGiven, DataLevelGiven, CodeGiven, SymbolEncoded, SymbolsEncoded, SampleShaped, asLevel, encoder}
-use Rattle.host.specs.Supervisor.{Started, StateStepped, CodesRun}
-use Rattle.line.specs.Run.{Way}
+use Rattle.host.specs.Supervising.{Started, StateStepped, CodesRun}
+use Rattle.recurrence.specs.Run.{Way}
 use Rattle.scrambler.proofs.One.{run-one as scrambler-run-one, frame-one}
 use Rattle.host.specs.declared.scrambling.Scrambled.{Scrambled}
 use Rattle.host.specs.Scrambling.{crossing, ScrambledRun, ScrambledFrame}

@@ -1,4 +1,4 @@
 pub mod Frames
 pub mod Scrambling
 pub mod Symbols
-pub mod Supervisor
+pub mod Supervising

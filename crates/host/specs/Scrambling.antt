@@ -3,7 +3,7 @@ use mathlib.Core.Path.{_≡_}
 use mathlib.Core.List.{List}
 use Prim.Native.Nat.{ℕ}
 use Rattle.scrambler.specs.declared.Ran.{Ran}
-use Rattle.line.specs.Run.{Way}
+use Rattle.recurrence.specs.Run.{Way}
 use Rattle.scrambler.specs.Promises.{RunPromise, FramePromise}
 use Rattle.host.specs.declared.scrambling.Scrambled.{Scrambled}
 

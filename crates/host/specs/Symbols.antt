@@ -9,8 +9,8 @@ use Rattle.symbol.specs.declared.Step.{Step}
 use Rattle.symbol.specs.declared.Run.{Run}
 use Rattle.symbol.specs.Levels.{ActivationLevel, DataLevel, LevelCode}
 use Rattle.symbol.specs.Encoder.{Stepped, Ran}
-use Rattle.signal.specs.declared.Shaped.{Shaped as SignalShaped}
-use Rattle.signal.specs.Shaper.{Shapes}
+use Rattle.samples.specs.declared.Shaped.{Shaped as SignalShaped}
+use Rattle.samples.specs.Shaper.{Shapes}
 use Rattle.host.specs.declared.symbols.Level.{Level}
 use Rattle.host.specs.declared.symbols.Code.{Code}
 use Rattle.host.specs.declared.symbols.Encoded.{Encoded}

@@ -1,5 +1,5 @@
 // The C boundary: thin exports over the proved crates, declared for C in include/sdsl.h. Only numbers and octet slices cross.
 mod frames;
 mod scrambling;
-mod supervisor;
+mod supervising;
 mod symbols;

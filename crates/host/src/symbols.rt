@@ -140,7 +140,7 @@ pub extern "C" fn sdsl_decode(
 pub extern "C" fn sdsl_shaper(y: i32) -> Shaped
     ensures { λ r. ⌜ SampleShaped y r ⌝ }
 {
-    let shaped = signal::shaper(y);
+    let shaped = samples::shaper(y);
     Shaped {
         answer: shaped.answer,
         value: shaped.value,

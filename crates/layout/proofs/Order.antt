@@ -1,4 +1,4 @@
--- Checks run in the order of document 01's numbers. Assumes nothing.
+-- Checks run in the order of SCOPE's numbers. Assumes nothing.
 use mathlib.Core.Path.{_≡_, refl}
 use mathlib.Core.Bool.{true}
 use mathlib.Core.List.{List}

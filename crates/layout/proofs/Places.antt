@@ -1,4 +1,4 @@
--- The places of document 01's table, and that no two fields share a bit. Assumes nothing.
+-- The places of SCOPE's table, and that no two fields share a bit. Assumes nothing.
 use mathlib.Core.Path.{_≡_, refl}
 use mathlib.Core.List.{List, [], _∷_}
 use Prim.Native.Nat.{ℕ, zero, suc, _+_, _≤_, _<_, zero-le}

@@ -1,4 +1,4 @@
--- The activation frame as bits (document 01, "The activation frame"; 000, clause 4.1.3).
+-- The activation frame as bits (SCOPE, "The activation frame"; 000, clause 4.1.3).
 use mathlib.Core.List.{List, [], _∷_, _++_}
 use Prim.Native.Nat.{ℕ, _-_}
 use lib.IntN.{ℤ, pos}

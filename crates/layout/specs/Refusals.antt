@@ -1,4 +1,4 @@
--- What a writer and a reader of frames refuse, in the order of document 01's table.
+-- What a writer and a reader of frames refuse, in the order of SCOPE's table.
 use mathlib.Core.Bool.{Bool, not, _&&_, _||_}
 use mathlib.Core.List.{List, [], _∷_}
 use Prim.Native.Nat.{ℕ}

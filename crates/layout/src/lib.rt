@@ -1,4 +1,4 @@
-// The activation frame's measures (document 01, "The activation frame"). What they mean is in specs/; a field's place follows from the
+// The activation frame's measures (SCOPE, "The activation frame"). What they mean is in specs/; a field's place follows from the
 // widths before it.
 
 // A frame's octets.

@@ -1,4 +1,4 @@
-// The frame lister (document 01, "The bench listing"). The text is that of crate listing; here it is only read and written.
+// The frame lister (SCOPE, "The bench listing"). The text is that of crate listing; here it is only read and written.
 use libc::STDIN_FILENO;
 use libc::STDOUT_FILENO;
 

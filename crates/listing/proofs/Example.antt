@@ -1,4 +1,4 @@
--- Document 01's example: for octets 9F 35 and then 527 zeros the listing is the text that it gives. Computed.
+-- SCOPE's example: for octets 9F 35 and then 527 zeros the listing is the text that it gives. Computed.
 use mathlib.Core.Path.{_≡_, refl}
 use mathlib.Core.List.{_∷_}
 use lib.ListN.{replicate}
@@ -7,7 +7,7 @@ use Rattle.octets.specs.Signed.{signedOf, numbersIn}
 use Rattle.remainder.specs.Register.{registerOf}
 use Rattle.layout.specs.Frame.{trainingSync, finalSync}
 use Rattle.ascii.specs.Text.{text, decimalIn, decimal, signed, hex, hexes}
-use Rattle.used.specs.Used.{isZero, allZero, highest}
+use Rattle.highest.specs.Highest.{isZero, allZero, highest}
 use Rattle.listing.specs.Listing.{numberLine, coefficientLine, coefficientLines, vendorLine, checkLine, trainingText, finalText, listed, listing}
 
 pub example : listing (0x9F ∷ 0x35 ∷ replicate 527 0) ≡ text "kind training\ncoefficients 0\nA 0\nB 0\nvendor 00000000000000000000000000000000\ncheck 0000\n"

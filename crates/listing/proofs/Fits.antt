@@ -26,12 +26,12 @@ use Rattle.layout.proofs.Order.{check-order}
 use Rattle.reader.specs.Promises.{vendorOctets}
 use Rattle.ascii.specs.Text.{text, decimal, signed, hex}
 use Rattle.ascii.proofs.Numbers.{decimal-length, hexes-length}
-use Rattle.used.specs.Used.{highest}
+use Rattle.highest.specs.Highest.{highest}
 use Rattle.listing.specs.Listing.{numberLine, coefficientLine, coefficientLines, vendorLine, checkLine, trainingText, finalText, listed, listing}
 use Rattle.ascii.proofs.Room.{told-whole}
 use Rattle.listing.specs.Promises.{Listed}
 use Rattle.ranges.proofs.Laws.{both}
-use Rattle.used.proofs.Laws.{highest-within}
+use Rattle.highest.proofs.Laws.{highest-within}
 
 -- every number of a list has 22 bits
 abbrev Small : List ℤ → Type 0

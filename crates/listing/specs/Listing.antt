@@ -1,4 +1,4 @@
--- The bench listing (document 01): the text that the lister prints for the octets that it reads, line by line.
+-- The bench listing (SCOPE): the text that the lister prints for the octets that it reads, line by line.
 use mathlib.Core.Bool.{cond}
 use mathlib.Core.List.{List, [], _∷_, _++_}
 use Prim.Native.Nat.{ℕ, zero, suc, _/_, _%_}
@@ -12,7 +12,7 @@ use Rattle.layout.specs.Places.{wordA, wordB, check}
 use Rattle.layout.specs.Frame.{trainingSync, fieldOf, coefficientsOf}
 use Rattle.layout.specs.Refusals.{hasSync, checkRefusals}
 use Rattle.reader.specs.Promises.{vendorOctets}
-use Rattle.used.specs.Used.{highest}
+use Rattle.highest.specs.Highest.{highest}
 use Rattle.ascii.specs.Text.{text, decimal, signed, hex, hexes}
 
 -- a line that names a number: "A 0", "refused 7"

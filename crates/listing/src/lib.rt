@@ -1,4 +1,4 @@
-// The bench listing (document 01): a frame's text, put into a lent room. What the text is, is specs/Listing.antt.
+// The bench listing (SCOPE): a frame's text, put into a lent room. What the text is, is specs/Listing.antt.
 ghost use mathlib.Core.Path.{_≡_};
 ghost use mathlib.Core.List.{_∷_, [], _++_};
 ghost use Prim.Native.Nat.{_<_, _≤_};
@@ -64,7 +64,7 @@ fn put_training(room: &mut [u8], cs: &[i32], a: u32, b: u32, vendor: &[u8], chec
     requires { ⌜ (length (now cs) ≡ 180) × (check < 65536) ⌝ }
     ensures { λ r. ⌜ Put (now (room .entry)) 0 (trainingText (now (cs .entry)) a b (now (vendor .entry)) check) r (now (room .exit)) ⌝ }
 {
-    let n = used::highest(cs) as u32;
+    let n = highest::highest(cs) as u32;
     let mut at = forms::put_form(room, 0, b"kind training\ncoefficients #\n", &[n]);
     at = put_coefficient_lines(room, at, cs, n);
     at = forms::put_form(room, at, b"A #\nB #\n", &[a, b]);
@@ -91,8 +91,8 @@ fn put_refused(room: &mut [u8], n: u32) -> usize
 fn check_of(frame: &[u8]) -> u32
     ensures { λ r. ⌜ (r < 65536) × (length (now (frame .entry)) ≡ 529 → r ≡ polynomial (fieldOf check (bitsOf (now (frame .entry))))) ⌝ }
 {
-    let c1_lowest = words::field(frame, layout::CHECK_AT, layout::CHECK_BITS);
-    let c1_highest = words::turned(layout::CHECK_BITS, c1_lowest);
+    let c1_lowest = bitfields::field(frame, layout::CHECK_AT, layout::CHECK_BITS);
+    let c1_highest = bitfields::turned(layout::CHECK_BITS, c1_lowest);
     c1_highest
 }
 

@@ -1,4 +1,4 @@
-// Signed numbers as the card's host lends them: four octets each, low octet first, in two's complement (document 01, "The activation
+// Signed numbers as the card's host lends them: four octets each, low octet first, in two's complement (SCOPE, "The activation
 // frame").
 ghost use mathlib.Core.Path.{_≡_};
 ghost use Prim.Native.Nat.{_<_};

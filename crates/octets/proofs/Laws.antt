@@ -43,7 +43,7 @@ bits-at (o ∷ os) (suc j) k h l =
     ∙ getD-append-add (digitsOf 8 o) (bitsOf os) (j * 8 + k) 0
     ∙ bits-at os j k (le-of-suc-le-suc h) l
 
--- document 01: bit n has weight 2 to the power (n-1) mod 8 in octet (n-1)/8
+-- SCOPE: bit n has weight 2 to the power (n-1) mod 8 in octet (n-1)/8
 pub weight : (s : List ℕ) (n : ℕ) → 1 ≤ n → n ≤ 8 * length s → bitOf s (n - 1) ≡ getD s ((n - 1) / 8) 0 / 2 ^ ((n - 1) % 8) % 2
 weight s n h l =
     ap (λ (x : ℕ). getD (bitsOf s) x 0) (omega arith)

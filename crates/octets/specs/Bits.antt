@@ -1,4 +1,4 @@
--- Bits in octets (document 01, "The activation frame"): bit n has weight 2 to the power (n-1) mod 8 in octet (n-1)/8, whole part,
+-- Bits in octets (SCOPE, "The activation frame"): bit n has weight 2 to the power (n-1) mod 8 in octet (n-1)/8, whole part,
 -- octets counted from 0. Places count from 0 here: bit n of the paper stands at place n - 1. A bit is the number 0 or 1.
 use mathlib.Core.List.{List, [], _∷_, _++_}
 use Prim.Native.Nat.{ℕ, zero, suc, _+_, _*_, _/_, _%_}

@@ -1,4 +1,4 @@
-// Bits in octets (document 01, "The activation frame"): bit n of the paper stands at place n - 1, with weight 2 to the power
+// Bits in octets (SCOPE, "The activation frame"): bit n of the paper stands at place n - 1, with weight 2 to the power
 // (n-1) mod 8 in octet (n-1)/8. Every function takes every input: what lies past the end reads 0 and is not written.
 ghost use Rattle.octets.specs.Promises.{BitRead, BitPut, HasBit, Copied, Cleared, IsClear};
 

@@ -13,7 +13,7 @@ use Rattle.precoder.specs.declared.Precoded.{Precoded}
 use Rattle.precoder.specs.declared.Decoded.{Decoded}
 use Rattle.numbers.specs.Promises.{numbersOf, numberOctets}
 use Rattle.ranges.specs.Ranges.{every}
-use Rattle.signal.specs.Signal.{isSignal, pastAfter}
+use Rattle.samples.specs.Samples.{isSignal, pastAfter}
 use Rattle.precoder.specs.Precoder.{Sends, Receives, outputOf, either, Precodes, Decodes}
 use Rattle.precoder.specs.Runs.{pastAfterAll, SendsAll, outputsOf, inputsOf, lengthsRight, rangesRight, runTests, PrecodesRun, DecodesRun}
 use Rattle.ranges.proofs.Laws.{both, mag-at}

@@ -12,10 +12,10 @@ use mir.Syntax.{w32, w64}
 use mir.Val.{SFits}
 use mir.Facts.{sfits-widen}
 use Rattle.ranges.specs.Ranges.{isCoefficient, every}
-use Rattle.signal.specs.Signal.{isSignal}
+use Rattle.samples.specs.Samples.{isSignal}
 use Rattle.precoder.specs.Precoder.{exactSum}
-use Rattle.signal.proofs.Linear.{abs-is, abs-of, add-bal}
-use Rattle.signal.proofs.Rounding.{abs-fits}
+use Rattle.samples.proofs.Linear.{abs-is, abs-of, add-bal}
+use Rattle.samples.proofs.Rounding.{abs-fits}
 use Rattle.ranges.proofs.Laws.{mag-at}
 
 neg-abs : (n : ℕ) → natAbs (negℤ (pos n)) ≡ n

@@ -11,11 +11,11 @@ use mir.Val.{SFits}
 use Rattle.answer.specs.Answer.{refuse, answer}
 use Rattle.answer.proofs.Laws.{none}
 use Rattle.ranges.specs.Ranges.{isCoefficient, every}
-use Rattle.signal.specs.Signal.{isSignal, Rounds, Folds, nearest, pastAfter}
+use Rattle.samples.specs.Samples.{isSignal, Rounds, Folds, nearest, pastAfter}
 use Rattle.precoder.specs.Precoder.{exactSum, Sends, Receives, outputOf, inputOf, symbolTests, either}
-use Rattle.signal.proofs.Linear.{P-pos, N-pos, le-to, lt-to, eq-of, add-bal, sub-is, neg-P, neg-N, mul-P, mul-N, abs-is, abs-of, P-mag, N-mag, mag-of}
+use Rattle.samples.proofs.Linear.{P-pos, N-pos, le-to, lt-to, eq-of, add-bal, sub-is, neg-P, neg-N, mul-P, mul-N, abs-is, abs-of, P-mag, N-mag, mag-of}
 use Rattle.ranges.proofs.Laws.{every-take}
-use Rattle.signal.proofs.Rounding.{fold-bal, rounds-unique, folds-unique, rounds-nearest, folds-fold}
+use Rattle.samples.proofs.Rounding.{fold-bal, rounds-unique, folds-unique, rounds-nearest, folds-fold}
 
 -- ---- there and back
 

@@ -12,7 +12,7 @@ use lib.ListN.{length, getD, take, drop, drop-of-length-le}
 use lib.Seq.{take-all, length-take-le, drop-cons}
 use Rattle.numbers.specs.Promises.{numbersOf, numberOctets, withNumber}
 use Rattle.ranges.specs.Ranges.{isCoefficient, every}
-use Rattle.signal.specs.Signal.{isSignal, pastAfter}
+use Rattle.samples.specs.Samples.{isSignal, pastAfter}
 use Rattle.precoder.specs.Precoder.{outputOf, inputOf}
 use Rattle.precoder.specs.Runs.{pastAfterAll, outputsOf, inputsOf, lengthsRight, rangesRight}
 use Rattle.ranges.proofs.Laws.{both}

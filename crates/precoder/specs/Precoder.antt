@@ -7,7 +7,7 @@ use lib.IntN.{ℤ, pos, _+ℤ_, _-ℤ_, _*ℤ_}
 use lib.ListN.{getD}
 use Rattle.answer.specs.Answer.{Refusal, refuse, answer, held}
 use Rattle.ranges.specs.Ranges.{isCoefficient, every}
-use Rattle.signal.specs.Signal.{isSignal, Rounds, Folds, nearest, foldOf, pastAfter}
+use Rattle.samples.specs.Samples.{isSignal, Rounds, Folds, nearest, foldOf, pastAfter}
 use Rattle.precoder.specs.declared.Precoded.{Precoded}
 use Rattle.precoder.specs.declared.Decoded.{Decoded}
 

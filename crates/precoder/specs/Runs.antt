@@ -9,7 +9,7 @@ use lib.ListN.{length}
 use Rattle.answer.specs.Answer.{Refusal, refuse, answer, held}
 use Rattle.numbers.specs.Promises.{numbersOf, numberOctets}
 use Rattle.ranges.specs.Ranges.{isCoefficient, every}
-use Rattle.signal.specs.Signal.{isSignal, pastAfter}
+use Rattle.samples.specs.Samples.{isSignal, pastAfter}
 use Rattle.precoder.specs.Precoder.{Sends, outputOf, inputOf}
 
 -- the past after these outputs, first in time first

@@ -7,7 +7,7 @@ ghost use lib.ListN.{length};
 ghost use Rattle.answer.specs.Answer.{answer};
 ghost use Rattle.numbers.specs.Promises.{numbersOf, numberOctets};
 ghost use Rattle.ranges.specs.Ranges.{isCoefficient, every};
-ghost use Rattle.signal.specs.Signal.{isSignal, pastAfter};
+ghost use Rattle.samples.specs.Samples.{isSignal, pastAfter};
 ghost use Rattle.precoder.specs.Precoder.{exactSum, Sends, Receives, symbolTests, Precodes, Decodes};
 ghost use Rattle.precoder.specs.Runs.{pastAfterAll, outputsOf, inputsOf, lengthsRight, rangesRight, PrecodesRun, DecodesRun};
 
@@ -48,7 +48,7 @@ fn sum(coefficients: &[i32; 180], history: &[i32; 180]) -> i64
 fn checked(z: i32, coefficients: &[i32; 180], history: &[i32; 180]) -> u32
     ensures { λ r. ⌜ r ≡ answer (symbolTests (now (coefficients .entry)) (now (history .entry)) z) ⌝ }
 {
-    if !ranges::in_range(z, signal::LOWEST, signal::HIGHEST) {
+    if !ranges::in_range(z, samples::LOWEST, samples::HIGHEST) {
         return answer::RANGE;
     }
     if !ranges::all_in_range(
@@ -58,7 +58,7 @@ fn checked(z: i32, coefficients: &[i32; 180], history: &[i32; 180]) -> u32
     ) {
         return answer::RANGE;
     }
-    if !ranges::all_in_range(history, signal::LOWEST, signal::HIGHEST) {
+    if !ranges::all_in_range(history, samples::LOWEST, samples::HIGHEST) {
         return answer::RANGE;
     }
     answer::DONE
@@ -69,9 +69,9 @@ fn send(x: i32, coefficients: &[i32; 180], history: &mut [i32; 180]) -> i32
     requires { ⌜ (every isCoefficient (now coefficients) ≡ true) × (every isSignal (now history) ≡ true) ⌝ }
     ensures { λ r. ⌜ Sends (now (coefficients .entry)) (now (history .entry)) x r × (now (history .exit) ≡ pastAfter (now (history .entry)) r) ⌝ }
 {
-    let v = signal::rounded(sum(coefficients, history));
-    let y = signal::folded((x as i64) - v);
-    signal::shift(history, y);
+    let v = samples::rounded(sum(coefficients, history));
+    let y = samples::folded((x as i64) - v);
+    samples::shift(history, y);
     y
 }
 
@@ -80,9 +80,9 @@ fn receive(y: i32, coefficients: &[i32; 180], history: &mut [i32; 180]) -> i32
     requires { ⌜ (isSignal y ≡ true) × (every isCoefficient (now coefficients) ≡ true) × (every isSignal (now history) ≡ true) ⌝ }
     ensures { λ r. ⌜ Receives (now (coefficients .entry)) (now (history .entry)) y r × (now (history .exit) ≡ pastAfter (now (history .entry)) y) ⌝ }
 {
-    let v = signal::rounded(sum(coefficients, history));
-    let x = signal::folded((y as i64) + v);
-    signal::shift(history, y);
+    let v = samples::rounded(sum(coefficients, history));
+    let x = samples::folded((y as i64) + v);
+    samples::shift(history, y);
     x
 }
 
@@ -128,7 +128,11 @@ fn numbers_in_range(octets: &[u8]) -> bool
     let count = octets.len() / 4;
     let mut i = 0;
     while i < count {
-        if !ranges::in_range(numbers::number(octets, i), signal::LOWEST, signal::HIGHEST) {
+        if !ranges::in_range(
+            numbers::number(octets, i),
+            samples::LOWEST,
+            samples::HIGHEST,
+        ) {
             return false;
         }
         i += 1;
@@ -164,7 +168,7 @@ fn ranges_right(coefficients: &[i32; 180], history: &[i32; 180], symbols: &[u8])
     ) {
         return false;
     }
-    if !ranges::all_in_range(history, signal::LOWEST, signal::HIGHEST) {
+    if !ranges::all_in_range(history, samples::LOWEST, samples::HIGHEST) {
         return false;
     }
     numbers_in_range(symbols)

@@ -1,4 +1,4 @@
--- Ranges that the frame and the symbols share (document 01, "The activation frame"): of a coefficient, and of A and B.
+-- Ranges that the frame and the symbols share (SCOPE, "The activation frame"): of a coefficient, and of A and B.
 use mathlib.Core.Bool.{Bool, true, _&&_}
 use mathlib.Core.List.{List, [], _∷_}
 use Prim.Native.Nat.{ℕ}

@@ -1,4 +1,4 @@
-// Ranges that the frame and the symbols share (document 01): of a coefficient, of A and B; and whether numbers lie in a range.
+// Ranges that the frame and the symbols share (SCOPE): of a coefficient, of A and B; and whether numbers lie in a range.
 ghost use mathlib.Core.Path.{_≡_};
 ghost use Rattle.ranges.specs.Ranges.{between, every};
 

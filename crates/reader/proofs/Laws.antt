@@ -13,7 +13,7 @@ use Rattle.answer.specs.Answer.{answer}
 use Rattle.answer.proofs.Laws.{kept, given}
 use Rattle.octets.specs.Bits.{valueOf, bitsOf, octetsOf, part, laid}
 use Rattle.octets.proofs.Laws.{bits-length, laid-end}
-use Rattle.words.specs.Promises.{behindOf}
+use Rattle.bitfields.specs.Promises.{behindOf}
 use Rattle.walk.specs.declared.TakenPair.{TakenPair}
 use Rattle.walk.specs.Promises.{PairTaken, SignedFilled, signedFrom, behindAll}
 use Rattle.walk.proofs.Laws.{behind-all-is, signed-from}

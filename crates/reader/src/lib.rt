@@ -1,4 +1,4 @@
-// Reading an activation frame (document 01, "The activation frame").
+// Reading an activation frame (SCOPE, "The activation frame").
 ghost use mathlib.Core.Path.{_≡_};
 ghost use Rattle.reader.specs.Promises.{Read};
 

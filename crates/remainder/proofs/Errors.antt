@@ -145,7 +145,7 @@ one-flip-seen k g hk d o m c m′ c′ hm hc hc′ e e′ i l f a b =
     one-flip k g hk d o (m ++ c) i (append-bits m c hm hc) l (divisible k g m c hc e .0 a)
     (subst (λ (w : List ℕ). Multiple g (polynomial w)) f (divisible k g m′ c′ hc′ e′ .0 b))
 
--- ---- the generator of document 01
+-- ---- the generator of SCOPE
 
 pub generator-degree : Degree generator 16
 generator-degree = record { reached = lib.Dec.lit≤ tt; within = lib.Dec.lit< tt }

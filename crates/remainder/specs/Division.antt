@@ -1,4 +1,4 @@
--- Check bits (document 01): the remainder of bits as a polynomial, the first highest, times D^k, divided by a generator of degree k.
+-- Check bits (SCOPE): the remainder of bits as a polynomial, the first highest, times D^k, divided by a generator of degree k.
 -- A polynomial over GF(2) is the number whose binary digit k is the coefficient of D^k: the sum of two is `bitXor`, and the product
 -- by D^k is `* 2 ^ k`.
 use mathlib.Core.Path.{_≡_}

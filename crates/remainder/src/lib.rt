@@ -1,4 +1,4 @@
-// Check bits: the remainder of a polynomial division over GF(2) (document 01, "The activation frame"; 000, clause 4.1.3).
+// Check bits: the remainder of a polynomial division over GF(2) (SCOPE, "The activation frame"; 000, clause 4.1.3).
 ghost use mathlib.Core.Path.{_≡_};
 ghost use mathlib.Core.Logic.{_⊎_};
 ghost use mathlib.Core.List.{reverse};
@@ -65,14 +65,14 @@ fn by_words(register: u32, s: &[u8], at: usize, count: u32) -> u32
     requires { ⌜ (register < 2 ^ 16) × ((count ≡ 0) ⊎ ((at + 32 * count < 2 ^ 64) × (at + 32 * count ≤ 8 * length (now s)))) ⌝ }
     ensures { λ r. ⌜ r ≡ registerOf 16 generator register (part at (32 * count) (bitsOf (now (s .entry)))) ⌝ }
 {
-    let mut turned = words::turned(DEGREE, register);
+    let mut turned = bitfields::turned(DEGREE, register);
     let mut k: u32 = 0;
     while k < count {
-        let bits = words::field(s, at + (WORD as usize) * (k as usize), WORD);
+        let bits = bitfields::field(s, at + (WORD as usize) * (k as usize), WORD);
         turned = word_step(turned, bits);
         k += 1;
     }
-    words::turned(DEGREE, turned)
+    bitfields::turned(DEGREE, turned)
 }
 
 // The register after the bits from the one `from` places behind place `at` on, up to n places behind it. Nothing past the end counts.

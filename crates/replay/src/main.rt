@@ -1,5 +1,5 @@
 // The start-up replayer: tells the story of a log on standard input. What a line says is crate log's, what happened crate story's,
-// and its text crate telling's; here they are only read, looped over and written.
+// and its text crate storytext's; here they are only read, looped over and written.
 //
 //     replay ltu|ntu [SILENCE] < LOG
 ghost use mathlib.Core.Path.{_≡_};
@@ -9,35 +9,35 @@ ghost use Rattle.replay.specs.Replay.{followed, linesOf, endingFrom};
 use libc::STDIN_FILENO;
 use libc::STDOUT_FILENO;
 use log::Line;
-use phases::Supervisor;
 use story::Event;
 use story::Story;
 use story::kind;
+use supervisor::Supervisor;
 
 // The most octets that a log may have.
 const MOST: usize = 1048576;
 
-// Writes the line of an event, unless there is nothing to tell. 192 octets are room for every line (telling's theorems on what fits).
+// Writes the line of an event, unless there is nothing to tell. 192 octets are room for every line (storytext's theorems on what fits).
 fn tell(event: Event) {
     if event.kind == kind::NOTHING {
         return;
     }
     let mut room = [0u8; 192];
-    let n = telling::put_event(&mut room, event);
+    let n = storytext::put_event(&mut room, event);
     io::write_all(STDOUT_FILENO, &room[..n]);
 }
 
 // Writes the line of the log's end.
 fn tell_end(story: Story) {
     let mut room = [0u8; 192];
-    let n = telling::put_end(&mut room, story);
+    let n = storytext::put_end(&mut room, story);
     io::write_all(STDOUT_FILENO, &room[..n]);
 }
 
 // Writes the line of a refusal.
 fn tell_refused(answer: u32, line: u32) {
     let mut room = [0u8; 192];
-    let n = telling::put_refused(&mut room, answer, line);
+    let n = storytext::put_refused(&mut room, answer, line);
     io::write_all(STDOUT_FILENO, &room[..n]);
 }
 

@@ -12,11 +12,11 @@ use Rattle.octets.proofs.Fields.{part-is}
 use Rattle.layout.specs.Places.{pad}
 use Rattle.layout.specs.Frame.{fieldOf}
 use Rattle.scrambler.specs.Ends.{tapOf}
-use Rattle.line.specs.Run.{scramble, descramble, runOf, afterOf}
+use Rattle.recurrence.specs.Run.{scramble, descramble, runOf, afterOf}
 use Rattle.scrambler.specs.Promises.{clocked, frameOut}
 use Rattle.scrambler.specs.declared.Scrambler.{Scrambler}
-use Rattle.line.proofs.Laws.{run-length, run-bits}
-use Rattle.line.proofs.Exactly.{back}
+use Rattle.recurrence.proofs.Laws.{run-length, run-bits}
+use Rattle.recurrence.proofs.Exactly.{back}
 
 module _ (x : Scrambler) (frame : List ℕ) (l : length frame ≡ 529) (o : Octets frame) (p : valueOf (fieldOf pad (bitsOf frame)) ≡ 0) where
   abbrev B : List ℕ

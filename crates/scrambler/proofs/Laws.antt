@@ -13,12 +13,12 @@ use Rattle.answer.proofs.Laws.{none, kept, given, refused, passed}
 use Rattle.octets.specs.Bits.{bitsOf, octetsOf, part, laid}
 use Rattle.octets.proofs.Digits.{append-bits, take-bits}
 use Rattle.octets.proofs.Laws.{bits-length, bits-bits, laid-next, laid-end}
-use Rattle.line.specs.Run.{Way, outOf, nextOf, runOf}
-use Rattle.line.specs.Promises as OnLine
-use Rattle.line.specs.declared.Stepped.{Stepped}
-use Rattle.line.specs.declared.Ran.{Ran}
-use Rattle.line.proofs.Answers.{run-complete, run-given}
-use Rattle.line.proofs.Laws.{run-length, run-bits}
+use Rattle.recurrence.specs.Run.{Way, outOf, nextOf, runOf}
+use Rattle.recurrence.specs.Promises as OnLine
+use Rattle.recurrence.specs.declared.Stepped.{Stepped}
+use Rattle.recurrence.specs.declared.Ran.{Ran}
+use Rattle.recurrence.proofs.Answers.{run-complete, run-given}
+use Rattle.recurrence.proofs.Laws.{run-length, run-bits}
 use Rattle.scrambler.specs.Ends.{tapOf}
 use Rattle.scrambler.specs.Promises.{stepRefusals, StepPromise, runRefusals, RunPromise, frameRefusals, clocked, frameOut, FramePromise}
 use Rattle.scrambler.specs.declared.Scrambler.{Scrambler}

@@ -6,7 +6,7 @@ use Prim.Native.Nat.{ℕ}
 use Rattle.answer.specs.Answer.{held, inOrder}
 use Rattle.octets.specs.Bits.{bitsOf, part, laid}
 use Rattle.scrambler.specs.Ends.{tapOf}
-use Rattle.line.specs.Run.{Way, runOf, afterOf}
+use Rattle.recurrence.specs.Run.{Way, runOf, afterOf}
 use Rattle.scrambler.specs.declared.Scrambler.{Scrambler}
 use Rattle.scrambler.specs.declared.Step.{Step}
 use Rattle.scrambler.specs.declared.Ran.{Ran}

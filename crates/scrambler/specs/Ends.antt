@@ -1,4 +1,4 @@
--- The two ends (document 01, "Scrambler").
+-- The two ends (SCOPE, "Scrambler").
 use mathlib.Core.Bool.{cond}
 use Prim.Native.Nat.{ℕ}
 use lib.Dec.{eqb}

@@ -10,8 +10,8 @@ use Rattle.octets.specs.Bits.{valueOf, bitsOf, octetsOf, part, laid}
 use Rattle.layout.specs.Places.{pad}
 use Rattle.layout.specs.Frame.{fieldOf}
 use Rattle.scrambler.specs.Ends.{tapOf}
-use Rattle.line.specs.Promises.{wideState}
-use Rattle.line.specs.Run.{Way, outOf, nextOf, runOf, afterOf}
+use Rattle.recurrence.specs.Promises.{wideState}
+use Rattle.recurrence.specs.Run.{Way, outOf, nextOf, runOf, afterOf}
 use Rattle.scrambler.specs.declared.Scrambler.{Scrambler}
 use Rattle.scrambler.specs.declared.Step.{Step}
 use Rattle.scrambler.specs.declared.Ran.{Ran}

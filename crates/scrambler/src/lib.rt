@@ -1,7 +1,7 @@
-// The scrambler (document 01, "Scrambler"; 002, clause 7.1.6): an end's tap and state; a bit at a time, runs of bits and whole frames; and back.
+// The scrambler (SCOPE, "Scrambler"; 002, clause 7.1.6): an end's tap and state; a bit at a time, runs of bits and whole frames; and back.
 ghost use mathlib.Core.Path.{_≡_};
 ghost use Rattle.answer.specs.Answer.{answer};
-ghost use Rattle.line.specs.Run.{scramble, descramble, wayOf};
+ghost use Rattle.recurrence.specs.Run.{scramble, descramble, wayOf};
 ghost use Rattle.scrambler.specs.Ends.{tapOf};
 ghost use Rattle.scrambler.specs.Promises.{StartPromise, StepPromise, runRefusals, RunPromise, frameRefusals, FramePromise};
 
@@ -53,7 +53,7 @@ impl Scrambler {
     pub const NTU_START: u32 = 0;
 
     // States are the numbers below 2^23.
-    pub const STATES: u32 = line::STATES;
+    pub const STATES: u32 = recurrence::STATES;
 
     // An end's scrambler at its start.
     pub fn start(end: u32) -> Ran
@@ -93,7 +93,7 @@ impl Scrambler {
                 next: self,
             };
         }
-        let s = line::step(back, tap(end), self.state, bit);
+        let s = recurrence::step(back, tap(end), self.state, bit);
         Step {
             answer: s.answer,
             bit: s.bit,
@@ -151,7 +151,7 @@ impl Scrambler {
         let end = self.end;
         let state = self.state;
         let t = tap(end);
-        let ran = line::run(back, t, state, input, 0, bits, output);
+        let ran = recurrence::run(back, t, state, input, 0, bits, output);
         Ran {
             answer: ran.answer,
             next: Scrambler {
@@ -212,7 +212,7 @@ impl Scrambler {
         let state = self.state;
         let t = tap(end);
         octets::copy(output, 0, frame, 0, layout::SYNC_BITS);
-        let ran = line::run(back, t, state, frame, layout::SYNC_BITS, CLOCKED, output);
+        let ran = recurrence::run(back, t, state, frame, layout::SYNC_BITS, CLOCKED, output);
         octets::clear(output, layout::PAD_AT, layout::PAD_BITS);
         Ran {
             answer: ran.answer,

@@ -1,5 +1,5 @@
 // The sorter: `sorter [--like FILE] FILE...`. A line for each card's frame, then the totals. What a frame is found to be is crate verdict's, the
-// texts are those of sorting and tally; here files are only read and texts written.
+// texts are those of cardline and totals; here files are only read and texts written.
 use libc::STDERR_FILENO;
 use libc::STDOUT_FILENO;
 ghost use Prim.Native.Nat.{_+_, _≤_, _<_};
@@ -60,7 +60,7 @@ fn look(name: &[u8], customer: verdict::Customer) -> verdict::Verdict {
 // Writes a card's line: a name of at most 4,096 octets leaves room for the rest.
 fn tell(fd: i32, name: &[u8], v: verdict::Verdict) {
     let mut room = [0u8; 8192];
-    let n = sorting::line(name, v, &mut room);
+    let n = cardline::line(name, v, &mut room);
     if fd == STDOUT_FILENO {
         say(&room[..n]);
         return;
@@ -117,14 +117,14 @@ fn is_shown(cards: usize) -> bool {
 // Writes the line above the cards' lines.
 fn head(given: bool) {
     let mut room = [0u8; 128];
-    let n = sorting::header(given, &mut room);
+    let n = cardline::header(given, &mut room);
     say(&room[..n]);
 }
 
 // Writes the totals.
 fn total(given: bool, answers: &[u32], alikes: &[u32], blikes: &[u32]) {
     let mut room = [0u8; 1024];
-    let n = tally::totals(given, answers, alikes, blikes, &mut room);
+    let n = totals::totals(given, answers, alikes, blikes, &mut room);
     say(&room[..n]);
 }
 

@@ -11,10 +11,10 @@ use lib.Dec.{ltb, eqb}
 use lib.ListN.{length, take, drop}
 use Rattle.answer.specs.Answer.{answer}
 use Rattle.answer.proofs.Laws.{given}
-use Rattle.phases.specs.declared.Supervisor.{Supervisor}
-use Rattle.phases.specs.Phases.{inAttempt}
-use Rattle.phases.specs.Step.{stateRefusals, stepOf, fresh}
-use Rattle.phases.proofs.Laws.{by-cases, clash}
+use Rattle.supervisor.specs.declared.Supervisor.{Supervisor}
+use Rattle.supervisor.specs.Phases.{inAttempt}
+use Rattle.supervisor.specs.Step.{stateRefusals, stepOf, fresh}
+use Rattle.supervisor.proofs.Laws.{by-cases, clash}
 use Rattle.startup.specs.declared.Run.{Run}
 use Rattle.startup.specs.Attempts.{at, one, Card, card, meant, OpensAt}
 use Rattle.startup.specs.Three.{steps, after, Taken}

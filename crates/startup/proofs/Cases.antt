@@ -1,4 +1,4 @@
--- Some lists, by computation: the definitions are not empty, and the two tests at the 15,000th tick come out as document 01 says. Assumes nothing.
+-- Some lists, by computation: the definitions are not empty, and the two tests at the 15,000th tick come out as SCOPE says. Assumes nothing.
 use Prim.Native.Nat.{ℕ, zero, suc, pred, _+_, _-_, _<_}
 use native.Mathlib.Numerals.{unary-clauses}
 use native.Mathlib.Omega.{arith}

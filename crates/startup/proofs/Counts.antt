@@ -9,7 +9,7 @@ use mathlib.Core.List.{List, [], _∷_}
 use mathlib.Core.Bool.{Bool, true, false, false≢true, _&&_}
 use borrow.Author.Tests.{leb-true, leb-false, le-leb}
 use lib.Dec.{leb, eqb}
-use Rattle.phases.proofs.Laws.{by-cases, clash}
+use Rattle.supervisor.proofs.Laws.{by-cases, clash}
 use Rattle.startup.specs.Attempts.{at, one, upto, count, Need, heard, shown, Completes, InOrder}
 
 -- COUNTS

@@ -8,7 +8,7 @@ use mathlib.Core.Logic.{_⊎_, inl, inr, ⊎-elim}
 use mathlib.Core.List.{List}
 use borrow.Author.Tests.{leb-true, leb-false, eq-eqb, eqb-true}
 use lib.Dec.{leb, eqb}
-use Rattle.phases.proofs.Laws.{by-cases, clash}
+use Rattle.supervisor.proofs.Laws.{by-cases, clash}
 use Rattle.startup.specs.Attempts.{at, count, InOrder, Card, all, Uncut, StillOpen, EndsInData, EndsInException, OpensAt, opens, FailsAt, abnormal, late}
 use Rattle.startup.proofs.Counts.{upto-mono, calm-more, calm-last, calm-less, count-self, in-order-le, in-order-once}
 use Rattle.startup.proofs.History.{begun, Now, find, not-all}

@@ -6,7 +6,7 @@ use mathlib.Core.Path.{_≡_, refl, subst}
 use mathlib.Core.Logic.{_⊎_, inl, inr}
 use mathlib.Core.List.{List, [], _∷_}
 use mathlib.Core.Bool.{false}
-use Rattle.phases.proofs.Laws.{by-cases}
+use Rattle.supervisor.proofs.Laws.{by-cases}
 use Rattle.startup.specs.Attempts.{Need, shown, Completes, InOrder, Card, all}
 use Rattle.startup.proofs.Counts.{completes-after, completes-once, first-shown, in-order-le}
 

@@ -2,7 +2,7 @@
 use Prim.Native.Nat.{ℕ}
 use mathlib.Core.Path.{_≡_, sym, _∙_}
 use mathlib.Core.List.{List}
-use Rattle.phases.specs.declared.Supervisor.{Supervisor}
+use Rattle.supervisor.specs.declared.Supervisor.{Supervisor}
 use Rattle.startup.specs.declared.Run.{Run}
 use Rattle.startup.specs.Run.{eventOf, runOf}
 

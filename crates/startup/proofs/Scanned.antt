@@ -6,7 +6,7 @@ use mathlib.Core.List.{List, [], _∷_}
 use mathlib.Core.Bool.{Bool, true, false, cond, _&&_}
 use borrow.Author.Tests.{leb-true, leb-false, le-leb, lt-leb, eq-eqb, ne-eqb}
 use lib.Dec.{leb, eqb}
-use Rattle.phases.proofs.Laws.{by-cases}
+use Rattle.supervisor.proofs.Laws.{by-cases}
 use Rattle.startup.specs.Attempts.{at, one, count, Need, need, heard, shown, Card, Uncut}
 use Rattle.startup.specs.Scan.{without, less, empty, nothing, Stand, ready, told, trying, settled, silent, onward, scanned}
 use Rattle.startup.proofs.Counts.{count-step, count-self}

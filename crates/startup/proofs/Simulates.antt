@@ -8,10 +8,10 @@ use borrow.Author.Tests.{leb-true, leb-false, lt-leb, le-ltb}
 use lib.Dec.{leb, eqb, leb·zero}
 use lib.ListN.{take}
 use Rattle.answer.specs.Answer.{answer}
-use Rattle.phases.specs.declared.Supervisor.{Supervisor}
-use Rattle.phases.specs.Phases.{Ready, Gap, Await, Cr, Hearing, Quiet, Sc, Sr, Tc, Tr, Fc, Settling, Valid, Exception, row, phasesOf, isOf, inAttempt, counts}
-use Rattle.phases.specs.Step.{among, acted, moved, stateRefusals, stepOf, fresh}
-use Rattle.phases.proofs.Laws.{by-cases}
+use Rattle.supervisor.specs.declared.Supervisor.{Supervisor}
+use Rattle.supervisor.specs.Phases.{Ready, Gap, Await, Cr, Hearing, Quiet, Sc, Sr, Tc, Tr, Fc, Settling, Valid, Exception, row, phasesOf, isOf, inAttempt, counts}
+use Rattle.supervisor.specs.Step.{among, acted, moved, stateRefusals, stepOf, fresh}
+use Rattle.supervisor.proofs.Laws.{by-cases}
 use Rattle.startup.specs.Attempts.{at, one, count, Need, need, shown, Card, ntu as ntuCard, ltu as ltuCard, all, Uncut}
 use Rattle.startup.specs.Three.{steps}
 use Rattle.startup.proofs.Counts.{upto-mono, count-self, count-mono, count-step}

@@ -9,11 +9,11 @@ use mathlib.Core.Bool.{Bool, true, false, cond, and-true}
 use borrow.Author.Tests.{leb-true, leb-false, le-ltb, lt-ltb, ne-eqb}
 use lib.Dec.{leb, eqb}
 use Rattle.answer.specs.Answer.{answer}
-use Rattle.phases.specs.declared.Supervisor.{Supervisor}
-use Rattle.phases.specs.declared.Answer.{Answer}
-use Rattle.phases.specs.Phases.{Ready, Gap, Await, Cr, Hearing, Settling, Valid, Exception, phasesOf, isOf, inAttempt}
-use Rattle.phases.specs.Step.{moved, stateRefusals, answered as answeredOf, stepOf, fresh, startOf}
-use Rattle.phases.proofs.Laws.{by-cases, clash}
+use Rattle.supervisor.specs.declared.Supervisor.{Supervisor}
+use Rattle.supervisor.specs.declared.Answer.{Answer}
+use Rattle.supervisor.specs.Phases.{Ready, Gap, Await, Cr, Hearing, Settling, Valid, Exception, phasesOf, isOf, inAttempt}
+use Rattle.supervisor.specs.Step.{moved, stateRefusals, answered as answeredOf, stepOf, fresh, startOf}
+use Rattle.supervisor.proofs.Laws.{by-cases, clash}
 use Rattle.startup.specs.Attempts.{at, one, count, Need, shown, Card, card, meant, all, StillOpen, EndsInData, EndsInException, OpensAt}
 use Rattle.startup.specs.Three.{after, answerTo, FirstShows, Follows, Demand3, Taken, ours}
 use Rattle.startup.proofs.Counts.{count-self, shown-less}

@@ -10,8 +10,8 @@ use lib.ListN.{length, getD, drop, drop-of-length-le}
 use lib.Seq.{drop-cons}
 use Rattle.answer.specs.Answer.{answer}
 use Rattle.answer.proofs.Laws.{kept, given}
-use Rattle.phases.specs.declared.Supervisor.{Supervisor}
-use Rattle.phases.specs.Step.{stateRefusals, stepOf}
+use Rattle.supervisor.specs.declared.Supervisor.{Supervisor}
+use Rattle.supervisor.specs.Step.{stateRefusals, stepOf}
 use Rattle.startup.specs.declared.Run.{Run}
 use Rattle.startup.specs.Run.{eventOf, goesOn, opens, ends, takenOf, runFrom, begun, runOf}
 

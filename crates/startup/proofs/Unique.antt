@@ -8,7 +8,7 @@ use mathlib.Core.List.{List, [], _∷_}
 use mathlib.Core.Bool.{Bool, true, false, cond}
 use borrow.Author.Tests.{leb-true, leb-false, le-leb, lt-leb, eq-eqb, eqb-true}
 use lib.Dec.{leb, eqb}
-use Rattle.phases.proofs.Laws.{clash}
+use Rattle.supervisor.proofs.Laws.{clash}
 use Rattle.startup.specs.Attempts.{at, count, Need, shown, Completes, InOrder, Card, all, Uncut, ReadyAt, fresh, rested, ToldAt, told, OpensAt, opens, FailsAt, abnormal, late}
 use Rattle.startup.proofs.Counts.{calm-more, calm-less, calm-last, count-self, count-mono, shown-less, in-order-le}
 use Rattle.startup.proofs.History.{Reached, begun, went, Real, AllReal, reached-le, whole-from, last, find, not-all}

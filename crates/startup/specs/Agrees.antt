@@ -3,8 +3,8 @@ use Prim.Native.Nat.{ℕ}
 use mathlib.Core.Path.{_≡_}
 use mathlib.Core.List.{List, [], _∷_}
 use lib.ListN.{length}
-use Rattle.phases.specs.declared.Supervisor.{Supervisor}
-use Rattle.phases.specs.Step.{startOf}
+use Rattle.supervisor.specs.declared.Supervisor.{Supervisor}
+use Rattle.supervisor.specs.Step.{startOf}
 use Rattle.startup.specs.declared.Run.{Run}
 use Rattle.startup.specs.Attempts.{card, meant}
 use Rattle.startup.specs.Three.{steps}

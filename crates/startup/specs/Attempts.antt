@@ -1,4 +1,4 @@
--- Demand 3 over the list: by the places of ticks and reports in it, from document 01's own numbers. Nothing here runs a step or knows a phase.
+-- Demand 3 over the list: by the places of ticks and reports in it, from SCOPE's own numbers. Nothing here runs a step or knows a phase.
 -- Places are counted from 0. At the moment n the first n codes have come: the code at the place p comes between the moments p and suc p.
 use Prim.Native.Nat.{ℕ, zero, suc, _+_, _-_, _≤_, _<_}
 use mathlib.Core.Path.{_≡_}

@@ -4,9 +4,9 @@ use mathlib.Core.Bool.{cond, not, _&&_}
 use mathlib.Core.List.{List, [], _∷_}
 use lib.Dec.{eqb, ltb}
 use Rattle.answer.specs.Answer.{answer, held}
-use Rattle.phases.specs.declared.Supervisor.{Supervisor}
-use Rattle.phases.specs.Phases.{Settling, inAttempt}
-use Rattle.phases.specs.Step.{stateRefusals, stepOf}
+use Rattle.supervisor.specs.declared.Supervisor.{Supervisor}
+use Rattle.supervisor.specs.Phases.{Settling, inAttempt}
+use Rattle.supervisor.specs.Step.{stateRefusals, stepOf}
 use Rattle.startup.specs.declared.Run.{Run}
 
 -- what a change from one phase to another does to an attempt: 1 opens it, 2 ends it in data mode, 3 in the exception state, 0 none of these

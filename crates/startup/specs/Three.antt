@@ -7,9 +7,9 @@ use mathlib.Core.Logic.{_⊎_, _↔_}
 use mathlib.Core.List.{List, [], _∷_}
 use lib.Dec.{eqb}
 use lib.ListN.{take}
-use Rattle.phases.specs.declared.Supervisor.{Supervisor}
-use Rattle.phases.specs.declared.Answer.{Answer}
-use Rattle.phases.specs.Step.{startOf, stepOf}
+use Rattle.supervisor.specs.declared.Supervisor.{Supervisor}
+use Rattle.supervisor.specs.declared.Answer.{Answer}
+use Rattle.supervisor.specs.Step.{startOf, stepOf}
 use Rattle.startup.specs.Attempts.{at, count, Card, card, meant, StillOpen, EndsInData, EndsInException, OpensAt}
 
 -- what a step gives: the answer's number, the phase, in an attempt the ticks since its opening, and the next state

@@ -2,9 +2,9 @@
 ghost use mathlib.Core.Path.{_≡_};
 ghost use Prim.Native.Nat.{_-_, _^_, _<_};
 ghost use Rattle.startup.specs.Run.{eventOf, noted, takenOf, runOf};
-use phases::Supervisor;
-use phases::in_attempt;
-use phases::phase;
+use supervisor::Supervisor;
+use supervisor::in_attempt;
+use supervisor::phase;
 
 // What a run over a list of codes gives. Places are counted from 0.
 pub struct Run {

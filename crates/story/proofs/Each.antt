@@ -8,11 +8,11 @@ use native.Mathlib.Nat.{eq-or-lt-of-le}
 use native.Mathlib.Omega.{arith}
 use borrow.Author.Tests.{ne-eqb, eqb-true}
 use lib.Dec.{eqb}
-use Rattle.phases.specs.declared.Supervisor.{Supervisor}
-use Rattle.phases.specs.Phases.{Settling, inAttempt}
-use Rattle.phases.specs.Step.{fresh}
-use Rattle.phases.specs.Step.{startOf as supervisorStart}
-use Rattle.phases.proofs.Laws.{clash}
+use Rattle.supervisor.specs.declared.Supervisor.{Supervisor}
+use Rattle.supervisor.specs.Phases.{Settling, inAttempt}
+use Rattle.supervisor.specs.Step.{fresh}
+use Rattle.supervisor.specs.Step.{startOf as supervisorStart}
+use Rattle.supervisor.proofs.Laws.{clash}
 use Rattle.startup.specs.Run.{eventOf as attemptEvent}
 use Rattle.startup.specs.Attempts.{at, one, count, Card, card, meant, StillOpen, EndsInData, EndsInException, OpensAt}
 use Rattle.startup.specs.Three.{Taken, after}

@@ -7,10 +7,10 @@ use borrow.Author.Tests.{eq-eqb, ne-eqb, le-leb, lt-leb}
 use lib.Dec.{eqb, ltb}
 use Rattle.answer.specs.Answer.{answer}
 use Rattle.answer.proofs.Laws.{none, kept}
-use Rattle.phases.specs.declared.Supervisor.{Supervisor}
-use Rattle.phases.specs.declared.Answer.{Answer}
-use Rattle.phases.specs.Step.{stepOf, stateRefusals}
-use Rattle.phases.proofs.Laws.{legal}
+use Rattle.supervisor.specs.declared.Supervisor.{Supervisor}
+use Rattle.supervisor.specs.declared.Answer.{Answer}
+use Rattle.supervisor.specs.Step.{stepOf, stateRefusals}
+use Rattle.supervisor.proofs.Laws.{legal}
 use Rattle.startup.specs.Attempts.{one}
 use Rattle.startup.specs.Run.{eventOf as attemptEvent}
 use Rattle.story.specs.declared.Story.{Story}

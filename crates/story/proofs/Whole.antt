@@ -10,11 +10,11 @@ use lib.Dec.{eqb, ltb}
 use lib.ListN.{length, take}
 use lib.Seq.{take-suc, take-length}
 use Rattle.answer.specs.Answer.{answer, held}
-use Rattle.phases.specs.declared.Supervisor.{Supervisor}
-use Rattle.phases.specs.declared.Answer.{Answer}
-use Rattle.phases.specs.Phases.{inAttempt}
-use Rattle.phases.specs.Step.{stepOf, stateRefusals}
-use Rattle.phases.specs.Step.{startOf as supervisorStart}
+use Rattle.supervisor.specs.declared.Supervisor.{Supervisor}
+use Rattle.supervisor.specs.declared.Answer.{Answer}
+use Rattle.supervisor.specs.Phases.{inAttempt}
+use Rattle.supervisor.specs.Step.{stepOf, stateRefusals}
+use Rattle.supervisor.specs.Step.{startOf as supervisorStart}
 use Rattle.startup.specs.declared.Run.{Run}
 use Rattle.startup.specs.Run.{goesOn, opens, ends, noted, takenOf, runFrom, begun}
 use Rattle.startup.specs.Run.{eventOf as attemptEvent}

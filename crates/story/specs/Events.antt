@@ -1,14 +1,14 @@
--- The story of a log: for each code an event, over the supervisor's own definitions (phases: startOf, stepOf, inAttempt; startup: eventOf).
+-- The story of a log: for each code an event, over the supervisor's own definitions (supervisor: startOf, stepOf, inAttempt; startup: eventOf).
 use Prim.Native.Nat.{ℕ, _+_}
 use mathlib.Core.Bool.{cond, not, _||_}
 use mathlib.Core.List.{List, [], _∷_}
 use lib.Dec.{leb, eqb}
 use Rattle.answer.specs.Answer.{Refusal, refuse, answer, held}
-use Rattle.phases.specs.declared.Supervisor.{Supervisor}
-use Rattle.phases.specs.declared.Answer.{Answer}
-use Rattle.phases.specs.Phases.{inAttempt}
-use Rattle.phases.specs.Step.{stepOf}
-use Rattle.phases.specs.Step.{startOf as supervisorStart}
+use Rattle.supervisor.specs.declared.Supervisor.{Supervisor}
+use Rattle.supervisor.specs.declared.Answer.{Answer}
+use Rattle.supervisor.specs.Phases.{inAttempt}
+use Rattle.supervisor.specs.Step.{stepOf}
+use Rattle.supervisor.specs.Step.{startOf as supervisorStart}
 use Rattle.startup.specs.Attempts.{one}
 use Rattle.startup.specs.Run.{eventOf as attemptEvent}
 use Rattle.story.specs.declared.Story.{Story}

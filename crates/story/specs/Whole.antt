@@ -5,8 +5,8 @@ use mathlib.Core.Bool.{true}
 use mathlib.Core.Logic.{_↔_}
 use mathlib.Core.List.{List}
 use lib.ListN.{length}
-use Rattle.phases.specs.Phases.{inAttempt}
-use Rattle.phases.specs.Step.{startOf as supervisorStart}
+use Rattle.supervisor.specs.Phases.{inAttempt}
+use Rattle.supervisor.specs.Step.{startOf as supervisorStart}
 use Rattle.startup.specs.Attempts.{upto, count, card, meant, StillOpen, EndsInData, EndsInException, OpensAt}
 use Rattle.startup.specs.Three.{steps, after}
 use Rattle.startup.specs.Scan.{attempts as attemptsOf}

@@ -1,11 +1,11 @@
-// The story of a start-up log: what each code did, as an event (specs/Events.antt). The text of it is crate telling's.
+// The story of a start-up log: what each code did, as an event (specs/Events.antt). The text of it is crate storytext's.
 ghost use mathlib.Core.Path.{_≡_};
 ghost use Prim.Native.Nat.{_≤_, _<_};
 ghost use Rattle.startup.specs.Attempts.{one};
 ghost use Rattle.story.specs.Events.{refusedWith, kindOf, sinceOpening, numberOf, told, startOf, eventOf};
-use phases::Supervisor;
-use phases::code;
 use startup::Run;
+use supervisor::Supervisor;
+use supervisor::code;
 
 pub mod kind;
 
@@ -154,7 +154,7 @@ fn kind_of(before: Supervisor, after: Supervisor, code: u32) -> u32
 fn number_of(phase: u32, event: u32, attempts: u32) -> u32
     ensures { λ r. ⌜ r ≡ numberOf phase event attempts ⌝ }
 {
-    if phases::in_attempt(phase) {
+    if supervisor::in_attempt(phase) {
         return attempts;
     }
     if event == Run::OPEN {
@@ -168,7 +168,7 @@ fn since_opening(state: Supervisor, code: u32) -> u32
     requires { ⌜ state .attempt ≤ 14999 ⌝ }
     ensures { λ r. ⌜ r ≡ sinceOpening state code ⌝ }
 {
-    if phases::in_attempt(state.phase) {
+    if supervisor::in_attempt(state.phase) {
         state.attempt + one(code == code::TICK)
     } else {
         0

@@ -14,7 +14,7 @@ use Rattle.layout.specs.Frame.{trainingSync, fieldOf, coefficientsOf}
 use Rattle.layout.specs.Refusals.{hasSync, checkRefusals}
 use Rattle.reader.specs.declared.Found.{Found}
 use Rattle.reader.specs.Promises.{foundOf, Read}
-use Rattle.used.specs.Used.{highest}
+use Rattle.highest.specs.Highest.{highest}
 use Rattle.reader.proofs.Given.{found, found-is, none-applies, coefficients-are, vendor-is}
 use Rattle.verdict.specs.declared.Customer.{Customer}
 use Rattle.verdict.specs.declared.Verdict.{Verdict}

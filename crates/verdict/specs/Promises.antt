@@ -10,7 +10,7 @@ use Rattle.verdict.specs.Verdict.{verdictOf, refusedVerdict, nobody, cus
 abbrev pub Judged : List ℕ → Customer → Verdict → Type 0
 Judged frame k r = r ≡ verdictOf frame k
 
--- unread: 9, which is none of document 01's numbers
+-- unread: 9, which is none of SCOPE's numbers
 abbrev pub Unread : Customer → Verdict → Type 0
 Unread k r = r ≡ refusedVerdict 9 k
 

@@ -33,7 +33,7 @@ pub const OTHER: u32 = 3;
 
 pub const NO_WORD: u32 = 4;
 
-// The answer for a file that cannot be read: none of document 01's.
+// The answer for a file that cannot be read: none of SCOPE's.
 pub const UNREAD: u32 = 9;
 
 // How word x compares with the customer's word y.
@@ -43,7 +43,7 @@ fn like(given: bool, x: u32, y: u32) -> u32
     if !given {
         return NO_CUSTOMER;
     }
-    let last_first = words::turned(layout::WORD_BITS, y);
+    let last_first = bitfields::turned(layout::WORD_BITS, y);
     if x == y {
         return SAME;
     }
@@ -90,7 +90,7 @@ pub fn judge(frame: &[u8], customer: Customer) -> Verdict
         return Verdict {
             answer: answer::DONE,
             kind: layout::TRAINING,
-            used: used::highest(&cs) as u32,
+            used: highest::highest(&cs) as u32,
             a: found.a,
             b: found.b,
             alike: like(customer.given, found.a, customer.a),

@@ -9,7 +9,7 @@ use lib.ListN.{drop}
 use lib.Seq.{drop-drop}
 use Rattle.octets.specs.Bits.{valueOf, bitsOf, part}
 use Rattle.octets.specs.Signed.{signedOf, numbersIn}
-use Rattle.words.specs.Promises.{behindOf}
+use Rattle.bitfields.specs.Promises.{behindOf}
 use Rattle.octets.proofs.Fields.{part-part}
 use Rattle.walk.specs.Promises.{signedFrom, behindAll}
 

@@ -6,7 +6,7 @@ use lib.IntN.{ℤ}
 use lib.ListN.{length}
 use Rattle.octets.specs.Bits.{valueOf, bitsOf, part}
 use Rattle.octets.specs.Signed.{signedOf}
-use Rattle.words.specs.Promises.{behindOf}
+use Rattle.bitfields.specs.Promises.{behindOf}
 use Rattle.walk.specs.declared.Taken.{Taken}
 use Rattle.walk.specs.declared.TakenPair.{TakenPair}
 

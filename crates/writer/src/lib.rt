@@ -1,4 +1,4 @@
-// Writing an activation frame (document 01, "The activation frame").
+// Writing an activation frame (SCOPE, "The activation frame").
 ghost use mathlib.Core.Path.{_≡_};
 ghost use mathlib.Core.List.{_++_};
 ghost use Prim.Native.Nat.{_<_, _≤_};
@@ -24,7 +24,7 @@ fn put_coefficients(frame: &mut [u8], coefficients: &[i32], count: usize)
     let mut k = 0;
     while k < layout::COEFFICIENTS {
         let c = coefficient(coefficients, count, k);
-        words::put_signed_field(
+        bitfields::put_signed_field(
             frame,
             layout::COEFFICIENTS_AT + layout::COEFFICIENT_STEP * k,
             layout::COEFFICIENT_BITS,
@@ -39,13 +39,13 @@ fn finish(frame: &mut [u8], a: u32, b: u32, vendor: &[u8])
     requires { ⌜ (length (now frame) ≡ 529) × (length (now vendor) ≡ 16) ⌝ }
     ensures { λ r. ⌜ now (frame .exit) ≡ octetsOf 529 (frameBits (part 0 14 (bitsOf (now (frame .entry)))) (part 14 3960 (bitsOf (now (frame .entry))) ++ (digitsOf 21 a ++ (digitsOf 21 b ++ (bitsOf (now (vendor .entry)) ++ replicate 67 0))))) ⌝ }
 {
-    words::put_field(frame, layout::A_AT, layout::WORD_BITS, a);
-    words::put_field(frame, layout::B_AT, layout::WORD_BITS, b);
+    bitfields::put_field(frame, layout::A_AT, layout::WORD_BITS, a);
+    bitfields::put_field(frame, layout::B_AT, layout::WORD_BITS, b);
     octets::copy(frame, layout::VENDOR_AT, vendor, 0, layout::VENDOR_BITS);
     octets::clear(frame, layout::RESERVED_AT, layout::RESERVED_BITS);
     let r = remainder::check_bits(frame, layout::COEFFICIENTS_AT, layout::MESSAGE_BITS);
-    let c = words::turned(layout::CHECK_BITS, r);
-    words::put_field(frame, layout::CHECK_AT, layout::CHECK_BITS, c);
+    let c = bitfields::turned(layout::CHECK_BITS, r);
+    bitfields::put_field(frame, layout::CHECK_AT, layout::CHECK_BITS, c);
     octets::clear(frame, layout::PAD_AT, layout::PAD_BITS);
 }
 
@@ -54,7 +54,7 @@ fn put_training(frame: &mut [u8], coefficients: &[i32], count: usize, a: u32, b:
     requires { ⌜ (length (now frame) ≡ 529) × (length (now coefficients) ≡ 180) × (count ≤ 180) × (length (now vendor) ≡ 16) ⌝ }
     ensures { λ r. ⌜ now (frame .exit) ≡ octetsOf 529 (trainingBits count (now (coefficients .entry)) a b (now (vendor .entry))) ⌝ }
 {
-    words::put_field(frame, 0, layout::SYNC_BITS, layout::TRAINING_SYNC);
+    bitfields::put_field(frame, 0, layout::SYNC_BITS, layout::TRAINING_SYNC);
     put_coefficients(frame, coefficients, count);
     finish(frame, a, b, vendor);
 }
@@ -64,7 +64,7 @@ fn put_final(frame: &mut [u8], coefficients: &[i32], vendor: &[u8])
     requires { ⌜ (length (now frame) ≡ 529) × (length (now coefficients) ≡ 180) × (length (now vendor) ≡ 16) ⌝ }
     ensures { λ r. ⌜ now (frame .exit) ≡ octetsOf 529 (finalBits (now (vendor .entry))) ⌝ }
 {
-    words::put_field(frame, 0, layout::SYNC_BITS, layout::FINAL_SYNC);
+    bitfields::put_field(frame, 0, layout::SYNC_BITS, layout::FINAL_SYNC);
     put_coefficients(frame, coefficients, 0);
     finish(frame, 0, 0, vendor);
 }

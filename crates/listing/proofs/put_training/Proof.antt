@@ -7,7 +7,7 @@ use lib.ListN.{take}
 use Rattle.ascii.specs.Text.{text}
 use Rattle.ascii.proofs.Room.{put-more, put-as}
 use Rattle.listing.specs.Listing.{numberLine, coefficientLines, vendorLine, checkLine, trainingText}
-use Rattle.used.proofs.Laws.{highest-within}
+use Rattle.highest.proofs.Laws.{highest-within}
 use Rattle.listing.proofs.Laws.{kind-form, words-form}
 use borrow.Author.Needs.{needs}
 use Rattle.listing.proofs.put_training.Statement.{statement}

@@ -3,7 +3,7 @@ use borrow.Author.Needs.{needs}
 use borrow.Author.Tests.{not-true, not-false}
 use mathlib.Core.Path.{_≡_, sym, ap, _∙_}
 use mir.Facts.{toZ-ofZ}
-use Rattle.signal.specs.Signal.{isSignal}
+use Rattle.samples.specs.Samples.{isSignal}
 use Rattle.precoder.proofs.checked.Statement.{statement}
 use Rattle.precoder.proofs.checked.Tie as tie
 

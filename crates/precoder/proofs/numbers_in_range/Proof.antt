@@ -13,7 +13,7 @@ use mir.Val.{SFits}
 use mir.Facts.{toZ-ofZ}
 use Rattle.numbers.specs.Promises.{numbersOf}
 use Rattle.ranges.specs.Ranges.{every}
-use Rattle.signal.specs.Signal.{isSignal}
+use Rattle.samples.specs.Samples.{isSignal}
 use Rattle.precoder.proofs.Turns.{number-end, remains}
 use Rattle.precoder.proofs.numbers_in_range.Statement.{statement}
 use Rattle.precoder.proofs.numbers_in_range.Tie as tie

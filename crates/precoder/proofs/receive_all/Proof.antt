@@ -13,7 +13,7 @@ use mir.Val.{SFits, toZ, ofZ}
 use mir.Facts.{toZ-ofZ}
 use Rattle.numbers.specs.Promises.{numbersOf, numberOctets}
 use Rattle.ranges.specs.Ranges.{isCoefficient, every}
-use Rattle.signal.specs.Signal.{isSignal, pastAfter}
+use Rattle.samples.specs.Samples.{isSignal, pastAfter}
 use Rattle.precoder.specs.Precoder.{inputOf}
 use Rattle.precoder.specs.Runs.{pastAfterAll, inputsOf}
 use Rattle.ranges.proofs.Laws.{both}

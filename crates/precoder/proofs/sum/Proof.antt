@@ -12,7 +12,7 @@ use mir.Syntax.{w32, w64}
 use mir.Val.{SFits, ofZ, toZ}
 use mir.Facts.{toZ-ofZ}
 use Rattle.ranges.specs.Ranges.{isCoefficient, every}
-use Rattle.signal.specs.Signal.{isSignal}
+use Rattle.samples.specs.Samples.{isSignal}
 use Rattle.precoder.specs.Precoder.{exactSum}
 use Rattle.precoder.proofs.Products.{sum-fits}
 use Rattle.precoder.proofs.sum.Statement.{statement}

@@ -2,7 +2,7 @@
 use borrow.Author.Needs.{needs}
 use mathlib.Core.Path.{refl, _∙_}
 use native.Mathlib.Omega.{arith}
-use Rattle.used.proofs.Laws.{highest-within}
+use Rattle.highest.proofs.Laws.{highest-within}
 use Rattle.verdict.proofs.Laws.{refused-is, training-made, final-made}
 use Rattle.verdict.proofs.judge.Statement.{statement}
 use Rattle.verdict.proofs.judge.Tie as tie

@@ -53,7 +53,7 @@ use denote.Triple.Statement.{Triple}
 use denote.Triple.Table.{entered, cited}
 use denote.Triple.Walked.{says, Stays, stay-none, stay-none-slice, stay-slice, walkOf, goes-none, goes-none-slice, goes-slice, Walks, ends-at, walked, walk-meets}
 use denote.Exit.{yes}
-use Rattle.words.specs.Promises.{SignedRead, behindOf}
+use Rattle.bitfields.specs.Promises.{SignedRead, behindOf}
 use Rattle.fields.specs.declared.FieldReader.{FieldReader}
 use Rattle.walk.specs.Promises.{signedFrom, behindAll}
 use Rattle.fields.proofs.FieldReader as T

@@ -37,7 +37,7 @@ use denote.Triple.Statement.{Triple}
 use denote.Triple.Table.{entered, cited}
 use denote.Triple.Walked.{says, Stays, stay-none, stay-none-slice, walkOf, goes-none, goes-none-slice, Walks, ends-at, walked, walk-meets}
 use denote.Exit.{yes}
-use Rattle.words.specs.Promises.{FieldRead, behindOf}
+use Rattle.bitfields.specs.Promises.{FieldRead, behindOf}
 use Rattle.fields.specs.declared.FieldReader.{FieldReader}
 use Rattle.walk.specs.declared.TakenPair.{TakenPair}
 use Rattle.fields.specs.Promises.{past}

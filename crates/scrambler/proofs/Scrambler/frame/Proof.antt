@@ -1,6 +1,6 @@
 -- `scrambler::Scrambler::frame` meets its contract.
 use mathlib.Core.Path.{refl, sym, _∙_}
-use Rattle.line.specs.Run.{wayOf}
+use Rattle.recurrence.specs.Run.{wayOf}
 use Rattle.scrambler.proofs.Laws.{frame-refused, frame-taken}
 use Rattle.scrambler.proofs.Scrambler.frame.Statement.{statement}
 use Rattle.scrambler.proofs.Scrambler.frame.Tie as tie

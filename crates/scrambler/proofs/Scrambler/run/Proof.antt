@@ -1,7 +1,7 @@
 -- `scrambler::Scrambler::run` meets its contract.
 use borrow.Author.Needs.{needs}
 use mathlib.Core.Path.{sym, _∙_}
-use Rattle.line.specs.Run.{wayOf}
+use Rattle.recurrence.specs.Run.{wayOf}
 use Rattle.scrambler.proofs.Laws.{run-refused, run-taken}
 use Rattle.scrambler.proofs.Scrambler.run.Statement.{statement}
 use Rattle.scrambler.proofs.Scrambler.run.Tie as tie

@@ -3,8 +3,8 @@ use borrow.Author.Needs.{needs}
 use borrow.Author.Tests.{lt-ltb, le-ltb}
 use mathlib.Core.Path.{subst}
 use Prim.Native.Nat.{ℕ}
-use Rattle.line.specs.Run.{wayOf}
-use Rattle.line.specs.Promises as OnLine
+use Rattle.recurrence.specs.Run.{wayOf}
+use Rattle.recurrence.specs.Promises as OnLine
 use Rattle.scrambler.proofs.Laws.{step-unknown, step-taken}
 use Rattle.scrambler.proofs.Scrambler.step.Statement.{statement}
 use Rattle.scrambler.proofs.Scrambler.step.Tie as tie

@@ -1,6 +1,6 @@
 -- `Story::step` meets its contract.
 use mathlib.Core.Path.{ap, _∙_}
-use Rattle.phases.specs.declared.Answer.{Answer}
+use Rattle.supervisor.specs.declared.Answer.{Answer}
 use Rattle.story.specs.Events.{eventWith}
 use Rattle.story.proofs.Laws.{taken-attempt, event-refused, event-late, event-many, event-told}
 use borrow.Author.Needs.{needs}

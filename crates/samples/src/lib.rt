@@ -1,0 +1,98 @@
+// Numbers of the precoder in steps of 1/131,072 (000, clause 4.3.4): ranges, rounding, folding, the history and the shaper's float.
+ghost use mathlib.Core.Path.{_≡_};
+ghost use Prim.Native.Nat.{_<_, _^_};
+ghost use lib.IntN.{pos, natAbs, _+ℤ_, _*ℤ_};
+ghost use lib.ListN.{length};
+ghost use lib.Signed.{_≤ℤ_, _<ℤ_};
+ghost use Rattle.samples.specs.Samples.{atStart, Rounds, Folds, pastAfter};
+ghost use Rattle.samples.specs.Shaper.{Shapes};
+
+// The range of x, y and past outputs.
+pub const LOWEST: i32 = -131_072;
+
+pub const HIGHEST: i32 = 131_071;
+
+// What the shaper is handed, with the answer first.
+pub struct Shaped {
+    pub answer: u32,
+    pub value: f32,
+}
+
+// Tells a proof that a lent array has its 180 elements: a reference alone does not say so.
+fn whole(values: [i32; 180])
+    ensures { λ r. ⌜ length values ≡ 180 ⌝ }
+{}
+
+// The floor, or the next number where the rest is half a step or more.
+fn halves_up(floor: i64, rest: i64) -> i64
+    requires { ⌜ (natAbs floor < 2 ^ 62) × (pos 0 ≤ℤ rest) × (rest <ℤ pos 131072) ⌝ }
+    ensures { λ r. ⌜ Rounds (pos 131072 *ℤ floor +ℤ rest) r ⌝ }
+{
+    if 65_536 <= rest {
+        return floor + 1;
+    }
+    floor
+}
+
+// s/131,072 to the nearest whole number, halves upward. Division cuts toward zero, so below zero the floor is one less, and the rest 131,072 more.
+pub fn rounded(s: i64) -> i64
+    ensures { λ r. ⌜ Rounds s r ⌝ }
+{
+    let q = s / 131_072;
+    let rest = s % 131_072;
+    if rest < 0 {
+        return halves_up(q - 1, rest + 131_072);
+    }
+    halves_up(q, rest)
+}
+
+// u moved by a multiple of 262,144 into the range of y. The remainder has the sign of u.
+pub fn folded(u: i64) -> i32
+    ensures { λ r. ⌜ Folds u r ⌝ }
+{
+    let r = u % 262_144;
+    if r < -131_072 {
+        return (r + 262_144) as i32;
+    }
+    if 131_071 < r {
+        return (r - 262_144) as i32;
+    }
+    r as i32
+}
+
+// The history before the first symbol.
+pub fn start() -> [i32; 180]
+    ensures { λ r. ⌜ r ≡ atStart ⌝ }
+{
+    [0; 180]
+}
+
+// The newest output goes to the front; every other moves one place on, and the oldest is dropped.
+pub fn shift(history: &mut [i32; 180], y: i32)
+    ensures { λ r. ⌜ now (history .exit) ≡ pastAfter (now (history .entry)) y ⌝ }
+{
+    whole(*history);
+    let mut k = 179;
+    while 0 < k {
+        let from = k - 1;
+        history[k] = history[from];
+        k = from;
+    }
+    history[0] = y;
+}
+
+// y as a 32-bit float that is exactly y/131,072.
+pub fn shaper(y: i32) -> Shaped
+    ensures { λ r. ⌜ Shapes y r ⌝ }
+{
+    if !ranges::in_range(y, LOWEST, HIGHEST) {
+        return Shaped {
+            answer: answer::RANGE,
+            value: 0.0,
+        };
+    }
+    Shaped {
+        answer: answer::DONE,
+        value: (y as f32) / 131_072.0,
+    }
+}

@@ -1,0 +1,33 @@
+-- A phase in words from the table of phases: its name, and what its row says that it lasts and waits for.
+use Prim.Native.Nat.{ℕ}
+use Prim.Native.String.{String}
+use mathlib.Core.Bool.{cond}
+use mathlib.Core.List.{List, [], _∷_, _++_}
+use lib.Dec.{eqb}
+use lib.ListN.{getD}
+use Rattle.ascii.specs.Text.{text, decimal}
+use Rattle.supervisor.specs.Phases.{Exception, Row}
+use Rattle.storytext.specs.Texts.{numbered}
+
+-- the phases' names, by number
+abbrev pub names : List String
+names =
+    "Ready" ∷ "Gap" ∷ "Await" ∷ "C_r" ∷ "Hearing" ∷ "Quiet" ∷ "S_c" ∷ "S_r" ∷ "T_c" ∷ "T_r" ∷ "F_c" ∷ "Settling" ∷ "Valid" ∷ "Exception" ∷ []
+
+-- the reports that a phase waits for; where there is none, only an 8 ends it
+unfoldable pub awaitsText : List ℕ → List ℕ
+awaitsText [] = text "until code 8"
+awaitsText (c ∷ []) = text "until code " ++ decimal c
+awaitsText (c ∷ d ∷ cs) = numbered "until codes " c " and " ++ decimal d
+
+-- the ticks that it lasts, what it waits for, or both
+unfoldable pub ruleText : Row → List ℕ
+ruleText r = cond (eqb (r .phase) Exception) (numbered "silent for " (r .lasts) " ticks") (ruleOf (r .lasts) (r .awaits))
+  where
+    ruleOf : ℕ → List ℕ → List ℕ
+    ruleOf t [] = cond (eqb t 0) (awaitsText []) (decimal t ++ text " ticks")
+    ruleOf t (c ∷ cs) = cond (eqb t 0) (awaitsText (c ∷ cs)) (decimal t ++ text " ticks and " ++ awaitsText (c ∷ cs))
+
+-- the name and the rule
+abbrev pub rowText : Row → List ℕ
+rowText r = text (getD names (r .phase) "") ++ text " (" ++ ruleText r ++ text ")"

@@ -1,0 +1,18 @@
+use borrow.Author.Tests.{ne-eqb}
+use borrow.Author.Needs.{needs}
+use lib.Dec.{leb·zero}
+use Rattle.supervisor.proofs.Laws.{same-both}
+use Rattle.supervisor.proofs.Supervisor.in_await.Statement.{statement}
+use Rattle.supervisor.proofs.Supervisor.in_await.Tie as tie
+
+entered-requires : tie.Need-entered-requires
+entered-requires c κs = search needs
+
+returns : tie.Need-returns
+returns c = rw (c .before .match .keys1) (simp leb·zero (c .entered .ensures))
+
+returns-2 : tie.Need-returns-2
+returns-2 c = simp (same-both, ne-eqb _ _ (c .match .rest .1), ne-eqb _ _ (c .before .pre))
+
+pub in-await-spec : {M : Type 1} → statement M
+in-await-spec = tie.close (tie.spec entered-requires returns returns-2)

@@ -1,0 +1,16 @@
+use borrow.Author.Tests.{ne-eqb}
+use borrow.Author.Needs.{needs}
+use Rattle.supervisor.proofs.Supervisor.in_cr.Statement.{statement}
+use Rattle.supervisor.proofs.Supervisor.in_cr.Tie as tie
+
+tried-requires : tie.Need-tried-requires
+tried-requires c κs = search needs
+
+returns : tie.Need-returns
+returns c = rw (c .before .match .keys1) (c .tried .ensures)
+
+returns-2 : tie.Need-returns-2
+returns-2 c = simp (ne-eqb _ _ (c .match .rest .1), ne-eqb _ _ (c .before .pre .0))
+
+pub in-cr-spec : {M : Type 1} → statement M
+in-cr-spec = tie.close (tie.spec tried-requires returns returns-2)

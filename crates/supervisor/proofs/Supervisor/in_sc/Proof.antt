@@ -1,0 +1,23 @@
+use mathlib.Core.Bool.{and-true}
+use borrow.Author.Tests.{ne-eqb}
+use borrow.Author.Needs.{needs}
+use Rattle.supervisor.proofs.Supervisor.in_sc.Statement.{statement}
+use Rattle.supervisor.proofs.Supervisor.in_sc.Tie as tie
+
+tried-requires : tie.Need-tried-requires
+tried-requires c κs = search needs
+
+told-requires : tie.Need-told-requires
+told-requires c κs = search needs
+
+returns : tie.Need-returns
+returns c = rw (c .before .before .match .keys1) (simp and-true (c .tried .ensures))
+
+returns-2 : tie.Need-returns-2
+returns-2 c = rw (c .before .before .match .keys2) (c .told .ensures)
+
+returns-3 : tie.Need-returns-3
+returns-3 c = simp (ne-eqb _ _ (c .match .rest .0 .1), ne-eqb _ _ (c .match .rest .1), ne-eqb _ _ (c .before .pre .0))
+
+pub in-sc-spec : {M : Type 1} → statement M
+in-sc-spec = tie.close (tie.spec tried-requires told-requires returns returns-2 returns-3)
