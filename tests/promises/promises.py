@@ -41,15 +41,15 @@ def in_second(group, functions):
 
 
 def page(row, file, number, heading):
-    """A page of docs/ is there, and so is the section that is named: by its number, or by its heading in quotation marks."""
-    path = DOCS / file
+    """A page is there, and so is the section that is named: by its number, or by its heading in quotation marks."""
+    path = ROOT / file
     there = path.exists()
     if there and number:
         there = re.search(rf"^(?:\*\*|\| |## ){re.escape(number)}[ .|]", path.read_text(), re.M)
     if there and heading:
         there = re.search(rf"^#+ {re.escape(heading)}$", path.read_text(), re.M)
     if not there:
-        wrong.append(f"{row}: docs/{file} {number or heading or ''}")
+        wrong.append(f"{row}: {file} {number or heading or ''}")
     return ""
 
 
@@ -59,7 +59,7 @@ def programs(edit):
 
 
 def check(row, column, cell):
-    cell = re.sub(r'docs/(\w+\.md)(?: (\d[\d.]*)|, "([^"]*)")?', lambda m: page(row, *m.groups()), cell)
+    cell = re.sub(r'([\w/]*\w\.md)(?: (\d[\d.]*)|, "([^"]*)")?', lambda m: page(row, *m.groups()), cell)
     last = None
     for m in re.finditer(r"`([^`]*)`(?: `([^`]*)`)?", cell):
         name, predicate = m.groups()
