@@ -4,12 +4,12 @@
 // A frame's octets.
 pub const FRAME_OCTETS: usize = 529;
 
-// How many coefficients a frame has, and the bits of one.
+// Coefficients in a frame, the bits of one, as a width and from place to place, and those of all.
 pub const COEFFICIENTS: usize = 180;
 
 pub const COEFFICIENT_BITS: u32 = 22;
 
-// How many places one coefficient stands behind the other, and the bits of all of them.
+// The places from one coefficient to the next, and the bits of all of them.
 pub const COEFFICIENT_STEP: usize = COEFFICIENT_BITS as usize;
 
 pub const ALL_COEFFICIENT_BITS: u32 = COEFFICIENTS as u32 * COEFFICIENT_BITS;

@@ -61,7 +61,7 @@ pub fn put_number(octets: &mut [u8], k: usize, z: i32)
     octets[at + 3] = (n / 16_777_216 % 256) as u8;
 }
 
-// The first 180 numbers of octets: so many coefficients there are, and remembered outputs. Those that are missing are 0.
+// The first 180 numbers of octets, as many as there are coefficients and remembered outputs; where there are fewer they are 0.
 pub fn numbers(octets: &[u8]) -> [i32; 180]
     ensures { λ r. ⌜ NumbersRead (now (octets .entry)) r ⌝ }
 {
@@ -74,7 +74,7 @@ pub fn numbers(octets: &[u8]) -> [i32; 180]
     into
 }
 
-// Numbers put into octets from the first octet on, as many as there is room for.
+// As many of some numbers as there is room for, into octets from the first on.
 pub fn put_numbers(octets: &mut [u8], numbers: &[i32])
     ensures { λ r. ⌜ NumbersPut (now (octets .entry)) (now (numbers .entry)) (now (octets .exit)) ⌝ }
 {
