@@ -84,7 +84,7 @@ install: all
 
 uninstall:
 	rm -f $(addprefix $(DESTDIR),$(INSTALLED))
-	-rmdir $(DESTDIR)$(libexecdir)/sdsl
+	@rmdir $(DESTDIR)$(libexecdir)/sdsl 2> /dev/null || true
 
 clean:
 	rm -rf build target
