@@ -35,7 +35,7 @@ links, paths, names, cites = [], [], [], []
 for page in pages:
     name = page.relative_to(ROOT)
     links += [f"{name}: ({m[1]})" for m in re.finditer(r"\]\(([^)#\s]+)[^)]*\)", text(page)) if "://" not in m[1] and not (page.parent / m[1]).exists()]
-    for m in [] if page.name == "PROMISES.md" else re.finditer(rf"(?<![\w./~-])((?:docs|tests|crates|examples|bench|include|man)/[\w./-]*\w|(?:{crates})/(?:src|specs|proofs|must-fail)/[\w./-]*\w)(?![\w*/.-]*\*)", text(page)):
+    for m in [] if page.name == "PROMISES.md" else re.finditer(rf"(?<![\w./~-])((?:docs|tests|crates|examples|bench|include|man|tools)/[\w./-]*\w|(?:{crates})/(?:src|specs|proofs|must-fail)/[\w./-]*\w)(?![\w*/.-]*\*)", text(page)):
         if "NAME" not in m[1] and ".." not in m[1] and not there(m[1]) and not there("crates/" + m[1]):
             paths.append(f"{name}: {m[1]}")
     names += [f"{name}: {m[0]}" for m in re.finditer(r"\b[A-Z]{3,}\.md\b", text(page)) if not any((d / m[0]).exists() for d in (ROOT, ROOT / "docs", page.parent))]
