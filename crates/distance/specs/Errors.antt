@@ -22,11 +22,11 @@ Within at n bs cs = (i : ℕ) → (i < at) ⊎ (at + n ≤ i) → getD bs i 0 �
 abbrev pub Covered : List ℕ → List ℕ → Type 0
 Covered bs cs = Within (placeOf coefficients) (placeOf pad - placeOf coefficients) bs cs
 
--- up to so many wrong bits are seen
+-- up to this many wrong bits are always seen
 abbrev pub most : ℕ
 most = 3
 
--- and any number of them within so many in a row
+-- and any number of them that stand within this many in a row
 abbrev pub longest : ℕ
 longest = 16
 
@@ -36,7 +36,7 @@ pub record Few (bs cs : List ℕ) : Type 0 where
   pub few : distance bs cs ≤ most
   pub covered : Covered bs cs
 
--- a burst of up to 16: some of those bits differ, and all that do stand within 16 in a row
+-- a burst of up to 16: some of those bits differ, and all that differ stand within 16 in a row
 pub record Burst (bs cs : List ℕ) : Type 0 where
   pub some : 1 ≤ distance bs cs
   pub start : ℕ

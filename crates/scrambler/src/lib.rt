@@ -14,14 +14,14 @@ pub struct Scrambler {
     pub state: u32,
 }
 
-// What a step gives: the answer, the bit, and what to go on with.
+// What a step gives: the answer, the bit, and the scrambler to go on with.
 pub struct Step {
     pub answer: u32,
     pub bit: u32,
     pub next: Scrambler,
 }
 
-// What a run gives: the answer, and what to go on with.
+// What a run gives: the answer, and the scrambler to go on with.
 pub struct Ran {
     pub answer: u32,
     pub next: Scrambler,
@@ -168,7 +168,7 @@ impl Scrambler {
         self.run(false, input, bits, output)
     }
 
-    // The other way.
+    // The first `bits` bits of the input descrambled into the output; further bits of the output stay.
     pub fn descramble_run(self, input: &[u8], bits: usize, output: &mut [u8]) -> Ran
         ensures { λ r. ⌜ RunPromise descramble self (now (input .entry)) bits (now (output .entry)) r (now (output .exit)) ⌝ }
     {
