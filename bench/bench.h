@@ -35,7 +35,7 @@ struct library {
     __typeof__(sdsl_encode) *encode;
     __typeof__(sdsl_encode_run) *encode_run;
     __typeof__(sdsl_precode) *precode;
-    __typeof__(sdsl_decode) *decode;
+    __typeof__(sdsl_unprecode) *unprecode;
     __typeof__(sdsl_start) *start;
     __typeof__(sdsl_step) *step;
     __typeof__(sdsl_run_codes) *run_codes;

@@ -9,12 +9,12 @@
 const struct library ours = {
     "ours",
     sdsl_frame_write, sdsl_frame_check, sdsl_frame_read, sdsl_scramble_frame, sdsl_descramble_frame,
-    sdsl_encode, sdsl_encode_run, sdsl_precode, sdsl_decode, sdsl_start, sdsl_step, sdsl_run_codes,
+    sdsl_encode, sdsl_encode_run, sdsl_precode, sdsl_unprecode, sdsl_start, sdsl_step, sdsl_run_codes,
 };
 const struct library plain = {
     "plain C",
     ref_frame_write, ref_frame_check, ref_frame_read, ref_scramble_frame, ref_descramble_frame,
-    ref_encode, ref_encode_run, ref_precode, ref_decode, ref_start, ref_step, ref_run_codes,
+    ref_encode, ref_encode_run, ref_precode, ref_unprecode, ref_start, ref_step, ref_run_codes,
 };
 
 struct results results;
@@ -234,11 +234,11 @@ static void precode(const struct library *library)
     results.numbers[0] = library->precode(taps, sizeof taps, past, sizeof history, xs, sizeof xs, results.octets, sizeof xs);
 }
 
-static void decode(const struct library *library)
+static void unprecode(const struct library *library)
 {
     uint8_t *past = results.octets + sizeof ys;
     memcpy(past, history, sizeof history);
-    results.numbers[0] = library->decode(taps, sizeof taps, past, sizeof history, ys, sizeof ys, results.octets, sizeof ys);
+    results.numbers[0] = library->unprecode(taps, sizeof taps, past, sizeof history, ys, sizeof ys, results.octets, sizeof ys);
 }
 
 static void step(const struct library *library)
@@ -275,7 +275,7 @@ const struct row rows[] = {
     {"encoder, in a run", "symbol", RUN, 1, encode_run, NULL},
     {"encoder, a call each", "symbol", RUN, 1, encode_each, NULL},
     {"precoder, in a run", "symbol", RUN, 1, precode, NULL},
-    {"precoder's inverse, in a run", "symbol", RUN, 1, decode, NULL},
+    {"precoder's inverse, in a run", "symbol", RUN, 1, unprecode, NULL},
     {"supervisor, a call each", "step", CODES, 1, step, NULL},
     {"supervisor, in a run", "step", CODES, 1, run_codes, NULL},
     {"sorter's heart: read 340 frames", "340", 1, 1, read_cards, NULL},
