@@ -18,7 +18,7 @@ use Rattle.remainder.specs.Division.{polynomial, generator}
 use Rattle.remainder.specs.Promises.{CheckBits}
 use Rattle.remainder.proofs.Division.{computed}
 use Rattle.remainder.proofs.Errors.{generator-degree}
-use Rattle.layout.specs.Places.{check, pad}
+use Rattle.layout.specs.Places.{checkField, padField}
 use Rattle.layout.specs.Frame.{trainingSync, finalSync, fieldOf, messageOf, checkOf}
 use Rattle.layout.specs.Refusals.{hasSync}
 use Rattle.layout.proofs.Laws.{training-value, final-value}
@@ -61,7 +61,7 @@ module _ (f : List ℕ) (t : Taken) (e : SingleTaken f 0 14 t) where
 
 -- as the code reads them
 pub check-number : (f : List ℕ) (c t : ℕ) → length f ≡ 529 → c ≡ valueOf (part 4211 16 (bitsOf f)) → t ≡ valueOf (reverse (digitsOf 16 c))
-    → t ≡ polynomial (fieldOf check (bitsOf f))
+    → t ≡ polynomial (fieldOf checkField (bitsOf f))
 check-number f c t l e g =
     let B = bitsOf f in
     let K = part 4211 16 B in
@@ -71,7 +71,7 @@ check-number f c t l e g =
     g ∙ ap (λ (x : List ℕ). valueOf (reverse x)) back
 
 pub checks-is : (f : List ℕ) (r c t : ℕ) → length f ≡ 529 → CheckBits f 14 4197 r → c ≡ valueOf (part 4211 16 (bitsOf f)) → t ≡ valueOf (reverse (digitsOf 16 c))
-    → eqb t r ≡ eqb (polynomial (fieldOf check (bitsOf f))) (checkOf (messageOf (bitsOf f)))
+    → eqb t r ≡ eqb (polynomial (fieldOf checkField (bitsOf f))) (checkOf (messageOf (bitsOf f)))
 checks-is f r c t l d e g =
     let B = bitsOf f in
     ap₂ eqb (check-number f c t l e g)
@@ -80,11 +80,11 @@ checks-is f r c t l d e g =
 -- ---- check bits and pad, as the last two fields of a frame
 
 module _ (f : List ℕ) (t : TakenPair) (e : PairTaken f 4211 16 5 t) where
-  pub check-is : t .first ≡ valueOf (fieldOf check (bitsOf f))
+  pub check-is : t .first ≡ valueOf (fieldOf checkField (bitsOf f))
   check-is = ap (λ (x : TakenPair). x .first) e
 
-  pub pad-not : (t .second ≡ 0 → ⊥) → eqb (valueOf (fieldOf pad (bitsOf f))) 0 ≡ false
-  pad-not h = ne-eqb (valueOf (fieldOf pad (bitsOf f))) 0 (λ g. h (ap (λ (x : TakenPair). x .second) e ∙ g))
+  pub pad-not : (t .second ≡ 0 → ⊥) → eqb (valueOf (fieldOf padField (bitsOf f))) 0 ≡ false
+  pad-not h = ne-eqb (valueOf (fieldOf padField (bitsOf f))) 0 (λ g. h (ap (λ (x : TakenPair). x .second) e ∙ g))
 
-  pub pad-is : t .second ≡ 0 → eqb (valueOf (fieldOf pad (bitsOf f))) 0 ≡ true
-  pad-is h = eq-eqb (valueOf (fieldOf pad (bitsOf f))) 0 (sym (ap (λ (x : TakenPair). x .second) e) ∙ h)
+  pub pad-is : t .second ≡ 0 → eqb (valueOf (fieldOf padField (bitsOf f))) 0 ≡ true
+  pad-is h = eq-eqb (valueOf (fieldOf padField (bitsOf f))) 0 (sym (ap (λ (x : TakenPair). x .second) e) ∙ h)

@@ -14,7 +14,7 @@ use Rattle.answer.proofs.Laws.{none as none-applies, passed, given as held-give
 use Rattle.octets.specs.Bits.{valueOf, bitsOf, octetsOf, part, laid}
 use Rattle.octets.proofs.Digits.{Bits, take-bits, drop-bits}
 use Rattle.octets.proofs.Laws.{bits-bits, bits-length, octets-length, laid-length, laid-bits}
-use Rattle.layout.specs.Places.{wordA, wordB, vendor, pad}
+use Rattle.layout.specs.Places.{aField, bField, vendorField, padField}
 use Rattle.layout.specs.Frame.{used, trainingBits, finalBits, fieldOf, coefficientsOf}
 use Rattle.layout.specs.Refusals.{bitRefusals, hasSync}
 use Rattle.layout.proofs.RoundTrip.{training-laid, training-answers, a-back, b-back, used-back, vendor-back, final-laid, final-answers, final-vendor}
@@ -60,8 +60,8 @@ module _ (x y : Library) (ex : Frames x) (ey : Frames y) (c : WriteCall) (room v
       let r : Right (readChecks (call F)) = read-right (call F) lr (octets-length 529 T) lv (ap (λ (b : List ℕ). answer (bitRefusals b)) B ∙ t .0) in
       ap (λ (m : Outcome None (List ℕ)). y .read (call (m .memory))) (ex .training c e h)
       ∙ ey .read-training (call F) r (ap (hasSync _) B ∙ t .1)
-      ∙ ap (λ (b : List ℕ). done (record { kind = 0; a = valueOf (fieldOf wordA b); b = valueOf (fieldOf wordB b) }) (record { coefficients = numberOctets (coefficientsOf b); vendor = octetsOf 16 (fieldOf vendor b) })) B
-      ∙ ap₂ (λ (p q : ℕ). done (record { kind = 0; a = p; b = q }) (record { coefficients = numberOctets (coefficientsOf T); vendor = octetsOf 16 (fieldOf vendor T) }))
+      ∙ ap (λ (b : List ℕ). done (record { kind = 0; a = valueOf (fieldOf aField b); b = valueOf (fieldOf bField b) }) (record { coefficients = numberOctets (coefficientsOf b); vendor = octetsOf 16 (fieldOf vendorField b) })) B
+      ∙ ap₂ (λ (p q : ℕ). done (record { kind = 0; a = p; b = q }) (record { coefficients = numberOctets (coefficientsOf T); vendor = octetsOf 16 (fieldOf vendorField T) }))
       (a-back (c .count) cs (c .a) (c .b) (c .vendor) (f .count) n (f .vendor) (f .a)) (b-back (c .count) cs (c .a) (c .b) (c .vendor) (f .count) n (f .vendor) (f .b))
       ∙ ap₂ (λ (p : List ℤ) (q : List ℕ). done (record { kind = 0; a = c .a; b = c .b }) (record { coefficients = numberOctets p; vendor = q }))
       (used-back (c .count) cs (c .a) (c .b) (c .vendor) (f .count) n (f .vendor) (f .range)) (vendor-back (c .count) cs (c .a) (c .b) (c .vendor) (f .count) n (f .vendor) o)
@@ -76,7 +76,7 @@ module _ (x y : Library) (ex : Frames x) (ey : Frames y) (c : WriteCall) (room v
       let r : Right (readChecks (call F)) = read-right (call F) lr (octets-length 529 T) lv (ap (λ (b : List ℕ). answer (bitRefusals b)) B ∙ t .0) in
       ap (λ (m : Outcome None (List ℕ)). y .read (call (m .memory))) (ex .final c e h)
       ∙ ey .read-final (call F) r (ap (hasSync _) B ∙ t .1)
-      ∙ ap (λ (b : List ℕ). done (record { kind = 1; a = 0; b = 0 }) (record { coefficients = room; vendor = octetsOf 16 (fieldOf vendor b) })) B
+      ∙ ap (λ (b : List ℕ). done (record { kind = 1; a = 0; b = 0 }) (record { coefficients = room; vendor = octetsOf 16 (fieldOf vendorField b) })) B
       ∙ ap (λ (q : List ℕ). done (record { kind = 1; a = 0; b = 0 }) (record { coefficients = room; vendor = q })) (final-vendor (c .vendor) l o)
 
 -- ---- scrambling
@@ -142,9 +142,9 @@ module _ (x y : Library) (ex : Scrambling x) (ey : Scrambling y) where
       let two = none-applies 0 (not (eqb (length (c .output)) 529)) (drop 2 R) (one .1) in
       let three = none-applies 1 (ltb 1 (c .end)) (drop 3 R) (two .1) in
       let four = none-applies 3 (leb (2 ^ 23) (c .state)) (drop 4 R) (three .1) in
-      let five = none-applies 5 (not (eqb (valueOf (fieldOf pad (bitsOf (c .frame)))) 0)) [] (four .1) in
+      let five = none-applies 5 (not (eqb (valueOf (fieldOf padField (bitsOf (c .frame)))) 0)) [] (four .1) in
       let lf : length (c .frame) ≡ 529 = eqb-true _ _ (not-false _ (one .0)) in
-      let p : valueOf (fieldOf pad (bitsOf (c .frame))) ≡ 0 = eqb-true _ _ (not-false _ (five .0)) in
+      let p : valueOf (fieldOf padField (bitsOf (c .frame))) ≡ 0 = eqb-true _ _ (not-false _ (five .0)) in
       let is : s ≡ runOf scramble tap (c .state) (clocked c) = scrambles-run tap (t .0) (t .1) (c .state) (clocked c) s (w .1) in
       let O = frameOut scramble X (c .frame) in
       let out : around c s ≡ O = ap (around c) is in

@@ -9,7 +9,7 @@ use lib.IntN.{pos}
 use Rattle.answer.specs.Answer.{Refusal, answer, held, inOrder}
 use Rattle.answer.proofs.Laws.{kept}
 use Rattle.octets.specs.Bits.{valueOf}
-use Rattle.layout.specs.Places.{wordA, wordB}
+use Rattle.layout.specs.Places.{aField, bField}
 use Rattle.layout.specs.Frame.{trainingSync, fieldOf}
 use Rattle.layout.specs.Refusals.{hasSync}
 use Rattle.layout.proofs.Order.{check-order}
@@ -84,7 +84,7 @@ only none = refl
 pub found-answer : (n : ℕ) (bits : List ℕ) → foundOf n bits .answer ≡ n
 found-answer zero bits = pick (hasSync trainingSync bits)
   where
-    pick : (s : Bool) → cond {A = Found} s (record { answer = 0; kind = 0; a = valueOf (fieldOf wordA bits); b = valueOf (fieldOf wordB bits) }) (record { answer = 0; kind = 1; a = 0; b = 0 }) .answer ≡ 0
+    pick : (s : Bool) → cond {A = Found} s (record { answer = 0; kind = 0; a = valueOf (fieldOf aField bits); b = valueOf (fieldOf bField bits) }) (record { answer = 0; kind = 1; a = 0; b = 0 }) .answer ≡ 0
     pick true = refl
     pick false = refl
 found-answer (suc n) bits = refl

@@ -14,7 +14,7 @@ use Rattle.octets.specs.Bits.{digitsOf, valueOf, bitsOf, octetsOf, laid}
 use Rattle.octets.specs.Signed.{signedOf, twosOf, numberBits, numbersIn}
 use Rattle.octets.proofs.Digits.{take-bits}
 use Rattle.octets.proofs.Laws.{bits-bits, octets-length}
-use Rattle.layout.specs.Places.{wordA, wordB}
+use Rattle.layout.specs.Places.{aField, bField}
 use Rattle.layout.specs.Frame.{trainingSync, used, trainingBits, finalBits, fieldOf}
 use Rattle.layout.specs.Refusals.{writeRefusals, bitRefusals, checkRefusals}
 use Rattle.layout.proofs.Laws.{used-length, training-length}
@@ -151,15 +151,15 @@ module _ (x : Library) (two : Two x) where
   unfolding trained
   read-trained = two .back .training training (zeros 720) (zeros 16) refl training-right (zeros-small 16) refl refl
 
-  words-are : (fieldOf wordA (bitsOf (trained .frame)) ≡ 1 ∷ zeros 20) × (fieldOf wordB (bitsOf (trained .frame)) ≡ 1 ∷ zeros 20)
+  words-are : (fieldOf aField (bitsOf (trained .frame)) ≡ 1 ∷ zeros 20) × (fieldOf bField (bitsOf (trained .frame)) ≡ 1 ∷ zeros 20)
   unfolding trained trainingBits digitsOf
   words-are =
       let cs = numbersOf (zeros 720) in
       let U = used-length 128 cs (lit≤ tt) (many (zeros 720) refl) in
       let e = ap (λ (o : Outcome None (List ℕ)). bitsOf (o .memory)) (two .exact .frames .training training refl training-right)
       ∙ training-laid 128 cs 1 1 (zeros 16) (lit≤ tt) (many (zeros 720) refl) refl in (
-        ap (fieldOf wordA) e ∙ a-field (used 128 cs) 1 1 (zeros 16) (zeros 67) U refl refl trainingSync training-length,
-        ap (fieldOf wordB) e ∙ b-field (used 128 cs) 1 1 (zeros 16) (zeros 67) U refl refl trainingSync training-length,
+        ap (fieldOf aField) e ∙ a-field (used 128 cs) 1 1 (zeros 16) (zeros 67) U refl refl trainingSync training-length,
+        ap (fieldOf bField) e ∙ b-field (used 128 cs) 1 1 (zeros 16) (zeros 67) U refl refl trainingSync training-length,
       )
 
   -- last bit first they would be 1,048,576

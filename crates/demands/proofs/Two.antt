@@ -16,7 +16,7 @@ use Rattle.octets.proofs.Laws.{bits-bits}
 use Rattle.remainder.specs.Division.{Remainder, generator, polynomial}
 use Rattle.remainder.proofs.Division.{exists}
 use Rattle.remainder.proofs.Errors.{generator-degree}
-use Rattle.layout.specs.Places.{wordA, wordB, check}
+use Rattle.layout.specs.Places.{aField, bField, checkField}
 use Rattle.layout.specs.Frame.{trainingBits, finalBits, fieldOf, messageOf, coefficientsOf}
 use Rattle.layout.specs.Refusals.{bitRefusals}
 use Rattle.layout.proofs.RoundTrip.{training-laid, training-answers, final-laid, final-answers, sound}
@@ -56,7 +56,7 @@ same a b c = λ i. record { answer = a i; numbers = b i; memory = c i }
 -- ---- frames
 
 -- the bits of a frame that answers 0 end in the remainder of its message
-divided : (B : List ℕ) → Bits B → answer (bitRefusals B) ≡ 0 → Remainder 16 generator (messageOf B) (polynomial (fieldOf check B))
+divided : (B : List ℕ) → Bits B → answer (bitRefusals B) ≡ 0 → Remainder 16 generator (messageOf B) (polynomial (fieldOf checkField B))
 divided B h z =
     subst (Remainder 16 generator (messageOf B)) (sym (sound B z .checked))
     (exists 16 generator (lit≤ tt) generator-degree (messageOf B) (take-bits 4197 (drop 14 B) (drop-bits 14 B h)))
@@ -64,7 +64,7 @@ divided B h z =
 -- what reading gives, by whether the frame is a training frame
 abbrev readAs : Bool → List ℕ → List ℕ → Outcome Fields Rooms
 readAs s bits old =
-    let f : Found = cond s (record { answer = 0; kind = 0; a = valueOf (fieldOf wordA bits); b = valueOf (fieldOf wordB bits) }) (record { answer = 0; kind = 1; a = 0; b = 0 }) in
+    let f : Found = cond s (record { answer = 0; kind = 0; a = valueOf (fieldOf aField bits); b = valueOf (fieldOf bField bits) }) (record { answer = 0; kind = 1; a = 0; b = 0 }) in
     done (record { kind = f .kind; a = f .a; b = f .b })
     (record { coefficients = cond s (numberOctets (coefficientsOf bits)) old; vendor = vendorOctets bits })
 

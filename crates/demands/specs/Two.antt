@@ -9,7 +9,7 @@ use lib.ListN.{length, getD, replicate}
 use Rattle.answer.specs.Answer.{Refusal, answer}
 use Rattle.octets.specs.Bits.{valueOf, bitsOf, octetsOf, part, laid}
 use Rattle.remainder.specs.Division.{Remainder, generator, polynomial}
-use Rattle.layout.specs.Places.{wordA, wordB, vendor, check}
+use Rattle.layout.specs.Places.{aField, bField, vendorField, checkField}
 use Rattle.layout.specs.Frame.{trainingSync, used, trainingBits, finalBits, fieldOf, messageOf, coefficientsOf}
 use Rattle.layout.specs.Refusals.{hasSync}
 use Rattle.numbers.specs.Promises.{numbersOf, numberOctets}
@@ -46,14 +46,14 @@ pub record Frames (x : Library) : Type 0 where
   pub final : (c : WriteCall) → c .kind ≡ 1 → Right (writeChecks c) → x .write c ≡ done none (octetsOf 529 (finalBits (c .vendor)))
   -- "Check bits: the remainder of bits 15 to 4211 as a polynomial, bit 15 highest, times D^16, divided by D^16 + D^12 + D^5 + 1"
   pub check-bits : (c : WriteCall) → Right (writeChecks c)
-      → Remainder 16 generator (messageOf (bitsOf (x .write c .memory))) (polynomial (fieldOf check (bitsOf (x .write c .memory))))
+      → Remainder 16 generator (messageOf (bitsOf (x .write c .memory))) (polynomial (fieldOf checkField (bitsOf (x .write c .memory))))
   -- "Reading a training frame gives 180 coefficients, A, B and vendor data."
   pub read-training : (c : ReadCall) → Right (readChecks c) → hasSync trainingSync (bitsOf (c .frame)) ≡ true
-      → x .read c ≡ done (record { kind = 0; a = valueOf (fieldOf wordA (bitsOf (c .frame))); b = valueOf (fieldOf wordB (bitsOf (c .frame))) })
-      (record { coefficients = numberOctets (coefficientsOf (bitsOf (c .frame))); vendor = octetsOf 16 (fieldOf vendor (bitsOf (c .frame))) })
+      → x .read c ≡ done (record { kind = 0; a = valueOf (fieldOf aField (bitsOf (c .frame))); b = valueOf (fieldOf bField (bitsOf (c .frame))) })
+      (record { coefficients = numberOctets (coefficientsOf (bitsOf (c .frame))); vendor = octetsOf 16 (fieldOf vendorField (bitsOf (c .frame))) })
   -- "Reading a final frame .. gives its kind and vendor data, and touches no coefficient buffer"
   pub read-final : (c : ReadCall) → Right (readChecks c) → hasSync trainingSync (bitsOf (c .frame)) ≡ false
-      → x .read c ≡ done (record { kind = 1; a = 0; b = 0 }) (record { coefficients = c .coefficients; vendor = octetsOf 16 (fieldOf vendor (bitsOf (c .frame))) })
+      → x .read c ≡ done (record { kind = 1; a = 0; b = 0 }) (record { coefficients = c .coefficients; vendor = octetsOf 16 (fieldOf vendorField (bitsOf (c .frame))) })
 
 -- the bits of a run: the first so many of the input
 abbrev pub given : RunCall → List ℕ

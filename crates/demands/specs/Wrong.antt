@@ -4,7 +4,7 @@ use mathlib.Core.List.{List, reverse}
 use Prim.Native.Nat.{ℕ, suc, _≤_, _<_}
 use lib.ListN.{getD}
 use Rattle.octets.specs.Bits.{valueOf, bitsOf}
-use Rattle.layout.specs.Places.{wordA, wordB}
+use Rattle.layout.specs.Places.{aField, bField}
 use Rattle.layout.specs.Frame.{fieldOf}
 use Rattle.recurrence.specs.Run.{Way, scramble}
 use Rattle.startup.specs.Three.{Make}
@@ -59,11 +59,11 @@ CopiesTheRest x = (c : RunCall) (n : ℕ) → 1 ≤ n → n < c .bits → getD (
 
 -- a reader that takes A "with the first bit as the highest", as the old bench program did
 abbrev pub TurnsA : Library → Type 0
-TurnsA x = (c : ReadCall) → x .read c .answer ≡ 0 → x .read c .numbers .kind ≡ 0 → x .read c .numbers .a ≡ valueOf (reverse (fieldOf wordA (bitsOf (c .frame))))
+TurnsA x = (c : ReadCall) → x .read c .answer ≡ 0 → x .read c .numbers .kind ≡ 0 → x .read c .numbers .a ≡ valueOf (reverse (fieldOf aField (bitsOf (c .frame))))
 
 -- or B
 abbrev pub TurnsB : Library → Type 0
-TurnsB x = (c : ReadCall) → x .read c .answer ≡ 0 → x .read c .numbers .kind ≡ 0 → x .read c .numbers .b ≡ valueOf (reverse (fieldOf wordB (bitsOf (c .frame))))
+TurnsB x = (c : ReadCall) → x .read c .answer ≡ 0 → x .read c .numbers .kind ≡ 0 → x .read c .numbers .b ≡ valueOf (reverse (fieldOf bField (bitsOf (c .frame))))
 
 -- a supervisor that moves once and then stays: every later answer shows the phase that the first showed
 abbrev pub MovesOnce : {S : Type 0} → Make S → Type 0

@@ -11,7 +11,7 @@ use Rattle.answer.specs.Answer.{answer, held}
 use Rattle.answer.proofs.Laws.{kept, given}
 use Rattle.octets.specs.Bits.{valueOf, bitsOf}
 use Rattle.octets.proofs.Numbers.{numbers-length}
-use Rattle.layout.specs.Places.{coefficients, wordA, wordB}
+use Rattle.layout.specs.Places.{coefficientsField, aField, bField}
 use Rattle.layout.specs.Frame.{trainingSync, fieldOf, coefficientsOf}
 use Rattle.layout.specs.Refusals.{hasSync, readRefusals}
 use Rattle.numbers.specs.Promises.{numberOctets, NumbersPut}
@@ -23,7 +23,7 @@ use Rattle.host.specs.Frames.{frameReadRefusals, fieldsOf, coefficientOc
 -- what is found where the test says training or not
 abbrev by : Bool → List ℕ → Found
 by t B =
-    cond t (record { answer = 0; kind = 0; a = valueOf (fieldOf wordA B); b = valueOf (fieldOf wordB B) }) (record { answer = 0; kind = 1; a = 0; b = 0 })
+    cond t (record { answer = 0; kind = 0; a = valueOf (fieldOf aField B); b = valueOf (fieldOf bField B) }) (record { answer = 0; kind = 1; a = 0; b = 0 })
 
 by-answer : (t : Bool) (B : List ℕ) → by t B .answer ≡ 0
 by-answer true B = refl
@@ -86,7 +86,7 @@ module _ (frame os vendor : List ℕ) (cs cs′ : List ℤ) (vendor′ : List �
         let t : hasSync trainingSync B ≡ true = by-training (hasSync trainingSync B) B (sym (ap (λ (x : Found). x .kind) found-is) ∙ k) in
         let c : cs′ ≡ coefficientsOf B =
         p .coefficients-left ∙ given A cs (coefficientsLeft B cs) zero-answer ∙ ap (λ (b : Bool). cond b (coefficientsOf B) cs) t in
-        out os′ (subst (λ (zs : List ℤ). NumbersPut os zs os′) c e ∙ put-whole os l (coefficientsOf B) (numbers-length 22 180 (fieldOf coefficients B)) ∙ sym (left-is true t))
+        out os′ (subst (λ (zs : List ℤ). NumbersPut os zs os′) c e ∙ put-whole os l (coefficientsOf B) (numbers-length 22 180 (fieldOf coefficientsField B)) ∙ sym (left-is true t))
 
     pub final-out : (f .kind ≡ 0 → ⊥) → FrameRead frame os vendor (fieldsOf f) os vendor′
     final-out k =

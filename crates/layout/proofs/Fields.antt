@@ -12,7 +12,7 @@ use Rattle.octets.proofs.Digits.{digits-length}
 use Rattle.octets.proofs.Laws.{bits-length}
 use Rattle.octets.proofs.Fields.{part-behind, part-before, part-is}
 use Rattle.remainder.specs.Division.{checkBits}
-use Rattle.layout.specs.Places.{sync, coefficients, wordA, wordB, vendor, reserved, check, pad}
+use Rattle.layout.specs.Places.{syncField, coefficientsField, aField, bField, vendorField, reservedField, checkField, padField}
 use Rattle.layout.specs.Frame.{coefficientBits, message, checkOf, frameBits, fieldOf, messageOf}
 use Rattle.octets.proofs.Numbers.{number-length}
 use Rattle.layout.proofs.Laws.{message-length, check-length}
@@ -24,7 +24,7 @@ module _ (word m : List ℕ) (s : length word ≡ 14) (l : length m ≡ 4197) wh
   abbrev c : List ℕ
   c = checkBits 16 (checkOf m)
 
-  pub sync-field : fieldOf sync F ≡ word
+  pub sync-field : fieldOf syncField F ≡ word
   unfolding frameBits
   sync-field = take-at word (m ++ (c ++ replicate 5 0)) 14 s
 
@@ -38,13 +38,13 @@ module _ (word m : List ℕ) (s : length word ≡ 14) (l : length m ≡ 4197) wh
   in-message at n h k e =
       part-behind word (m ++ (c ++ replicate 5 0)) at n k (ap (λ (i : ℕ). i + at) s ∙ e) ∙ part-before m (c ++ replicate 5 0) at n (omega arith)
 
-  pub check-field : fieldOf check F ≡ c
+  pub check-field : fieldOf checkField F ≡ c
   unfolding frameBits
   check-field =
       part-behind word (m ++ (c ++ replicate 5 0)) 4197 16 4211 (ap (λ (i : ℕ). i + 4197) s)
       ∙ part-is m c (replicate 5 0) 4197 16 l (check-length 16 (checkOf m))
 
-  pub pad-field : fieldOf pad F ≡ replicate 5 0
+  pub pad-field : fieldOf padField F ≡ replicate 5 0
   unfolding frameBits
   pad-field =
       part-behind word (m ++ (c ++ replicate 5 0)) 4213 5 4227 (ap (λ (i : ℕ). i + 4213) s)
@@ -68,11 +68,11 @@ module _ (cs : List ℤ) (a b : ℕ) (given rest : List ℕ) (l : length cs ≡ 
     ml : length m ≡ 4197
     ml = message-length a b given rest v r cs l
 
-    pub coefficients-field : fieldOf coefficients (frameBits word m) ≡ C
+    pub coefficients-field : fieldOf coefficientsField (frameBits word m) ≡ C
     unfolding message
     coefficients-field = in-message word m s ml 0 3960 (lit≤ tt) 14 refl ∙ take-at C (digitsOf 21 a ++ (digitsOf 21 b ++ (bitsOf given ++ rest))) 3960 C-length
 
-    pub a-field : fieldOf wordA (frameBits word m) ≡ digitsOf 21 a
+    pub a-field : fieldOf aField (frameBits word m) ≡ digitsOf 21 a
     unfolding message
     a-field = in-message word m s ml 3960 21 (lit≤ tt) 3974 refl ∙ part-is C (digitsOf 21 a) (digitsOf 21 b ++ (bitsOf given ++ rest)) 3960 21 C-length (digits-length 21 a)
 
@@ -80,7 +80,7 @@ module _ (cs : List ℤ) (a b : ℕ) (given rest : List ℕ) (l : length cs ≡ 
     unfolding message
     behind-C at n k e = part-behind C (digitsOf 21 a ++ (digitsOf 21 b ++ (bitsOf given ++ rest))) at n k (ap (λ (i : ℕ). i + at) C-length ∙ e)
 
-    pub b-field : fieldOf wordB (frameBits word m) ≡ digitsOf 21 b
+    pub b-field : fieldOf bField (frameBits word m) ≡ digitsOf 21 b
     b-field =
         in-message word m s ml 3981 21 (lit≤ tt) 3995 refl ∙ behind-C 21 21 3981 refl
         ∙ part-is (digitsOf 21 a) (digitsOf 21 b) (bitsOf given ++ rest) 21 21 (digits-length 21 a) (digits-length 21 b)
@@ -91,10 +91,10 @@ module _ (cs : List ℤ) (a b : ℕ) (given rest : List ℕ) (l : length cs ≡ 
         ∙ part-behind (digitsOf 21 a) (digitsOf 21 b ++ (bitsOf given ++ rest)) (21 + at) n (42 + at) (omega (arith, digits-length 21 a))
         ∙ part-behind (digitsOf 21 b) (bitsOf given ++ rest) at n (21 + at) (omega (arith, digits-length 21 b))
 
-    pub vendor-field : fieldOf vendor (frameBits word m) ≡ bitsOf given
+    pub vendor-field : fieldOf vendorField (frameBits word m) ≡ bitsOf given
     vendor-field = in-message word m s ml 4002 128 (lit≤ tt) 4016 refl ∙ behind-words 0 128 4002 refl ∙ take-at (bitsOf given) rest 128 V-length
 
-    pub reserved-field : fieldOf reserved (frameBits word m) ≡ rest
+    pub reserved-field : fieldOf reservedField (frameBits word m) ≡ rest
     reserved-field =
         in-message word m s ml 4130 67 (lit≤ tt) 4144 refl ∙ behind-words 128 67 4130 refl
         ∙ part-behind (bitsOf given) rest 0 67 128 (ap (λ (i : ℕ). i + 0) V-length) ∙ take-all 67 rest (omega arith)

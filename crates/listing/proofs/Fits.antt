@@ -19,7 +19,7 @@ use Rattle.octets.proofs.Laws.{bits-bits, octets-length}
 use Rattle.octets.proofs.Complement.{signed-range}
 use Rattle.octets.proofs.Numbers.{numbers-length}
 use Rattle.remainder.specs.Division.{polynomial}
-use Rattle.layout.specs.Places.{coefficients, wordA, wordB, vendor, check}
+use Rattle.layout.specs.Places.{coefficientsField, aField, bField, vendorField, checkField}
 use Rattle.layout.specs.Frame.{trainingSync, fieldOf, coefficientsOf}
 use Rattle.layout.specs.Refusals.{hasSync, checkRefusals}
 use Rattle.layout.proofs.Order.{check-order}
@@ -118,12 +118,12 @@ fits octets = go (answer (checkRefusals octets)) (answer-small 1 (checkRefusals 
     from : (at : ℕ) → Bits (drop at B)
     from at = drop-bits at B (bits-bits octets)
 
-    text-length : (t : Bool) → length (cond t (trainingText (coefficientsOf B) (valueOf (fieldOf wordA B)) (valueOf (fieldOf wordB B)) (vendorOctets B) (polynomial (fieldOf check B))) (finalText (vendorOctets B) (polynomial (fieldOf check B)))) ≤ 4096
+    text-length : (t : Bool) → length (cond t (trainingText (coefficientsOf B) (valueOf (fieldOf aField B)) (valueOf (fieldOf bField B)) (vendorOctets B) (polynomial (fieldOf checkField B))) (finalText (vendorOctets B) (polynomial (fieldOf checkField B)))) ≤ 4096
     text-length true =
-        training-length (coefficientsOf B) (valueOf (fieldOf wordA B)) (valueOf (fieldOf wordB B)) (vendorOctets B) (polynomial (fieldOf check B))
-        (numbers-length 22 180 (fieldOf coefficients B)) (numbers-small 180 (fieldOf coefficients B) (take-bits 3960 (drop 14 B) (from 14)))
-        (value-part 21 (drop 3974 B) (from 3974)) (value-part 21 (drop 3995 B) (from 3995)) (octets-length 16 (fieldOf vendor B))
-    text-length false = final-length (vendorOctets B) (polynomial (fieldOf check B)) (octets-length 16 (fieldOf vendor B))
+        training-length (coefficientsOf B) (valueOf (fieldOf aField B)) (valueOf (fieldOf bField B)) (vendorOctets B) (polynomial (fieldOf checkField B))
+        (numbers-length 22 180 (fieldOf coefficientsField B)) (numbers-small 180 (fieldOf coefficientsField B) (take-bits 3960 (drop 14 B) (from 14)))
+        (value-part 21 (drop 3974 B) (from 3974)) (value-part 21 (drop 3995 B) (from 3995)) (octets-length 16 (fieldOf vendorField B))
+    text-length false = final-length (vendorOctets B) (polynomial (fieldOf checkField B)) (octets-length 16 (fieldOf vendorField B))
 
     go : (n : ℕ) → n ≤ 8 → length (listed n B) ≤ 4096
     go zero h = text-length (hasSync trainingSync B)

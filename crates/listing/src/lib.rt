@@ -5,7 +5,7 @@ ghost use Prim.Native.Nat.{_<_, _≤_};
 ghost use lib.ListN.{length, take};
 ghost use Rattle.octets.specs.Bits.{bitsOf};
 ghost use Rattle.remainder.specs.Division.{polynomial};
-ghost use Rattle.layout.specs.Places.{check};
+ghost use Rattle.layout.specs.Places.{checkField};
 ghost use Rattle.layout.specs.Frame.{fieldOf};
 ghost use Rattle.ascii.specs.Text.{hexes};
 ghost use Rattle.ascii.specs.Promises.{Put};
@@ -89,7 +89,7 @@ fn put_refused(room: &mut [u8], n: u32) -> usize
 
 // A frame's check bits as a number, c1 highest.
 fn check_of(frame: &[u8]) -> u32
-    ensures { λ r. ⌜ (r < 65536) × (length (now (frame .entry)) ≡ 529 → r ≡ polynomial (fieldOf check (bitsOf (now (frame .entry))))) ⌝ }
+    ensures { λ r. ⌜ (r < 65536) × (length (now (frame .entry)) ≡ 529 → r ≡ polynomial (fieldOf checkField (bitsOf (now (frame .entry))))) ⌝ }
 {
     let c1_lowest = bitfields::field(frame, layout::CHECK_AT, layout::CHECK_BITS);
     let c1_highest = bitfields::turned(layout::CHECK_BITS, c1_lowest);

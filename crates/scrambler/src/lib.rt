@@ -60,14 +60,14 @@ impl Scrambler {
         ensures { λ r. ⌜ StartPromise end r ⌝ }
     {
         match end {
-            0 => Ran {
+            Self::LTU => Ran {
                 answer: answer::DONE,
                 next: Scrambler {
                     end,
                     state: Self::LTU_START,
                 },
             },
-            1 => Ran {
+            Self::NTU => Ran {
                 answer: answer::DONE,
                 next: Scrambler {
                     end,
@@ -86,7 +86,7 @@ impl Scrambler {
         ensures { λ r. ⌜ StepPromise (wayOf back) self bit r ⌝ }
     {
         let end = self.end;
-        if 1 < end {
+        if Self::NTU < end {
             return Step {
                 answer: answer::UNKNOWN,
                 bit: 0,
@@ -128,7 +128,7 @@ impl Scrambler {
         if input.len() != output.len() {
             return answer::LENGTH;
         }
-        if 1 < self.end {
+        if Self::NTU < self.end {
             return answer::UNKNOWN;
         }
         if Self::STATES <= self.state {
@@ -185,7 +185,7 @@ impl Scrambler {
         if output.len() != layout::FRAME_OCTETS {
             return answer::LENGTH;
         }
-        if 1 < self.end {
+        if Self::NTU < self.end {
             return answer::UNKNOWN;
         }
         if Self::STATES <= self.state {

@@ -7,12 +7,13 @@ use lib.Dec.{eqb}
 use lib.IntN.{ℤ}
 use Rattle.answer.specs.Answer.{answer, held}
 use Rattle.octets.specs.Bits.{octetsOf}
+use Rattle.layout.specs.Places.{frameLength}
 use Rattle.layout.specs.Frame.{trainingBits, finalBits}
 use Rattle.layout.specs.Refusals.{writeRefusals}
 
 -- the frame's octets: of a training frame its fields, of a final frame vendor data only
 abbrev pub frameOctets : ℕ → ℕ → List ℤ → ℕ → ℕ → List ℕ → List ℕ
-frameOctets kind count cs a b vendor = octetsOf 529 (cond (eqb kind 0) (trainingBits count cs a b vendor) (finalBits vendor))
+frameOctets kind count cs a b vendor = octetsOf frameLength (cond (eqb kind 0) (trainingBits count cs a b vendor) (finalBits vendor))
 
 -- write: the answer, and the frame written, or as it was
 pub record Written (kind count : ℕ) (cs : List ℤ) (a b : ℕ) (vendor frame : List ℕ) (r : ℕ) (exit : List ℕ) : Type 0 where
