@@ -6,8 +6,8 @@ use mathlib.Core.List.{List, [], _∷_}
 use Prim.Native.Nat.{ℕ, suc, _≤_}
 use native.Mathlib.Omega.{arith}
 use lib.Dec.{lit≤}
-use Rattle.startup.specs.Attempts.{at, count, ltu, need, shown, Uncut, StillOpen, fresh, told, OpensAt, opens}
-use Rattle.startup.specs.Three.{Make, Follows, phaseAt, replyTo}
+use Rattle.startup.specs.Attempts.{at, count, ltu, need, shown, InTime, StillOpen, fresh, told, OpensAt, opens}
+use Rattle.startup.specs.Make.{Make, Follows, phaseAt, replyTo}
 use Rattle.startup.proofs.Counts.{in-order-le}
 use Rattle.startup.proofs.Fate.{open-now}
 use Rattle.startup.proofs.Simulates.{sound}
@@ -23,12 +23,12 @@ opened : (rest : List ℕ) → OpensAt (ltu 2000) (told-and-heard rest) 2
 opened rest = opens {p = 1} (told {p = 0} fresh (lit≤ tt) refl refl refl) (record { since = lit≤ tt; lacking = refl; shows = refl }) refl
 
 -- and a code that is neither a 3 nor an 8 leaves it open
-still-open : (c : ℕ) → shown (need 0 (3 ∷ [])) (told-and-heard (c ∷ [])) 2 3 ≡ false → Uncut (told-and-heard (c ∷ [])) 2 3 → StillOpen (ltu 2000) (told-and-heard (c ∷ [])) 2 3
+still-open : (c : ℕ) → shown (need 0 (3 ∷ [])) (told-and-heard (c ∷ [])) 2 3 ≡ false → InTime (told-and-heard (c ∷ [])) 2 3 → StillOpen (ltu 2000) (told-and-heard (c ∷ [])) 2 3
 still-open c f u =
     let l = told-and-heard (c ∷ []) in
     record {
       since = lit≤ tt;
-      uncut = u;
+      in-time = u;
       unshown = λ q h i.
           let e : i .0 ≡ 2 = omega (arith, i .1 .since, in-order-le (ltu 2000 .others) l (suc (i .0)) q (i .2), h) in
           true≢false (sym (subst (λ (p : ℕ). shown (need 0 (3 ∷ [])) l 2 (suc p) ≡ true) e (i .1 .shows)) ∙ f);

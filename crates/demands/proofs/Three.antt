@@ -8,8 +8,8 @@ use lib.Dec.{eqb}
 use lib.ListN.{take}
 use Rattle.supervisor.specs.declared.Supervisor.{Supervisor as State}
 use Rattle.supervisor.specs.Step.{startOf}
-use Rattle.startup.specs.Attempts.{at, Card, card, meant}
-use Rattle.startup.specs.Three.{Reply, Make, stepsBy, phaseAt, replyTo, FirstShows, Follows, ours}
+use Rattle.startup.specs.Attempts.{at, Needs, needsOf, meant}
+use Rattle.startup.specs.Make.{Reply, Make, stepsBy, phaseAt, replyTo, FirstShows, Follows, ours}
 use Rattle.startup.proofs.Three.{demand3}
 use Rattle.host.specs.declared.supervising.Supervisor.{Supervisor}
 use Rattle.host.specs.declared.supervising.Stepped.{Stepped}
@@ -55,7 +55,7 @@ module _ {S T : Type 0} (m : Make S) (n : Make T) (g : T → S) (back : S → T)
       not-exception = λ q h i e. f .not-exception q h i (sym (shown q) ∙ e);
     }
 
-    follows-alike : (k : Card) (opening : ℕ) → Follows m (g t) k opening l → Follows n t k opening l
+    follows-alike : (k : Needs) (opening : ℕ) → Follows m (g t) k opening l → Follows n t k opening l
     follows-alike k opening f = record {
       answered = λ p h. let w = f .answered p h in (ap (λ (r : Reply S). r .answer) (reply-alike p) ∙ w .0, shown p ∙ w .1 ∙ sym (phase-alike (suc p)));
       skipped = λ p h. let w = f .skipped p h in (
@@ -76,7 +76,7 @@ module _ {S T : Type 0} (m : Make S) (n : Make T) (g : T → S) (back : S → T)
 pub three : (x : Library) → Keeps x → Three (supervisor x)
 three x k end silence h t l =
     follows-alike ours (supervisor x) stateIn stateOf (λ s. refl) (λ s. refl) alike start l _ _
-    (subst (λ (s : State). Follows ours s (card end (meant silence)) (cond (eqb end 1) 3 4) l) (sym begins) (demand3 end silence h t l))
+    (subst (λ (s : State). Follows ours s (needsOf end (meant silence)) (cond (eqb end 1) 3 4) l) (sym begins) (demand3 end silence h t l))
   where
     start : Supervisor
     start = x .start (record { end = end; silence = silence }) .memory

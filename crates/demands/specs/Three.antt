@@ -4,7 +4,7 @@
 -- those comes first." What a list shows is in startup/specs/Attempts.antt, and these sentences one by one in startup/specs/Three.antt (`Follows`).
 use mathlib.Core.List.{List}
 use Prim.Native.Nat.{ℕ, _≤_}
-use Rattle.startup.specs.Three.{Make, Demand3, Taken}
+use Rattle.startup.specs.Make.{Make, Demand3, Taken}
 use Rattle.host.specs.declared.supervising.Supervisor.{Supervisor}
 use Rattle.demands.specs.Library.{Library}
 

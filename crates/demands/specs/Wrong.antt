@@ -7,7 +7,7 @@ use Rattle.octets.specs.Bits.{valueOf, bitsOf}
 use Rattle.layout.specs.Places.{aField, bField}
 use Rattle.layout.specs.Frame.{fieldOf}
 use Rattle.recurrence.specs.Run.{Way, scramble}
-use Rattle.startup.specs.Three.{Make}
+use Rattle.startup.specs.Make.{Make}
 use Rattle.demands.specs.Library.{Outcome, WriteCall, ReadCall, RunCall, PrecodeCall, Library}
 
 -- a function that refuses everything

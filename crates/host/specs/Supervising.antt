@@ -25,7 +25,7 @@ steppedOf r = record { answer = r .answer; phase = r .phase; attempt = r .attemp
 
 -- struct sdsl_run: `opened` is how many attempts opened, `ended` what became of the last one
 abbrev pub runFieldsOf : StartupRun → Run
-runFieldsOf r = record { answer = r .answer; opened = r .attempts; «opened_at» = r .opened; ended = r .how; «ended_at» = r .ended; state = stateOf (r .state) }
+runFieldsOf r = record { answer = r .answer; opened = r .attempts; «opened_at» = r .«opened_at»; ended = r .outcome; «ended_at» = r .«ended_at»; state = stateOf (r .state) }
 
 -- sdsl_start
 abbrev pub Started : ℕ → ℕ → Stepped → Type 0

@@ -107,9 +107,9 @@ pub extern "C" fn sdsl_run_codes(state: Supervisor, codes: &[u8]) -> Run
     Run {
         answer: run.answer,
         opened: run.attempts as u64,
-        opened_at: run.opened as u64,
-        ended: run.how,
-        ended_at: run.ended as u64,
+        opened_at: run.opened_at as u64,
+        ended: run.outcome,
+        ended_at: run.ended_at as u64,
         state: state_out(after),
     }
 }

@@ -18,13 +18,13 @@ use Rattle.supervisor.specs.Step.{startOf as supervisorStart}
 use Rattle.startup.specs.declared.Run.{Run}
 use Rattle.startup.specs.Run.{goesOn, opens, ends, noted, takenOf, runFrom, begun}
 use Rattle.startup.specs.Run.{eventOf as attemptEvent}
-use Rattle.startup.specs.Attempts.{at, one, upto, count, Card, card, meant, StillOpen, OpensAt}
-use Rattle.startup.specs.Three.{Taken, steps, after}
+use Rattle.startup.specs.Attempts.{at, one, upto, count, Needs, needsOf, meant, StillOpen, OpensAt}
+use Rattle.startup.specs.Make.{Taken, steps, after}
 use Rattle.startup.specs.Scan.{Attempt}
 use Rattle.startup.specs.Scan.{attempts as attemptsOf}
 use Rattle.startup.specs.Agrees.{summary}
 use Rattle.startup.proofs.Simulates.{after-suc}
-use Rattle.startup.proofs.Three.{open-run, in-run, meant-range, started, demand3}
+use Rattle.startup.proofs.Three.{open-run, in-run, meant-range, started, answered-either}
 use Rattle.startup.proofs.Agreement.{run-agrees}
 use Rattle.story.specs.declared.Story.{Story}
 use Rattle.story.specs.declared.Event.{Event}
@@ -68,7 +68,7 @@ few-openings s l (suc n) = omega (arith, few-openings s l n, one-or-none (eqb (a
 -- ---- the run's attempts are those openings
 
 noted-attempts : (r : Run) (s : Supervisor) (p e : ℕ) → noted r s p e .attempts ≡ r .attempts + one (eqb e 1)
-noted-attempts r s p e = go (eqb e 1) (ltb 1 e && not (eqb (r .how) 0))
+noted-attempts r s p e = go (eqb e 1) (ltb 1 e && not (eqb (r .outcome) 0))
   where
     go : (a b : Bool) → cond {A = Run} a (opens r s p) (cond {A = Run} b (ends r s p e) (goesOn r s)) .attempts ≡ r .attempts + one a
     go true b = refl
@@ -76,7 +76,7 @@ noted-attempts r s p e = go (eqb e 1) (ltb 1 e && not (eqb (r .how) 0))
     go false false = omega arith
 
 noted-state : (r : Run) (s : Supervisor) (p e : ℕ) → noted r s p e .state ≡ s
-noted-state r s p e = go (eqb e 1) (ltb 1 e && not (eqb (r .how) 0))
+noted-state r s p e = go (eqb e 1) (ltb 1 e && not (eqb (r .outcome) 0))
   where
     go : (a b : Bool) → cond {A = Run} a (opens r s p) (cond {A = Run} b (ends r s p e) (goesOn r s)) .state ≡ s
     go true b = refl
@@ -125,8 +125,8 @@ module _ (end silence : ℕ) (known : end ≤ 1) (t : Taken silence) (l : List �
   abbrev s₀ : Supervisor
   s₀ = supervisorStart end silence .state
 
-  abbrev k : Card
-  k = card end (meant silence)
+  abbrev k : Needs
+  k = needsOf end (meant silence)
 
   -- one event of the story, from the moment n
   told-at : (n : ℕ) → n < length l → (s : Story) → s ≡ story (after s₀ l n) (upto 0 l n) (openings s₀ l n)
@@ -135,7 +135,7 @@ module _ (end silence : ℕ) (known : end ≤ 1) (t : Taken silence) (l : List �
       let g = stepOf (after s₀ l n) (at l n) in
       let v = story (after s₀ l n) (upto 0 l n) (openings s₀ l n) in
       ap (λ (x : Story). eventOf x (at l n)) e
-      ∙ sym (event-told g v (at l n) (demand3 end silence known t l .answered n (codes n h) .0) (told v (g .state) (at l n)) (omega (arith, few-ticks l n)) (omega (arith, few-openings s₀ l n)) refl)
+      ∙ sym (event-told g v (at l n) (answered-either end silence known t l n (codes n h)) (told v (g .state) (at l n)) (omega (arith, few-ticks l n)) (omega (arith, few-openings s₀ l n)) refl)
       ∙ ap (λ (x : Supervisor). told v x (at l n)) (sym (after-suc s₀ l n))
 
   -- the story at the moment n
@@ -159,7 +159,7 @@ module _ (end silence : ℕ) (known : end ≤ 1) (t : Taken silence) (l : List �
       ∙ ap (λ (x : Run). x .attempts) r ∙ summary-attempts (steps s₀ l) (attemptsOf k l)
 
   -- an attempt that the list has open, and the state's
-  abbrev Open : Supervisor → Card → Type 0
+  abbrev Open : Supervisor → Needs → Type 0
   Open s c =
       ((m : ℕ) → OpensAt c l m → StillOpen c l m (length l) → (inAttempt (after s l (length l) .phase) ≡ true) × (after s l (length l) .attempt ≡ count 0 l m (length l)))
       × (inAttempt (after s l (length l) .phase) ≡ true → (m : ℕ) × OpensAt c l m × StillOpen c l m (length l))
@@ -168,11 +168,11 @@ module _ (end silence : ℕ) (known : end ≤ 1) (t : Taken silence) (l : List �
   open-either =
       let r = meant-range silence t in
       ⊎-elim
-      (λ q. subst (λ (e : ℕ). Open (supervisorStart e silence .state) (card e (meant silence))) (sym q)
-      (subst (λ (s : Supervisor). Open s (card 1 (meant silence))) (sym (started 1 silence (omega arith) t))
+      (λ q. subst (λ (e : ℕ). Open (supervisorStart e silence .state) (needsOf e (meant silence))) (sym q)
+      (subst (λ (s : Supervisor). Open s (needsOf 1 (meant silence))) (sym (started 1 silence (omega arith) t))
       (λ m o x. open-run true (meant silence) (r .0) (r .1) l m (length l) o x, in-run true (meant silence) (r .0) (r .1) l (length l))))
-      (λ z. let q : end ≡ 0 = omega arith in subst (λ (e : ℕ). Open (supervisorStart e silence .state) (card e (meant silence))) (sym q)
-      (subst (λ (s : Supervisor). Open s (card 0 (meant silence))) (sym (started 0 silence (omega arith) t))
+      (λ z. let q : end ≡ 0 = omega arith in subst (λ (e : ℕ). Open (supervisorStart e silence .state) (needsOf e (meant silence))) (sym q)
+      (subst (λ (s : Supervisor). Open s (needsOf 0 (meant silence))) (sym (started 0 silence (omega arith) t))
       (λ m o x. open-run false (meant silence) (r .0) (r .1) l m (length l) o x, in-run false (meant silence) (r .0) (r .1) l (length l))))
       (eq-or-lt-of-le known)
 

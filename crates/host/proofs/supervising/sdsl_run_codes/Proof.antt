@@ -21,7 +21,7 @@ returns : tie.Need-returns
 returns c =
     let s = c .before .before .before .before .before .args in
     let r = c .before .before .over in
-    ap (λ (t : Supervisor). record { answer = r .result .answer; opened = r .result .attempts; «opened_at» = r .result .opened; ended = r .result .how; «ended_at» = r .result .ended; state = t }) (c .state-out .ensures)
+    ap (λ (t : Supervisor). record { answer = r .result .answer; opened = r .result .attempts; «opened_at» = r .result .«opened_at»; ended = r .result .outcome; «ended_at» = r .result .«ended_at»; state = t }) (c .state-out .ensures)
     ∙ ap runFieldsOf (r .ensures ∙ ap (λ (t : State). runOf t (s .codes .now)) (c .before .before .before .state-in .ensures))
 
 pub sdsl-run-codes-spec : {M : Type 1} → statement M
