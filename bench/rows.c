@@ -9,12 +9,12 @@
 const struct library ours = {
     "ours",
     sdsl_frame_write, sdsl_frame_check, sdsl_frame_read, sdsl_scramble_frame, sdsl_descramble_frame,
-    sdsl_encode, sdsl_encode_run, sdsl_precode, sdsl_decode, sdsl_start, sdsl_step, sdsl_run_codes,
+    sdsl_encode, sdsl_encode_run, sdsl_precode, sdsl_unprecode, sdsl_start, sdsl_step, sdsl_run_codes,
 };
 const struct library plain = {
     "plain C",
     ref_frame_write, ref_frame_check, ref_frame_read, ref_scramble_frame, ref_descramble_frame,
-    ref_encode, ref_encode_run, ref_precode, ref_decode, ref_start, ref_step, ref_run_codes,
+    ref_encode, ref_encode_run, ref_precode, ref_unprecode, ref_start, ref_step, ref_run_codes,
 };
 
 struct results results;
@@ -124,6 +124,7 @@ void make_inputs(void)
     make_frames();
     make_symbols();
     make_codes();
+    make_dear_inputs();
 }
 
 /* ---- A pass of each operation ---- */
@@ -234,11 +235,11 @@ static void precode(const struct library *library)
     results.numbers[0] = library->precode(taps, sizeof taps, past, sizeof history, xs, sizeof xs, results.octets, sizeof xs);
 }
 
-static void decode(const struct library *library)
+static void unprecode(const struct library *library)
 {
     uint8_t *past = results.octets + sizeof ys;
     memcpy(past, history, sizeof history);
-    results.numbers[0] = library->decode(taps, sizeof taps, past, sizeof history, ys, sizeof ys, results.octets, sizeof ys);
+    results.numbers[0] = library->unprecode(taps, sizeof taps, past, sizeof history, ys, sizeof ys, results.octets, sizeof ys);
 }
 
 static void step(const struct library *library)
@@ -263,22 +264,22 @@ static void run_codes(const struct library *library)
 }
 
 const struct row rows[] = {
-    {"write a training frame", "frame", BATCH, 4, write_training, NULL},
-    {"write a final frame", "frame", BATCH, 4, write_final, NULL},
-    {"check a frame", "frame", BATCH, 6, check, check_others},
-    {"read a training frame", "frame", BATCH, 4, read_training, NULL},
-    {"read a final frame", "frame", BATCH, 4, read_final, NULL},
-    {"scramble a frame, LTU", "frame", BATCH, 15, scramble_ltu, scramble_ltu_others},
-    {"scramble a frame, NTU", "frame", BATCH, 15, scramble_ntu, scramble_ntu_others},
-    {"descramble a frame, LTU", "frame", BATCH, 25, descramble_ltu, descramble_ltu_others},
-    {"descramble a frame, NTU", "frame", BATCH, 25, descramble_ntu, descramble_ntu_others},
-    {"encoder, in a run", "symbol", RUN, 1, encode_run, NULL},
-    {"encoder, a call each", "symbol", RUN, 1, encode_each, NULL},
-    {"precoder, in a run", "symbol", RUN, 1, precode, NULL},
-    {"precoder's inverse, in a run", "symbol", RUN, 1, decode, NULL},
-    {"supervisor, a call each", "step", CODES, 1, step, NULL},
-    {"supervisor, in a run", "step", CODES, 1, run_codes, NULL},
-    {"sorter's heart: read 340 frames", "340", 1, 1, read_cards, NULL},
+    {"write a training frame", "frame", BATCH, 4, 25, write_training, NULL},
+    {"write a final frame", "frame", BATCH, 4, 10, write_final, NULL},
+    {"check a frame", "frame", BATCH, 6, 45, check, check_others},
+    {"read a training frame", "frame", BATCH, 4, 26, read_training, NULL},
+    {"read a final frame", "frame", BATCH, 4, 11, read_final, NULL},
+    {"scramble a frame, LTU", "frame", BATCH, 15, 20, scramble_ltu, scramble_ltu_others},
+    {"scramble a frame, NTU", "frame", BATCH, 15, 20, scramble_ntu, scramble_ntu_others},
+    {"descramble a frame, LTU", "frame", BATCH, 25, 40, descramble_ltu, descramble_ltu_others},
+    {"descramble a frame, NTU", "frame", BATCH, 25, 40, descramble_ntu, descramble_ntu_others},
+    {"encoder, in a run", "symbol", RUN, 1, 1, encode_run, NULL},
+    {"encoder, a call each", "symbol", RUN, 1, 1, encode_each, NULL},
+    {"precoder, in a run", "symbol", RUN, 1, 1, precode, NULL},
+    {"precoder's inverse, in a run", "symbol", RUN, 1, 1, unprecode, NULL},
+    {"supervisor, a call each", "step", CODES, 1, 1, step, NULL},
+    {"supervisor, in a run", "step", CODES, 1, 1, run_codes, NULL},
+    {"sorter's heart: read 340 frames", "340", 1, 1, 1, read_cards, NULL},
 };
 const size_t row_count = ITEMS(rows);
 const struct row *const encoder_row = &rows[9], *const precoder_row = &rows[11];

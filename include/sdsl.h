@@ -1,28 +1,31 @@
 /*
  * sdsl.h: SDSL activation (ETSI TS 101 524-2), proved, for a card's host software in C11 or C++. Link with libsdsl.a.
  *
- * What every function keeps to
- * - Every call ends and answers with one of the numbers of enum sdsl_answer. No caller has to check anything first.
- * - A refused call (any answer but 0) leaves all lent memory as it was, hands a state back equal, and every other number
- *   that it returns is 0.
- * - Checks run in the order of the answers' numbers; the first that applies is answered. Each function's comment names the answers
- *   that it can give, and it gives no other.
- * - All memory is the caller's. A buffer is lent for the time of the call: a pointer and its length in octets, and nothing is kept.
- *   A pointer may be NULL where its length is 0. Buffers lent to one call must not overlap where one of them is written (no `const`):
- *   to work in place, lend a copy.
+ * What holds for every function
+ * - Every call ends and answers with one of the numbers of enum sdsl_answer. There is nothing to check before a call.
+ * - A refused call (any answer but 0) leaves all lent memory as it was and hands a state back unchanged; every other number that it
+ *   returns is 0.
+ * - Checks run in the order of the answers' numbers, and the first that applies is answered. Each function's comment lists the answers
+ *   that it can give; it gives no other.
+ * - All memory is the caller's. A buffer is lent for the time of the call, as a pointer and its length in octets; the library keeps no
+ *   pointer. A pointer may be NULL where its length is 0. A buffer that is written (no `const`) must not overlap another buffer of the
+ *   same call: to work in place, lend a copy.
  * - The library has no state of its own, takes no lock and allocates nothing: any thread may call anything at any time. States
- *   (scrambler, register, history, supervisor) are the caller's: keep what comes back and lend it to the next call.
- * - It asks for memcpy, memmove and memset of the C library, and for nothing else.
+ *   (scrambler, register, history, supervisor) are the caller's: keep what comes back and pass it to the next call.
+ * - It needs memcpy, memmove and memset of the C library, and nothing else.
+ * - No call takes more than SDSL_STACK_OCTETS octets of stack, beside what those three take.
  *
  * Bits in octets. Bit n of the paper, n from 1, has weight 1 << ((n - 1) % 8) in octet (n - 1) / 8. The first bit on the line is
  * bit 1. This holds for frames, for vendor data and for the scrambler's runs.
  *
- * Numbers in octets. Where a buffer holds coefficients, outputs or samples, each takes four octets, the low octet first, in two's
- * complement: coefficient 1 stands in octets 0 to 3. Values of the precoder are in steps of 1/131072.
+ * Numbers in octets. A buffer of coefficients, outputs or samples holds each number in four octets, low octet first, in two's
+ * complement: coefficient 1 stands in octets 0 to 3. sdsl_put_number and sdsl_get_number put a number there and get it back. On a
+ * little-endian machine this is how an int32_t lies in memory, so there an array of int32_t may be lent as it is, cast to uint8_t *.
+ * The precoder's values are in steps of 1/131072.
  *
  * Times are in ticks of one millisecond.
  *
- * The examples below stand in a function, behind #include <assert.h> and <string.h>; the gate compiles and runs them.
+ * The examples below are bodies of functions, behind #include <assert.h> and <string.h>. The gate compiles and runs them.
  */
 #ifndef SDSL_H
 #define SDSL_H
@@ -30,9 +33,17 @@
 #include <stddef.h>
 #include <stdint.h>
 
+/* The version of this header and of the library that belongs to it. */
+#define SDSL_VERSION_MAJOR 0
+#define SDSL_VERSION_MINOR 2
+#define SDSL_VERSION_PATCH 0
+#define SDSL_VERSION "0.2.0"
+
 #ifdef __cplusplus
 extern "C" {
 #endif
+
+#define SDSL_STACK_OCTETS 2048 /* the stack that a call takes, at most */
 
 /* What comes back. */
 enum sdsl_answer {
@@ -48,8 +59,9 @@ enum sdsl_answer {
 };
 
 /*
- * An answer in plain English, for a log or a screen; for a number that is no answer, words that say so. The text is a constant: do
- * not free it. This one is not in the library, which hands back numbers only.
+ * An answer in plain English, for a log or a screen; a number that is not an answer gives words that say so. The text is a constant:
+ * do not free it. Like the other functions that this header defines as `static inline`, it is not in the library, which returns
+ * numbers only.
  *
  * Example:
  *     assert(strcmp(sdsl_answer_text(SDSL_BAD_CHECK), "the check bits differ") == 0);
@@ -83,23 +95,50 @@ static inline const char *sdsl_answer_text(uint32_t answer)
 /* The two ends of the line. */
 enum sdsl_end { SDSL_LTU = 0, SDSL_NTU = 1 };
 
+/*
+ * Puts a number into a buffer of numbers, four octets each: `place` counts numbers from 0, so coefficient k has place k - 1. The buffer
+ * must have at least 4 * (place + 1) octets.
+ *
+ * Example:
+ *     uint8_t coefficients[720] = {0};
+ *     sdsl_put_number(coefficients, 179, -131072); // coefficient 180 is -1
+ *     assert(coefficients[716] == 0x00 && coefficients[718] == 0xFE && coefficients[719] == 0xFF);
+ *     assert(sdsl_get_number(coefficients, 179) == -131072 && sdsl_get_number(coefficients, 178) == 0);
+ */
+static inline void sdsl_put_number(uint8_t *buffer, size_t place, int32_t number)
+{
+    uint32_t bits = (uint32_t)number;
+    buffer[4 * place] = (uint8_t)(bits & 0xFF);
+    buffer[4 * place + 1] = (uint8_t)(bits >> 8 & 0xFF);
+    buffer[4 * place + 2] = (uint8_t)(bits >> 16 & 0xFF);
+    buffer[4 * place + 3] = (uint8_t)(bits >> 24);
+}
+
+/* Gets the number at a place of such a buffer. */
+static inline int32_t sdsl_get_number(const uint8_t *buffer, size_t place)
+{
+    uint32_t bits = (uint32_t)buffer[4 * place] | (uint32_t)buffer[4 * place + 1] << 8 | (uint32_t)buffer[4 * place + 2] << 16 |
+                    (uint32_t)buffer[4 * place + 3] << 24;
+    return bits < 0x80000000u ? (int32_t)bits : -(int32_t)(0xFFFFFFFFu - bits) - 1;
+}
+
 /* ---- The activation frame (clause 4.1.3) ---- */
 
 /* The two kinds of activation frame: T_c and T_r are training frames, F_c is a final frame. */
 enum sdsl_kind { SDSL_TRAINING = 0, SDSL_FINAL = 1 };
 
 #define SDSL_FRAME_OCTETS 529           /* an activation frame in memory */
-#define SDSL_COEFFICIENTS 180           /* precoder coefficients in a frame, and outputs that the precoder remembers */
+#define SDSL_COEFFICIENTS 180           /* precoder coefficients in a frame; the precoder remembers as many outputs */
 #define SDSL_COEFFICIENT_OCTETS 720     /* 180 numbers of four octets */
 #define SDSL_VENDOR_OCTETS 16           /* vendor data */
-#define SDSL_COUNT_MIN 128              /* coefficients in use: at least */
-#define SDSL_COUNT_MAX 180              /* and at most */
+#define SDSL_COUNT_MIN 128              /* coefficients in use, at least */
+#define SDSL_COUNT_MAX 180              /* coefficients in use, at most */
 #define SDSL_COEFFICIENT_MIN (-2097152) /* -16 in steps of 1/131072 */
 #define SDSL_COEFFICIENT_MAX 2097151
 #define SDSL_WORD_MAX 2097151u          /* A and B run from 0 to this; a0 and b0 weigh 1, a20 and b20 weigh 1048576 */
 
-/* Where the fields of a frame begin and how many bits they have; bits count from 1 (see "Bits in octets" above). */
-#define SDSL_FRAME_BITS 4227    /* bits on the line; five pad bits fill the last octet and are zero */
+/* Where each field of a frame begins, and how many bits it has. Bits count from 1 (see "Bits in octets" above). */
+#define SDSL_FRAME_BITS 4227    /* bits on the line; five zero bits, the pad, fill the last octet */
 #define SDSL_SYNC_BIT 1         /* 14 bits: 11111001101011 training, 11010110011111 final, left bit first */
 #define SDSL_SYNC_BITS 14
 #define SDSL_COEFFICIENT_BIT 15 /* coefficient k begins at SDSL_COEFFICIENT_BIT + (k - 1) * SDSL_COEFFICIENT_BITS, least bit first */
@@ -109,19 +148,19 @@ enum sdsl_kind { SDSL_TRAINING = 0, SDSL_FINAL = 1 };
 #define SDSL_WORD_BITS 21
 #define SDSL_VENDOR_BIT 4017    /* 128 bits */
 #define SDSL_RESERVED_BIT 4145  /* 67 bits, zero in a training frame */
-#define SDSL_CHECK_BIT 4212     /* c1 to c16 */
+#define SDSL_CHECK_BIT 4212     /* 16 bits, c1 first */
 
 /*
  * Writes a frame of 529 octets.
  *   kind          SDSL_TRAINING or SDSL_FINAL
- *   count         how many coefficients are in use, 128 to 180; those behind are written zero whatever stands in the buffer
- *   coefficients  720 octets; the first `count` are looked at, each from -2097152 to 2097151
+ *   count         how many coefficients are in use, 128 to 180; the rest are written as zero, whatever the buffer holds
+ *   coefficients  720 octets; only the first `count` numbers are looked at, each from -2097152 to 2097151
  *   a, b          the encoder's words, 0 to 2097151; the lowest bit of a is a0, the first on the line
  *   vendor        16 octets
  *   frame         529 octets, written
- * A final frame carries vendor data only: count, the coefficients' values, a and b are not looked at. The three buffers' lengths are,
- * for either kind.
- * What a card writes is what its own receiver asks of the far card's transmitter (clause 4.3.3.2).
+ * A final frame carries vendor data only: count, coefficients, a and b are ignored, but all three buffers must still have the right
+ * length.
+ * The coefficients and words in a card's frame are those that its own receiver asks the far card's transmitter to use (clause 4.3.3.2).
  * Answers 0, 1, 2 (kind), 3, 4.
  *
  * Example:
@@ -137,7 +176,7 @@ uint32_t sdsl_frame_write(uint32_t kind, uint32_t count,
                           const uint8_t *vendor, size_t vendor_len,
                           uint8_t *frame, size_t frame_len);
 
-/* What reading a frame gives. Of a final frame a and b are 0. */
+/* What reading a frame gives. For a final frame a and b are 0. */
 struct sdsl_frame_fields {
     uint32_t answer; /* enum sdsl_answer */
     uint32_t kind;   /* enum sdsl_kind */
@@ -146,9 +185,10 @@ struct sdsl_frame_fields {
 };
 
 /*
- * Reads a frame of 529 octets: its kind, and into lent memory the 16 octets of vendor data and, of a training frame, all 180
- * coefficients (720 octets). A final frame leaves `coefficients` as it was; its length has to be right all the same.
- * A frame does not carry the count of coefficients: unused ones are zero. Look at `answer` first: where it is not 0, kind is 0 too.
+ * Reads a frame of 529 octets. It returns kind, A and B, and writes the vendor data (16 octets) and, from a training frame, all 180
+ * coefficients (720 octets). A final frame leaves `coefficients` as it was, but its length must still be right.
+ * A frame does not say how many coefficients are in use: unused ones are zero. Look at `answer` first: after a refusal kind is 0, which
+ * is also SDSL_TRAINING.
  * Answers 0, 1, 5, 6, 7, 8.
  *
  * Example:
@@ -161,33 +201,33 @@ struct sdsl_frame_fields sdsl_frame_read(const uint8_t *frame, size_t frame_len,
                                          uint8_t *vendor, size_t vendor_len);
 
 /*
- * The same verdict on a frame of 529 octets, with nothing written.
+ * Gives the answer that sdsl_frame_read would give to a frame of 529 octets, and writes nothing.
  * Answers 0, 1, 5, 6, 7, 8.
  *
  * Example:
  *     uint8_t frame[SDSL_FRAME_OCTETS] = {0x9F, 0x35};
  *     assert(sdsl_frame_check(frame, sizeof frame) == SDSL_DONE);
- *     frame[(SDSL_A_BIT - 1) / 8] ^= 1 << ((SDSL_A_BIT - 1) % 8); // one bit wrong on the line
+ *     frame[(SDSL_A_BIT - 1) / 8] ^= 1 << ((SDSL_A_BIT - 1) % 8); // one bit goes wrong on the line
  *     assert(sdsl_frame_check(frame, sizeof frame) == SDSL_BAD_CHECK);
  */
 uint32_t sdsl_frame_check(const uint8_t *frame, size_t frame_len);
 
 /* ---- The scrambler (clause 4.1.5; part 1, clause 7.1.6) ---- */
 
-#define SDSL_SCRAMBLER_START 0u     /* the state that both ends start with */
+#define SDSL_SCRAMBLER_START 0u     /* the state that either end starts with */
 #define SDSL_SCRAMBLER_MAX 8388607u /* the largest state, 2^23 - 1 */
 
 /* The answer, and the state after the last bit: the last 23 scrambled bits, the newest at weight 1. */
 struct sdsl_scrambled {
     uint32_t answer; /* enum sdsl_answer */
-    uint32_t state;  /* to go on with; after a refusal the one that was handed in */
+    uint32_t state;  /* for the next call; after a refusal the one that was passed in */
 };
 
 /*
- * Scrambles the first `bits` bits of `in` into `out`, which has the same length; further bits of `out` stay as they were.
- *   end    SDSL_LTU or SDSL_NTU: the end that sends
+ * Scrambles the first `bits` bits of `in` into `out`, which has the same length. The other bits of `out` stay as they were.
+ *   end    the end that sends, SDSL_LTU or SDSL_NTU
  *   state  0 to SDSL_SCRAMBLER_MAX
- *   bits   a count of bits; 0 hands the state back
+ *   bits   how many bits; with 0 the state comes back unchanged
  * Answers 0, 1 (bits over eight times the length, or unequal lengths), 2 (end), 4 (state).
  *
  * Example:
@@ -203,8 +243,8 @@ struct sdsl_scrambled sdsl_scramble(uint32_t end, uint32_t state,
                                     uint8_t *out, size_t out_len);
 
 /*
- * The other way: with the sender's end and the sender's state before the run, the input comes back, and the sender's next state.
- * A receiver that does not know the sender's state is right after 23 bits.
+ * Undoes sdsl_scramble: given the sender's end and the state that the sender had before the run, it gives back the sender's input and
+ * the sender's next state. A receiver that does not know the sender's state gets the right bits after the first 23.
  * Answers 0, 1 (bits over eight times the length, or unequal lengths), 2 (end), 4 (state).
  */
 struct sdsl_scrambled sdsl_descramble(uint32_t end, uint32_t state,
@@ -213,8 +253,8 @@ struct sdsl_scrambled sdsl_descramble(uint32_t end, uint32_t state,
 
 /*
  * Scrambles a whole frame, 529 octets in and out. The 14 sync bits pass straight through and do not clock the state. The five pad bits
- * have to be zero and are zero in the output; sync and check bits are not checked. The next frame goes on with the state that comes
- * back.
+ * must be zero, and are zero in the output; sync and check bits are not checked. Pass the state that comes back to the call for the
+ * next frame.
  * Answers 0, 1, 2 (end), 4 (state), 6.
  *
  * Example:
@@ -228,7 +268,7 @@ struct sdsl_scrambled sdsl_scramble_frame(uint32_t end, uint32_t state,
                                           uint8_t *out, size_t out_len);
 
 /*
- * The other way, with the sender's end and its state before the frame.
+ * Undoes sdsl_scramble_frame, given the sender's end and the state that the sender had before the frame.
  * Answers 0, 1, 2 (end), 4 (state), 6.
  */
 struct sdsl_scrambled sdsl_descramble_frame(uint32_t end, uint32_t state,
@@ -249,8 +289,8 @@ struct sdsl_level {
     int32_t sixteenths;
 };
 
-/* A code Y3 Y2 Y1 Y0, Y3 at weight 8. */
-struct sdsl_code {
+/* A symbol's code Y3 Y2 Y1 Y0, Y3 at weight 8. */
+struct sdsl_symbol_code {
     uint32_t answer; /* enum sdsl_answer */
     uint32_t code;   /* 0 to SDSL_CODE_MAX */
 };
@@ -267,29 +307,30 @@ struct sdsl_code {
 struct sdsl_level sdsl_activation_level(uint32_t bit);
 
 /*
- * The level of a code in data mode. Codes 0 to 7 rise from -15 to -1; 12 to 15 are 1 3 5 7 and 8 to 11 are 9 11 13 15.
+ * The level of a code in data mode. Codes 0 to 7 have the levels -15, -13 and so on to -1; codes 12 to 15 have 1, 3, 5, 7; codes 8
+ * to 11 have 9, 11, 13, 15.
  * Answers 0, 4 (over 15).
  */
 struct sdsl_level sdsl_data_level(uint32_t code);
 
 /*
- * The code of a level.
- * Answers 0, 4 (not one of the sixteen).
+ * The code of a level: the inverse of sdsl_data_level.
+ * Answers 0, 4 (not one of the sixteen levels).
  */
-struct sdsl_code sdsl_level_code(int32_t sixteenths);
+struct sdsl_symbol_code sdsl_level_code(int32_t sixteenths);
 
-/* What one symbol gives: its code and level, and the register to go on with (20 bits, the newest X1 at weight 1). */
+/* What encoding a symbol gives: its code, its level, and the register for the next symbol (20 bits, the newest X1 at weight 1). */
 struct sdsl_encoded {
     uint32_t answer; /* enum sdsl_answer */
     uint32_t code;   /* 0 to SDSL_CODE_MAX */
     int32_t sixteenths;
-    uint32_t reg;    /* after a refusal the one that was handed in */
+    uint32_t reg;    /* after a refusal the one that was passed in */
 };
 
 /*
- * Encodes one symbol: three bits X1 X2 X3, first in time first, as a number in which X1 weighs 4. Y3 is X3 and Y2 is X2; a gives Y1
- * and b gives Y0, with a0 and b0 on the current X1.
- *   a, b    0 to SDSL_WORD_MAX, as the far card's frame gave them
+ * Encodes one symbol: three bits X1 X2 X3, first in time first, as a number in which X1 has weight 4. Y3 is X3 and Y2 is X2. Word a
+ * gives Y1 and word b gives Y0; a0 and b0 meet the current X1.
+ *   a, b    0 to SDSL_WORD_MAX, as read from the far card's frame
  *   reg     0 to SDSL_REGISTER_MAX
  *   symbol  0 to SDSL_SYMBOL_MAX
  * Answers 0, 4.
@@ -304,12 +345,12 @@ struct sdsl_encoded sdsl_encode(uint32_t a, uint32_t b, uint32_t reg, uint32_t s
 /* The answer, and the register after the last symbol. */
 struct sdsl_encoded_run {
     uint32_t answer; /* enum sdsl_answer */
-    uint32_t reg;    /* after a refusal the one that was handed in */
+    uint32_t reg;    /* after a refusal the one that was passed in */
 };
 
 /*
- * Encodes many symbols: an octet each in `symbols` (0 to 7) and a code each in `codes` (0 to 15), the two of one length, which may
- * be 0. Everything is checked before anything is written.
+ * Encodes many symbols. Each takes an octet of `symbols` (0 to 7), and its code an octet of `codes` (0 to 15). The two have the same
+ * length, which may be 0. Everything is checked before anything is written.
  * Answers 0, 1, 4 (a, b, reg or a symbol).
  *
  * Example:
@@ -325,28 +366,29 @@ struct sdsl_encoded_run sdsl_encode_run(uint32_t a, uint32_t b, uint32_t reg,
 /* ---- The precoder (clause 4.3.4) ---- */
 
 #define SDSL_STEPS 131072         /* steps in 1: a step is 1/131072 */
-#define SDSL_SAMPLE_MIN (-131072) /* x, y and the past outputs: from -1 .. */
-#define SDSL_SAMPLE_MAX 131071    /* .. to a step below 1 */
+#define SDSL_SAMPLE_MIN (-131072) /* x, y and past outputs, at least: -1 */
+#define SDSL_SAMPLE_MAX 131071    /* x, y and past outputs, at most: a step below 1 */
 #define SDSL_HISTORY_OCTETS 720   /* the last 180 outputs, four octets each */
-#define SDSL_SAMPLE_OCTETS 4      /* a sample in a run */
+#define SDSL_SAMPLE_OCTETS 4      /* one sample of a run */
 
 /*
- * Precodes a run of samples: xs in, ys out. One symbol is a run of four octets.
+ * Precodes a run of samples, xs to ys. A single symbol is a run of four octets.
  *   coefficients  720 octets: the 180 of the far card's frame, unused ones zero, each from -2097152 to 2097151
- *   history       720 octets: the last 180 outputs, the newest first, all zero at the start; it is moved on by the run
- *   xs, ys        one length, a multiple of 4, which may be 0
- * x, y and the history's values run from -131072 to 131071. Everything is checked before anything is written.
+ *   history       720 octets: the last 180 outputs, newest first, all zero at the start; the run brings it up to date
+ *   xs, ys        of the same length, a multiple of 4, which may be 0
+ * Each x, each y and each number of the history lies from -131072 to 131071. Everything is checked before anything is written.
  * Answers 0, 1, 4.
  *
  * Example:
- *     uint8_t coefficients[SDSL_COEFFICIENT_OCTETS] = {0, 0, 1, 0}; // C(1) = 65536, one half
- *     uint8_t history[SDSL_HISTORY_OCTETS] = {0, 0x20, 1, 0};       // y(m-1) = 73728
- *     uint8_t past[SDSL_HISTORY_OCTETS] = {0, 0x20, 1, 0};
- *     const uint8_t x[SDSL_SAMPLE_OCTETS] = {0, 0x20, 1, 0};        // x = 73728, that is 9/16
- *     uint8_t y[SDSL_SAMPLE_OCTETS], heard[SDSL_SAMPLE_OCTETS];
+ *     uint8_t coefficients[SDSL_COEFFICIENT_OCTETS] = {0}, history[SDSL_HISTORY_OCTETS] = {0}, past[SDSL_HISTORY_OCTETS] = {0};
+ *     uint8_t x[SDSL_SAMPLE_OCTETS], y[SDSL_SAMPLE_OCTETS], heard[SDSL_SAMPLE_OCTETS];
+ *     sdsl_put_number(coefficients, 0, SDSL_STEPS / 2);   // C(1) is one half
+ *     sdsl_put_number(history, 0, 9 * SDSL_SIXTEENTH);    // y(m-1) = 73728, that is 9/16
+ *     sdsl_put_number(past, 0, 9 * SDSL_SIXTEENTH);       // the far end has the same past
+ *     sdsl_put_number(x, 0, 9 * SDSL_SIXTEENTH);
  *     assert(sdsl_precode(coefficients, sizeof coefficients, history, sizeof history, x, 4, y, 4) == SDSL_DONE);
- *     assert(y[0] == 0x00 && y[1] == 0x90 && y[2] == 0 && y[3] == 0); // 36864
- *     assert(sdsl_decode(coefficients, sizeof coefficients, past, sizeof past, y, 4, heard, 4) == SDSL_DONE);
+ *     assert(sdsl_get_number(y, 0) == 36864);
+ *     assert(sdsl_unprecode(coefficients, sizeof coefficients, past, sizeof past, y, 4, heard, 4) == SDSL_DONE);
  *     assert(memcmp(heard, x, 4) == 0 && memcmp(past, history, sizeof past) == 0);
  */
 uint32_t sdsl_precode(const uint8_t *coefficients, size_t coefficients_len,
@@ -355,14 +397,14 @@ uint32_t sdsl_precode(const uint8_t *coefficients, size_t coefficients_len,
                       uint8_t *ys, size_t ys_len);
 
 /*
- * The receiving end: given ys, the same coefficients and the same past, the xs come back, and the history is moved on by the ys.
- * Lengths and ranges as for sdsl_precode.
+ * Undoes sdsl_precode, at the receiving end: given the ys, the same coefficients and the same past, it gives the xs back. The run
+ * brings the history up to date with the ys. Lengths and ranges are those of sdsl_precode.
  * Answers 0, 1, 4.
  */
-uint32_t sdsl_decode(const uint8_t *coefficients, size_t coefficients_len,
-                     uint8_t *history, size_t history_len,
-                     const uint8_t *ys, size_t ys_len,
-                     uint8_t *xs, size_t xs_len);
+uint32_t sdsl_unprecode(const uint8_t *coefficients, size_t coefficients_len,
+                        uint8_t *history, size_t history_len,
+                        const uint8_t *ys, size_t ys_len,
+                        uint8_t *xs, size_t xs_len);
 
 /* A sample for the shaper: exactly y / 131072, from -1 to just below 1. */
 struct sdsl_shaped {
@@ -371,8 +413,8 @@ struct sdsl_shaped {
 };
 
 /*
- * The float that the spectral shaper is handed for y; nothing is lost.
- * Answers 0, 4 (y outside -131072 to 131071; then the value is 0).
+ * The float that the spectral shaper takes for y; nothing is lost.
+ * Answers 0, 4 (y outside -131072 to 131071; the value is then 0).
  *
  * Example:
  *     assert(sdsl_shaper(-16384).value == -0.125f);
@@ -382,37 +424,111 @@ struct sdsl_shaped sdsl_shaper(int32_t y);
 /* ---- The start-up supervisor (clauses 4.1.2 and 4.1.8) ---- */
 
 /* Report codes. A tick is one millisecond; the others take no time. A report that a phase does not await changes nothing. */
-enum sdsl_code_report {
-    SDSL_TICK = 0,
-    SDSL_PRE_ACTIVATION_ENDED = 1,
-    SDSL_CR_BEGINS = 2,      /* LTU: C_r is heard */
-    SDSL_CR_ENDED = 3,       /* LTU: C_r is over */
-    SDSL_CONVERGED = 4,      /* own receiver; counts only in S_c or S_r: give it again there */
-    SDSL_TC_SEEN = 5,        /* NTU */
-    SDSL_TR_SEEN = 6,        /* LTU */
-    SDSL_SECOND_FC_OVER = 7, /* the LTU has sent it, or the NTU heard it */
-    SDSL_ABNORMAL = 8        /* from every phase to Exception */
+enum sdsl_report {
+    SDSL_TICK = 0,                 /* one millisecond has passed */
+    SDSL_PRE_ACTIVATION_ENDED = 1, /* pre-activation ended */
+    SDSL_CR_BEGINS = 2,            /* C_r begins (LTU: it is heard) */
+    SDSL_CR_ENDED = 3,             /* C_r has ended (LTU) */
+    SDSL_CONVERGED = 4,            /* own receiver converged; counts only in S_c or S_r, so report it again there */
+    SDSL_TC_SEEN = 5,              /* T_c seen (NTU) */
+    SDSL_TR_SEEN = 6,              /* T_r seen (LTU) */
+    SDSL_SECOND_FC_OVER = 7,       /* second F_c frame over: the LTU has sent it, or the NTU has heard it */
+    SDSL_ABNORMAL = 8              /* abnormal; leads from every phase to Exception */
 };
 #define SDSL_REPORT_MAX 8u
+
+/*
+ * What a report code says, for a log or a screen; a number that is not a report code gives words that say so.
+ *
+ * Example:
+ *     assert(strcmp(sdsl_report_text(SDSL_CR_BEGINS), "C_r begins") == 0);
+ */
+static inline const char *sdsl_report_text(uint32_t code)
+{
+    switch (code) {
+    case SDSL_TICK:
+        return "one millisecond";
+    case SDSL_PRE_ACTIVATION_ENDED:
+        return "pre-activation ended";
+    case SDSL_CR_BEGINS:
+        return "C_r begins";
+    case SDSL_CR_ENDED:
+        return "C_r has ended";
+    case SDSL_CONVERGED:
+        return "own receiver converged";
+    case SDSL_TC_SEEN:
+        return "T_c seen";
+    case SDSL_TR_SEEN:
+        return "T_r seen";
+    case SDSL_SECOND_FC_OVER:
+        return "second F_c frame over";
+    case SDSL_ABNORMAL:
+        return "abnormal";
+    default:
+        return "not a report code of this library";
+    }
+}
 
 /* Phases, in the order of a start-up. In an attempt the phase is one of SDSL_CR to SDSL_FC. */
 enum sdsl_phase {
     SDSL_READY = 0,
     SDSL_GAP = 1,       /* NTU: 300 ticks before C_r */
     SDSL_AWAIT = 2,     /* LTU: waits for C_r */
-    SDSL_CR = 3,        /* NTU: sends C_r, 1,000 ticks; an attempt opens on entering it */
-    SDSL_HEARING = 4,   /* LTU: hears C_r; an attempt opens on entering it */
-    SDSL_QUIET = 5,     /* NTU 1,500 ticks, LTU 500 */
-    SDSL_SC = 6,        /* LTU: until it has lasted 5,000 ticks and its receiver has converged */
-    SDSL_SR = 7,        /* NTU: until its receiver has converged and T_c was seen */
+    SDSL_CR = 3,        /* NTU: sends C_r for 1,000 ticks; entering it opens an attempt */
+    SDSL_HEARING = 4,   /* LTU: hears C_r; entering it opens an attempt */
+    SDSL_QUIET = 5,     /* NTU: 1,500 ticks; LTU: 500 */
+    SDSL_SC = 6,        /* LTU: until it has lasted 5,000 ticks and the receiver has converged in it */
+    SDSL_SR = 7,        /* NTU: until the receiver has converged and T_c was seen, both in it */
     SDSL_TC = 8,        /* LTU: until T_r is seen */
     SDSL_TR = 9,        /* NTU: until the second F_c frame is over */
     SDSL_FC = 10,       /* LTU: until the second F_c frame is over */
     SDSL_SETTLING = 11, /* data mode has begun; 1,000 ticks */
     SDSL_VALID = 12,    /* payload is valid */
-    SDSL_EXCEPTION = 13 /* silent; then Ready */
+    SDSL_EXCEPTION = 13 /* silent; then Ready again */
 };
 #define SDSL_PHASE_MAX 13u
+
+/*
+ * The name of a phase as the paper writes it, for a log or a screen; a number that is not a phase gives words that say so.
+ *
+ * Example:
+ *     assert(strcmp(sdsl_phase_text(SDSL_SR), "S_r") == 0);
+ */
+static inline const char *sdsl_phase_text(uint32_t phase)
+{
+    switch (phase) {
+    case SDSL_READY:
+        return "Ready";
+    case SDSL_GAP:
+        return "Gap";
+    case SDSL_AWAIT:
+        return "Await";
+    case SDSL_CR:
+        return "C_r";
+    case SDSL_HEARING:
+        return "Hearing";
+    case SDSL_QUIET:
+        return "Quiet";
+    case SDSL_SC:
+        return "S_c";
+    case SDSL_SR:
+        return "S_r";
+    case SDSL_TC:
+        return "T_c";
+    case SDSL_TR:
+        return "T_r";
+    case SDSL_FC:
+        return "F_c";
+    case SDSL_SETTLING:
+        return "Settling";
+    case SDSL_VALID:
+        return "Valid";
+    case SDSL_EXCEPTION:
+        return "Exception";
+    default:
+        return "not a phase of this library";
+    }
+}
 
 /* Times in ticks. */
 #define SDSL_GAP_TICKS 300
@@ -428,23 +544,23 @@ enum sdsl_phase {
 #define SDSL_STATE_TICKS_MAX 59999   /* a state's `ticks`, at most */
 #define SDSL_STATE_ATTEMPT_MAX 14999 /* a state's `attempt`, at most */
 
-/* A supervisor's state: keep it, hand it back, change nothing in it. */
+/* A supervisor's state. Keep it and pass it to the next call; do not change it. */
 struct sdsl_supervisor {
     uint32_t end;       /* enum sdsl_end */
-    uint32_t phase;     /* enum sdsl_phase, one of this end */
-    uint32_t ticks;     /* in the phase, up to 59999 */
+    uint32_t phase;     /* enum sdsl_phase, one of this end's */
+    uint32_t ticks;     /* since the phase was entered, up to 59999 */
     uint32_t attempt;   /* ticks since the attempt opened, up to 14999 */
     uint32_t silence;   /* 2000 to 60000 */
-    uint32_t converged; /* a mark: 0 unheard, else heard */
-    uint32_t seen;      /* a mark: 0 unheard, else heard */
+    uint32_t converged; /* 0: report 4 has not been heard in this phase; else it has */
+    uint32_t seen;      /* 0: report 5 has not been heard in this phase; else it has */
 };
 
-/* What a step gives: the phase, in an attempt the ticks since its opening, else 0, and the state to go on with. */
+/* What a start and a step give. */
 struct sdsl_stepped {
     uint32_t answer;  /* enum sdsl_answer; look at it before the phase, which is 0 after a refusal */
     uint32_t phase;   /* enum sdsl_phase, after the code */
-    uint32_t attempt; /* ticks */
-    struct sdsl_supervisor state;
+    uint32_t attempt; /* in an attempt the ticks since it opened, else 0 */
+    struct sdsl_supervisor state; /* for the next call */
 };
 
 /*
@@ -465,27 +581,28 @@ struct sdsl_stepped {
 struct sdsl_stepped sdsl_start(uint32_t end, uint32_t silence);
 
 /*
- * One code: a tick or a report.
- * Answers 0, 2 (a code over 8, or the state's end unknown), 4 (a state out of its ranges). A refused state comes back equal.
+ * Takes one code, a tick or a report. A refused state comes back unchanged.
+ * Answers 0, 2 (a code over 8, or a state whose end is unknown), 4 (a state out of its ranges).
  */
 struct sdsl_stepped sdsl_step(struct sdsl_supervisor state, uint32_t code);
 
-/* How the last attempt of a run stands. */
+/* How the last attempt that opened in a run stands at the end of the run. */
 enum sdsl_ended { SDSL_NONE_OPENED = 0, SDSL_STILL_OPEN = 1, SDSL_IN_DATA_MODE = 2, SDSL_IN_EXCEPTION = 3 };
 
-/* What a run over a list of codes gives. Places count from 0 in the list. */
+/* What a run over a list of codes gives. Places in the list count from 0. There is padding in it: compare two of them by field. */
 struct sdsl_run {
     uint32_t answer;    /* enum sdsl_answer */
-    uint64_t opened;    /* how many attempts opened in it */
+    uint64_t opened;    /* how many attempts opened in the list */
     uint64_t opened_at; /* the place of the code that opened the last one; 0 where none opened */
     uint32_t ended;     /* enum sdsl_ended, of the last one */
     uint64_t ended_at;  /* the place of the code that ended it; 0 where none did */
-    struct sdsl_supervisor state;
+    struct sdsl_supervisor state; /* for the next call */
 };
 
 /*
- * Runs over codes, an octet each; codes over 8 are skipped and keep their place. A list may be empty.
- * Answers 0, 2 (the state's end unknown), 4 (a state out of its ranges). A refused state comes back equal.
+ * Takes a list of codes, an octet each, which may be empty. Codes over 8 are skipped, but count as places. A refused state comes back
+ * unchanged.
+ * Answers 0, 2 (a state whose end is unknown), 4 (a state out of its ranges).
  *
  * Example:
  *     uint8_t codes[1 + SDSL_GAP_TICKS] = {SDSL_PRE_ACTIVATION_ENDED}; // then 300 ticks

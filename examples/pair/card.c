@@ -7,8 +7,6 @@
 #include <string.h>
 
 /* What a card does in each phase, for the story; by enum sdsl_phase. */
-static const char *const names[SDSL_PHASE_MAX + 1] = {"Ready", "Gap", "Await", "C_r", "Hearing", "Quiet", "S_c", "S_r", "T_c", "T_r", "F_c",
-                                                      "Settling", "Valid", "Exception"};
 static const char *const doings[SDSL_PHASE_MAX + 1] = {
     "its silence is over", "pre-activation has ended; waits 0.3 s", "pre-activation has ended; listens for C_r", "sends C_r for 1 s",
     "C_r is heard", "is silent", "sends S_c", "sends S_r", "sends T_c frames:", "sends T_r frames:", "sends F_c, two final frames",
@@ -48,9 +46,7 @@ static void make_wishes(struct wishes *own, uint32_t end, uint64_t seed)
     for (uint32_t k = 0; k < own->count; k++) {
         seed = seed * UINT64_C(6364136223846793005) + UINT64_C(1442695040888963407);
         int32_t c = ((int32_t)(seed >> 47) - SDSL_STEPS / 2) / (int32_t)(k + 1); /* at most one half in size */
-        for (unsigned i = 0; i < 4; i++) {
-            own->coefficients[4 * k + i] = (uint8_t)((uint32_t)c >> (8 * i));
-        }
+        sdsl_put_number(own->coefficients, k, c);
     }
 }
 
@@ -72,7 +68,7 @@ void card_start(struct card *card, uint32_t end, uint64_t seed)
 
 const char *card_phase(const struct card *card)
 {
-    return names[card->state.phase];
+    return sdsl_phase_text(card->state.phase);
 }
 
 void card_tell(const struct card *card, const char *format, ...)

@@ -125,16 +125,15 @@ static unsigned follow(struct card *card, uint32_t code)
 static void hear_data(struct card *card, const int32_t *in, unsigned count)
 {
     struct receiver *r = &card->hear;
-    uint8_t xs[4 * BLOCK], ys[4 * BLOCK], line[3 * BLOCK / 8] = {0}, plain[3 * BLOCK / 8];
-    for (unsigned i = 0; i < 4 * count; i++) {
-        ys[i] = (uint8_t)((uint32_t)in[i / 4] >> (8 * (i % 4)));
-    }
-    must(sdsl_decode(card->own.coefficients, sizeof card->own.coefficients, r->history, sizeof r->history, ys, 4 * count, xs, 4 * count),
-         "sdsl_decode");
+    uint8_t xs[4 * BLOCK], ys[4 * BLOCK] = {0}, line[3 * BLOCK / 8] = {0}, plain[3 * BLOCK / 8];
     for (unsigned m = 0; m < count; m++) {
-        const uint8_t *octets = xs + 4 * m;
-        int32_t x = (int32_t)((uint32_t)octets[0] | (uint32_t)octets[1] << 8 | (uint32_t)octets[2] << 16 | (uint32_t)octets[3] << 24);
-        struct sdsl_code code = sdsl_level_code(x / SDSL_SIXTEENTH);
+        sdsl_put_number(ys, m, in[m]);
+    }
+    must(sdsl_unprecode(card->own.coefficients, sizeof card->own.coefficients, r->history, sizeof r->history, ys, 4 * count,
+                        xs, 4 * count), "sdsl_unprecode");
+    for (unsigned m = 0; m < count; m++) {
+        int32_t x = sdsl_get_number(xs, m);
+        struct sdsl_symbol_code code = sdsl_level_code(x / SDSL_SIXTEENTH);
         r->misfits += code.answer != SDSL_DONE || x % SDSL_SIXTEENTH != 0;
         unsigned symbol = follow(card, code.code);
         for (unsigned k = 0; k < 3; k++) {

@@ -111,16 +111,12 @@ static unsigned send_data(struct card *card, struct symbol *out, unsigned room)
     for (unsigned m = 0; m < room; m++) {
         struct sdsl_level level = sdsl_data_level(codes[m]);
         must(level.answer, "sdsl_data_level");
-        uint32_t x = (uint32_t)(level.sixteenths * SDSL_SIXTEENTH);
-        for (unsigned i = 0; i < 4; i++) {
-            xs[4 * m + i] = (uint8_t)(x >> (8 * i));
-        }
+        sdsl_put_number(xs, m, level.sixteenths * SDSL_SIXTEENTH);
     }
     must(sdsl_precode(card->far.coefficients, sizeof card->far.coefficients, s->history, sizeof s->history, xs, 4 * room, ys, 4 * room),
          "sdsl_precode");
     for (unsigned m = 0; m < room; m++) {
-        const uint8_t *y = ys + 4 * m;
-        out[m].level = (int32_t)((uint32_t)y[0] | (uint32_t)y[1] << 8 | (uint32_t)y[2] << 16 | (uint32_t)y[3] << 24);
+        out[m].level = sdsl_get_number(ys, m);
     }
     return room;
 }

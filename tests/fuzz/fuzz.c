@@ -180,11 +180,6 @@ static void fill(struct lent *l)
     }
 }
 
-static int32_t number_at(const uint8_t *octets)
-{
-    return (int32_t)((uint32_t)octets[0] | (uint32_t)octets[1] << 8 | (uint32_t)octets[2] << 16 | (uint32_t)octets[3] << 24);
-}
-
 /* Numbers of four octets from least to most, mostly: at their edges, or anywhere; sometimes one is outside. */
 static void fill_numbers(struct lent *l, int32_t least, int32_t most)
 {
@@ -194,7 +189,7 @@ static void fill_numbers(struct lent *l, int32_t least, int32_t most)
         return; /* any octets */
     }
     for (size_t i = 0; i + 4 <= l->len; i += 4) {
-        uint32_t any = (uint32_t)number_at(l->p + i);
+        uint32_t any = (uint32_t)sdsl_get_number(l->p, i / 4);
         int64_t n = how == 1 ? (any & 1 ? least : most) : least + (int64_t)(any % ((uint32_t)(most - least) + 1));
         if (how == 2 && i == 4 * (l->len / 8)) {
             n = any & 1 ? (int64_t)least - 1 : (int64_t)most + 1;
@@ -389,7 +384,7 @@ static uint32_t try_data_level(void)
 static uint32_t try_level_code(void)
 {
     int32_t level = (int32_t)number(-15, 15);
-    struct sdsl_code r = sdsl_level_code(level);
+    struct sdsl_symbol_code r = sdsl_level_code(level);
     want((r.answer == SDSL_DONE) == is_level(level), "takes what is no level, or refuses one");
     want(r.answer == SDSL_DONE ? r.code <= SDSL_CODE_MAX : r.code == 0, "gives a wrong code");
     return r.answer;
@@ -436,7 +431,7 @@ static uint32_t try_samples(uint32_t (*f)(const uint8_t *, size_t, uint8_t *, si
     keep();
     uint32_t answer = f(c->p, c->len, h->p, h->len, from->p, from->len, to->p, to->len);
     for (size_t i = 0; answer == SDSL_DONE && i + 4 <= to->len; i += 4) {
-        int32_t n = number_at(to->p + i);
+        int32_t n = sdsl_get_number(to->p, i / 4);
         want(n >= SDSL_SAMPLE_MIN && n <= SDSL_SAMPLE_MAX, "gives a sample out of its range");
     }
     return answer;
@@ -447,9 +442,9 @@ static uint32_t try_precode(void)
     return try_samples(sdsl_precode);
 }
 
-static uint32_t try_decode(void)
+static uint32_t try_unprecode(void)
 {
-    return try_samples(sdsl_decode);
+    return try_samples(sdsl_unprecode);
 }
 
 static uint32_t try_shaper(void)
@@ -538,7 +533,7 @@ static const struct {
 } tries[] = {
 #define TRY(function) {"sdsl_" #function, try_##function}
     TRY(frame_write), TRY(frame_read), TRY(frame_check), TRY(scramble), TRY(descramble), TRY(scramble_frame), TRY(descramble_frame),
-    TRY(activation_level), TRY(data_level), TRY(level_code), TRY(encode), TRY(encode_run), TRY(precode), TRY(decode), TRY(shaper),
+    TRY(activation_level), TRY(data_level), TRY(level_code), TRY(encode), TRY(encode_run), TRY(precode), TRY(unprecode), TRY(shaper),
     TRY(start), TRY(step), TRY(run_codes),
 };
 

@@ -61,8 +61,8 @@ static void symbols(void)
     uint8_t out[SDSL_SAMPLE_OCTETS];
     look(sdsl_precode(coefficients, sizeof coefficients, history, sizeof history, x, sizeof x, out, sizeof out) == SDSL_DONE &&
          memcmp(out, y, sizeof y) == 0, "sdsl_precode");
-    look(sdsl_decode(coefficients, sizeof coefficients, past, sizeof past, y, sizeof y, out, sizeof out) == SDSL_DONE &&
-         memcmp(out, x, sizeof x) == 0, "sdsl_decode");
+    look(sdsl_unprecode(coefficients, sizeof coefficients, past, sizeof past, y, sizeof y, out, sizeof out) == SDSL_DONE &&
+         memcmp(out, x, sizeof x) == 0, "sdsl_unprecode");
     look(sdsl_shaper(-16384).value == -0.125f, "sdsl_shaper");
 }
 
@@ -76,25 +76,76 @@ static void supervisor(void)
     look(run.opened == 1 && run.opened_at == 1 && run.state.phase == SDSL_HEARING, "sdsl_run_codes");
 }
 
-/* Nine texts, each its own, and something for every other number. */
-static void texts(void)
+/* Whether each number up to `last` has a text of its own, and every number beyond it the same one. */
+static int own_texts(const char *(*text)(uint32_t), uint32_t last)
 {
-    int good = 1;
-    for (uint32_t i = 0; i <= SDSL_RESERVED; i++) {
-        for (uint32_t k = 0; k <= SDSL_RESERVED + 1; k++) {
-            good = good && (strcmp(sdsl_answer_text(i), sdsl_answer_text(k)) == 0) == (i == k);
+    int good = strcmp(text(last + 1), text(UINT32_MAX)) == 0;
+    for (uint32_t i = 0; i <= last; i++) {
+        for (uint32_t k = 0; k <= last + 1; k++) {
+            good = good && (strcmp(text(i), text(k)) == 0) == (i == k);
         }
     }
-    look(good && strcmp(sdsl_answer_text(9), sdsl_answer_text(UINT32_MAX)) == 0, "sdsl_answer_text");
+    return good;
+}
+
+/* Phases and reports by the names that the paper gives them. */
+static void texts(void)
+{
+    static const char *const phases[] = {"Ready", "Gap", "Await", "C_r", "Hearing", "Quiet", "S_c", "S_r", "T_c", "T_r", "F_c",
+                                         "Settling", "Valid", "Exception"};
+    static const char *const reports[] = {"one millisecond", "pre-activation ended", "C_r begins", "C_r has ended",
+                                          "own receiver converged", "T_c seen", "T_r seen", "second F_c frame over", "abnormal"};
+    int good = own_texts(sdsl_phase_text, SDSL_PHASE_MAX);
+    look(own_texts(sdsl_answer_text, SDSL_RESERVED) && strcmp(sdsl_answer_text(SDSL_DONE), "done") == 0, "sdsl_answer_text");
+    for (uint32_t i = 0; i <= SDSL_PHASE_MAX; i++) {
+        good = good && strcmp(sdsl_phase_text(i), phases[i]) == 0;
+    }
+    look(good, "sdsl_phase_text");
+    good = own_texts(sdsl_report_text, SDSL_REPORT_MAX);
+    for (uint32_t i = 0; i <= SDSL_REPORT_MAX; i++) {
+        good = good && strcmp(sdsl_report_text(i), reports[i]) == 0;
+    }
+    look(good, "sdsl_report_text");
+}
+
+/* Numbers in four octets, at both ends of an int32_t and beside each octet's edge. */
+static void numbers(void)
+{
+    static const int32_t tried[] = {0, 1, -1, 255, 256, -256, -257, 65535, 65536, -65537, 16777215, 16777216, -16777217,
+                                    SDSL_COEFFICIENT_MIN, SDSL_COEFFICIENT_MAX, INT32_MIN, INT32_MAX};
+    const size_t count = sizeof tried / sizeof tried[0];
+    uint8_t buffer[4 * (sizeof tried / sizeof tried[0]) + 1];
+    const uint8_t minus_two[4] = {0xFE, 0xFF, 0xFF, 0xFF}, half[4] = {0, 0, 1, 0};
+    int good = 1;
+    memset(buffer, 0xA5, sizeof buffer);
+    for (size_t k = 0; k < count; k++) {
+        sdsl_put_number(buffer, k, tried[k]);
+    }
+    for (size_t k = 0; k < count; k++) {
+        uint64_t octets = 0;
+        for (size_t i = 4; i > 0; i--) {
+            octets = 256 * octets + buffer[4 * k + i - 1];
+        }
+        good = good && octets == (uint64_t)tried[k] % UINT64_C(4294967296) && sdsl_get_number(buffer, k) == tried[k];
+    }
+    look(good && buffer[4 * count] == 0xA5 && sdsl_get_number(minus_two, 0) == -2, "sdsl_get_number");
+    sdsl_put_number(buffer, 1, SDSL_STEPS / 2);
+    look(memcmp(buffer + 4, half, 4) == 0 && sdsl_get_number(buffer, 0) == 0 && sdsl_get_number(buffer, 2) == -1, "sdsl_put_number");
+}
+
+/* The version's string is made of its numbers. */
+static void version(void)
+{
+    char made[64];
+    snprintf(made, sizeof made, "%d.%d.%d", SDSL_VERSION_MAJOR, SDSL_VERSION_MINOR, SDSL_VERSION_PATCH);
+    look(strcmp(made, SDSL_VERSION) == 0, "SDSL_VERSION");
 }
 
 /* Whether a training frame is written with this count, first coefficient and A. */
 static uint32_t written(uint32_t count, int32_t coefficient, uint32_t a)
 {
     uint8_t coefficients[SDSL_COEFFICIENT_OCTETS] = {0}, vendor[SDSL_VENDOR_OCTETS] = {0}, frame[SDSL_FRAME_OCTETS];
-    for (int i = 0; i < 4; i++) {
-        coefficients[i] = (uint8_t)((uint32_t)coefficient >> (8 * i));
-    }
+    sdsl_put_number(coefficients, 0, coefficient);
     return sdsl_frame_write(SDSL_TRAINING, count, coefficients, sizeof coefficients, a, a, vendor, sizeof vendor, frame, sizeof frame);
 }
 
@@ -166,6 +217,8 @@ int main(void)
     symbols();
     supervisor();
     texts();
+    numbers();
+    version();
     limits();
     return failed != 0;
 }

@@ -63,7 +63,7 @@ struct sdsl_level sdsl_data_level(uint32_t code)
     return ref_data_level(code);
 }
 
-struct sdsl_code sdsl_level_code(int32_t sixteenths)
+struct sdsl_symbol_code sdsl_level_code(int32_t sixteenths)
 {
     return ref_level_code(sixteenths);
 }
@@ -88,12 +88,12 @@ uint32_t sdsl_precode(const uint8_t *coefficients, size_t coefficients_len,
     return ref_precode(coefficients, coefficients_len, history, history_len, xs, xs_len, ys, ys_len);
 }
 
-uint32_t sdsl_decode(const uint8_t *coefficients, size_t coefficients_len,
-                     uint8_t *history, size_t history_len,
-                     const uint8_t *ys, size_t ys_len,
-                     uint8_t *xs, size_t xs_len)
+uint32_t sdsl_unprecode(const uint8_t *coefficients, size_t coefficients_len,
+                        uint8_t *history, size_t history_len,
+                        const uint8_t *ys, size_t ys_len,
+                        uint8_t *xs, size_t xs_len)
 {
-    return ref_decode(coefficients, coefficients_len, history, history_len, ys, ys_len, xs, xs_len);
+    return ref_unprecode(coefficients, coefficients_len, history, history_len, ys, ys_len, xs, xs_len);
 }
 
 struct sdsl_shaped sdsl_shaper(int32_t y)

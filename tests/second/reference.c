@@ -474,9 +474,9 @@ struct sdsl_level ref_data_level(uint32_t code)
     return result;
 }
 
-struct sdsl_code ref_level_code(int32_t sixteenths)
+struct sdsl_symbol_code ref_level_code(int32_t sixteenths)
 {
-    struct sdsl_code result = {SDSL_OUT_OF_RANGE, 0};
+    struct sdsl_symbol_code result = {SDSL_OUT_OF_RANGE, 0};
     for (uint32_t code = 0; code < 16; code++) {
         if (level_of_code[code] == sixteenths) {
             result.answer = SDSL_DONE;
@@ -663,10 +663,10 @@ uint32_t ref_precode(const uint8_t *coefficients, size_t coefficients_len,
     return run_precoder(false, coefficients, coefficients_len, history, history_len, xs, xs_len, ys, ys_len);
 }
 
-uint32_t ref_decode(const uint8_t *coefficients, size_t coefficients_len,
-                    uint8_t *history, size_t history_len,
-                    const uint8_t *ys, size_t ys_len,
-                    uint8_t *xs, size_t xs_len)
+uint32_t ref_unprecode(const uint8_t *coefficients, size_t coefficients_len,
+                       uint8_t *history, size_t history_len,
+                       const uint8_t *ys, size_t ys_len,
+                       uint8_t *xs, size_t xs_len)
 {
     return run_precoder(true, coefficients, coefficients_len, history, history_len, ys, ys_len, xs, xs_len);
 }

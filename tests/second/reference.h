@@ -37,7 +37,7 @@ struct sdsl_scrambled ref_descramble_frame(uint32_t end, uint32_t state,
 /* Symbols. */
 struct sdsl_level ref_activation_level(uint32_t bit);
 struct sdsl_level ref_data_level(uint32_t code);
-struct sdsl_code ref_level_code(int32_t sixteenths);
+struct sdsl_symbol_code ref_level_code(int32_t sixteenths);
 struct sdsl_encoded ref_encode(uint32_t a, uint32_t b, uint32_t reg, uint32_t symbol);
 struct sdsl_encoded_run ref_encode_run(uint32_t a, uint32_t b, uint32_t reg,
                                        const uint8_t *symbols, size_t symbols_len,
@@ -46,10 +46,10 @@ uint32_t ref_precode(const uint8_t *coefficients, size_t coefficients_len,
                      uint8_t *history, size_t history_len,
                      const uint8_t *xs, size_t xs_len,
                      uint8_t *ys, size_t ys_len);
-uint32_t ref_decode(const uint8_t *coefficients, size_t coefficients_len,
-                    uint8_t *history, size_t history_len,
-                    const uint8_t *ys, size_t ys_len,
-                    uint8_t *xs, size_t xs_len);
+uint32_t ref_unprecode(const uint8_t *coefficients, size_t coefficients_len,
+                       uint8_t *history, size_t history_len,
+                       const uint8_t *ys, size_t ys_len,
+                       uint8_t *xs, size_t xs_len);
 struct sdsl_shaped ref_shaper(int32_t y);
 
 /* The start-up supervisor. */

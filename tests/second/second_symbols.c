@@ -13,9 +13,9 @@ static struct tally level_codes = {"sdsl_level_code", 0, 0};
 static struct tally encodes = {"sdsl_encode", 0, 0};
 static struct tally encode_runs = {"sdsl_encode_run", 0, 0};
 static struct tally precodes = {"sdsl_precode", 0, 0};
-static struct tally decodes = {"sdsl_decode", 0, 0};
+static struct tally unprecodes = {"sdsl_unprecode", 0, 0};
 static struct tally shapers = {"sdsl_shaper", 0, 0};
-static struct tally round_trips = {"precode, then decode", 0, 0};
+static struct tally round_trips = {"precode, then unprecode", 0, 0};
 static struct tally examples = {"examples 9 to 13", 0, 0};
 
 #define WORDS 2097152u    /* A and B are below this */
@@ -49,8 +49,8 @@ static void try_data_level(uint32_t code)
 
 static void try_level_code(int32_t sixteenths)
 {
-    struct sdsl_code lib = sdsl_level_code(sixteenths);
-    struct sdsl_code ref = ref_level_code(sixteenths);
+    struct sdsl_symbol_code lib = sdsl_level_code(sixteenths);
+    struct sdsl_symbol_code ref = ref_level_code(sixteenths);
     struct comparison comparison = {NULL};
     want(&comparison, lib.answer == ref.answer, "answers differ");
     want(&comparison, lib.code == ref.code, "codes differ");
@@ -207,7 +207,7 @@ static void random_encoding(void)
 
 #define SAMPLES 400
 
-/* What precode and decode are given; there is room for buffers that are a little too long. */
+/* What precode and unprecode are given; there is room for buffers that are a little too long. */
 struct input {
     uint8_t coefficients[SDSL_COEFFICIENT_OCTETS + 4];
     size_t coefficients_len;
@@ -250,7 +250,7 @@ static void try_precoder(const struct input *in, precoder *lib_function, precode
 static void try_both(const struct input *in, const char *what)
 {
     try_precoder(in, sdsl_precode, ref_precode, &precodes, what);
-    try_precoder(in, sdsl_decode, ref_decode, &decodes, what);
+    try_precoder(in, sdsl_unprecode, ref_unprecode, &unprecodes, what);
 }
 
 /* All zero, with so many samples. */
@@ -459,7 +459,7 @@ static void random_precoding(void)
     }
 }
 
-/* Precoded and decoded by the library, the samples come back, and both ends remember the same. */
+/* Precoded by the library and back again, the samples are as before, and both ends remember the same. */
 static void round_trip(void)
 {
     for (size_t i = 0; i < scaled(1000); i++) {
@@ -473,13 +473,13 @@ static void round_trip(void)
         memcpy(there, in.history, sizeof there);
         uint32_t precoded = sdsl_precode(in.coefficients, in.coefficients_len, here, sizeof here, in.samples, in.samples_len, sent,
                                          in.samples_len);
-        uint32_t decoded = sdsl_decode(in.coefficients, in.coefficients_len, there, sizeof there, sent, in.samples_len, back,
-                                       in.samples_len);
+        uint32_t unprecoded = sdsl_unprecode(in.coefficients, in.coefficients_len, there, sizeof there, sent, in.samples_len, back,
+                                             in.samples_len);
         struct comparison comparison = {NULL};
-        want(&comparison, precoded == 0 && decoded == 0, "refused");
+        want(&comparison, precoded == 0 && unprecoded == 0, "refused");
         want(&comparison, same_octets(in.samples, back, in.samples_len), "the samples do not come back");
         want(&comparison, memcmp(here, there, sizeof here) == 0, "the ends remember differently");
-        settle(comparison, &round_trips, "%zu samples: precode %u, decode %u", in.samples_len / 4, precoded, decoded);
+        settle(comparison, &round_trips, "%zu samples: precode %u, unprecode %u", in.samples_len / 4, precoded, unprecoded);
     }
 }
 
@@ -523,7 +523,7 @@ struct side {
     const char *name;
     struct sdsl_encoded (*encode)(uint32_t a, uint32_t b, uint32_t reg, uint32_t symbol);
     precoder *precode;
-    precoder *decode;
+    precoder *unprecode;
     struct sdsl_shaped (*shaper)(int32_t y);
 };
 
@@ -549,7 +549,7 @@ static void precoder_example(int number, const struct side *side, int32_t coeffi
     memset(history, 0, sizeof history);
     set_number(history, 0, past);
     set_number(sample, 0, y);
-    answer = side->decode(coefficients, sizeof coefficients, history, sizeof history, sample, 4, result, 4);
+    answer = side->unprecode(coefficients, sizeof coefficients, history, sizeof history, sample, 4, result, 4);
     example(answer == 0 && get_number(result, 0) == x, number, side);
 }
 
@@ -589,8 +589,8 @@ static void paper_examples(const struct side *side)
 
 void second_symbols(void)
 {
-    static const struct side library = {"library", sdsl_encode, sdsl_precode, sdsl_decode, sdsl_shaper};
-    static const struct side reference = {"reference", ref_encode, ref_precode, ref_decode, ref_shaper};
+    static const struct side library = {"library", sdsl_encode, sdsl_precode, sdsl_unprecode, sdsl_shaper};
+    static const struct side reference = {"reference", ref_encode, ref_precode, ref_unprecode, ref_shaper};
     paper_examples(&library);
     paper_examples(&reference);
     levels();
@@ -604,7 +604,7 @@ void second_symbols(void)
     random_precoding();
     round_trip();
     shaper();
-    const struct tally tallies[] = {activation_levels, data_levels, level_codes, encodes, encode_runs, precodes, decodes, shapers,
+    const struct tally tallies[] = {activation_levels, data_levels, level_codes, encodes, encode_runs, precodes, unprecodes, shapers,
                                     round_trips, examples};
     print_group("symbols", tallies, ITEMS(tallies));
 }

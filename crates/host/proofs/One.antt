@@ -81,9 +81,9 @@ pub sdsl-precode-one : (coefficients history xs ys : List ℕ) (r r′ : ℕ) (h
     → PrecodesRun coefficients history xs ys r h d → PrecodesRun coefficients history xs ys r′ h′ d′ → (r ≡ r′) × (h ≡ h′) × (d ≡ d′)
 sdsl-precode-one = precode-run-one
 
-pub sdsl-decode-one : (coefficients history ys xs : List ℕ) (r r′ : ℕ) (h h′ d d′ : List ℕ)
+pub sdsl-unprecode-one : (coefficients history ys xs : List ℕ) (r r′ : ℕ) (h h′ d d′ : List ℕ)
     → DecodesRun coefficients history ys xs r h d → DecodesRun coefficients history ys xs r′ h′ d′ → (r ≡ r′) × (h ≡ h′) × (d ≡ d′)
-sdsl-decode-one = decode-run-one
+sdsl-unprecode-one = decode-run-one
 
 pub sdsl-shaper-one : (y : ℤ) (r r′ : Shaped) → SampleShaped y r → SampleShaped y r′ → r ≡ r′
 sdsl-shaper-one y r r′ p q =

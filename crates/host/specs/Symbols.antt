@@ -21,7 +21,7 @@ use Rattle.host.specs.declared.symbols.Shaped.{Shaped}
 abbrev pub asLevel : Level → SymbolLevel
 asLevel r = record { answer = r .answer; sixteenths = r .sixteenths }
 
--- struct sdsl_code
+-- struct sdsl_symbol_code
 abbrev pub asCode : Code → SymbolCode
 asCode r = record { answer = r .answer; code = r .code }
 

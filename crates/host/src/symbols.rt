@@ -124,7 +124,7 @@ pub extern "C" fn sdsl_precode(
 
 // The receiving end.
 #[no_mangle]
-pub extern "C" fn sdsl_decode(
+pub extern "C" fn sdsl_unprecode(
     coefficients: &[u8],
     history: &mut [u8],
     ys: &[u8],
