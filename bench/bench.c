@@ -6,6 +6,9 @@
  *
  * Sides take turns, and of all rounds the best counts. FILE carries the best of one run on to the next (bench/run). The clock is the
  * processor time of this thread. After each turn the side's results are compared with ours: the status is 1 where any differ.
+ *
+ * "Worst seen" is the dearest of a row's dear cases (dear.c), each by its own best, as a ratio to the usual time. Only ours is timed on
+ * them; that plain C agrees is seen once.
  */
 #define _POSIX_C_SOURCE 200809L
 #include "bench.h"
@@ -29,6 +32,7 @@ struct side {
 };
 
 static struct side sides[ROWS][SIDES];
+static double dear_best[ROWS][CASES]; /* nanoseconds a unit */
 static volatile uint8_t sink;
 static size_t differing;
 
@@ -113,6 +117,68 @@ static void set_up(double nanoseconds)
     }
 }
 
+/* ---- Dear inputs ---- */
+
+static void dear_passes(size_t r, size_t which, size_t passes)
+{
+    for (size_t i = 0; i < passes; i++) {
+        dears[r].pass(&ours, which);
+        sink ^= (uint8_t)(results.octets[7] ^ results.numbers[1]);
+    }
+}
+
+/* A row's cases share the time of one side: each of them has as many passes as fill its part, and one at least. */
+static void measure_dear(size_t r, double nanoseconds)
+{
+    for (size_t which = 0; which < dears[r].cases; which++) {
+        size_t passes = 1;
+        double took = 0;
+        dear_passes(r, which, 1); /* so that what went before does not count */
+        for (; took < nanoseconds / (double)dears[r].cases / 2; passes *= 2) {
+            double before = now();
+            dear_passes(r, which, passes);
+            took = now() - before;
+            double one = took / (double)(passes * dears[r].units);
+            if (dear_best[r][which] == 0 || one < dear_best[r][which]) {
+                dear_best[r][which] = one;
+            }
+        }
+    }
+}
+
+/* Whether plain C finds the same on every dear case. */
+static void compare_dear(void)
+{
+    static struct results first;
+    for (size_t r = 0; r < row_count; r++) {
+        for (size_t which = 0; which < dears[r].cases; which++) {
+            char text[128];
+            memset(&results, 0, sizeof results);
+            dears[r].pass(&ours, which);
+            first = results;
+            memset(&results, 0, sizeof results);
+            dears[r].pass(&plain, which);
+            if (memcmp(&first, &results, sizeof first) != 0) {
+                differing++;
+                dears[r].name(which, text, sizeof text);
+                printf("DIFFERS: %s: plain C: %s\n", rows[r].operation, text);
+            }
+        }
+    }
+}
+
+/* The dearest case of a row. */
+static size_t worst_of(size_t r)
+{
+    size_t worst = 0;
+    for (size_t which = 1; which < dears[r].cases; which++) {
+        if (dear_best[r][which] > dear_best[r][worst]) {
+            worst = which;
+        }
+    }
+    return worst;
+}
+
 /* ---- The best so far, in a file ---- */
 
 static int load_best(const char *name)
@@ -127,8 +193,8 @@ static int load_best(const char *name)
     if (fscanf(file, "%d", &rounds) != 1) {
         rounds = 0;
     }
-    while (fscanf(file, "%zu %zu %lf", &r, &s, &best) == 3 && r < ROWS && s < SIDES) {
-        sides[r][s].best = best;
+    while (fscanf(file, "%zu %zu %lf", &r, &s, &best) == 3 && r < ROWS && s < SIDES + CASES) {
+        *(s < SIDES ? &sides[r][s].best : &dear_best[r][s - SIDES]) = best;
     }
     fclose(file);
     return rounds;
@@ -145,6 +211,9 @@ static void store_best(const char *name, int rounds)
     for (size_t r = 0; r < row_count; r++) {
         for (size_t s = 0; s < SIDES; s++) {
             fprintf(file, "%zu %zu %.3f\n", r, s, sides[r][s].best);
+        }
+        for (size_t which = 0; which < dears[r].cases; which++) {
+            fprintf(file, "%zu %zu %.3f\n", r, SIDES + which, dear_best[r][which]);
         }
     }
     fclose(file);
@@ -207,14 +276,15 @@ static void print_other(const struct side *side, double own)
 
 static void print_table(void)
 {
-    printf("| Operation | Unit | Plain C | Ours | Ratio | Target | Outside | Theirs | Ratio |\n"
-           "|---|---|---:|---:|---:|---|---|---:|---:|\n");
+    printf("| Operation | Unit | Plain C | Ours | Ratio | Target | Worst seen | Outside | Theirs | Ratio |\n"
+           "|---|---|---:|---:|---:|---|---:|---|---:|---:|\n");
     for (size_t r = 0; r < row_count; r++) {
         const struct side *side = sides[r];
         int digits = side[0].best < 100 ? 1 : 0;
         double ratio = side[1].best / side[0].best;
-        printf("| %s | %s | %.*f | %.*f | %.2f | %d, %s |", rows[r].operation, rows[r].unit, digits, side[1].best, digits, side[0].best,
-               ratio, rows[r].target, ratio >= rows[r].target ? "met" : "not met");
+        int target = emulated() ? rows[r].target : rows[r].native;
+        printf("| %s | %s | %.*f | %.*f | %.2f | %d, %s | %.2f |", rows[r].operation, rows[r].unit, digits, side[1].best, digits,
+               side[0].best, ratio, target, ratio >= target ? "met" : "not met", dear_best[r][worst_of(r)] / side[0].best);
         if (side[2].other == NULL) {
             printf(" | | |\n");
         } else {
@@ -230,6 +300,16 @@ static void print_table(void)
                 print_other(&sides[r][s], sides[r][0].best);
             }
         }
+    }
+}
+
+static void print_worst(void)
+{
+    for (size_t r = 0; r < row_count; r++) {
+        char text[128];
+        size_t worst = worst_of(r);
+        dears[r].name(worst, text, sizeof text);
+        printf("worst seen, %s: %s (%zu tried)\n", rows[r].operation, text, dears[r].cases);
     }
 }
 
@@ -265,17 +345,22 @@ int main(int count, char **words)
     int rounds = count > 1 ? atoi(words[1]) : 8;
     double milliseconds = count > 2 ? atof(words[2]) : 5;
     const char *carried = count > 3 ? words[3] : NULL;
-    if (count > 4 || rounds < 1 || milliseconds <= 0 || row_count > ROWS) {
+    for (size_t r = 0; r < dear_count; r++) {
+        rounds = dears[r].cases <= CASES ? rounds : 0;
+    }
+    if (count > 4 || rounds < 1 || milliseconds <= 0 || row_count > ROWS || dear_count != row_count) {
         fprintf(stderr, "usage: bench [ROUNDS [MILLISECONDS [FILE]]] | bench --frames DIR\n");
         return 2;
     }
     prepare_others();
     int before = carried != NULL ? load_best(carried) : 0;
+    compare_dear();
     set_up(1e6 * milliseconds);
     print_heading(before + rounds, milliseconds);
     for (int round = 0; round < rounds; round++) {
         for (size_t r = 0; r < row_count; r++) {
             measure(&rows[r], sides[r]);
+            measure_dear(r, 1e6 * milliseconds);
         }
     }
     if (carried != NULL) {
@@ -285,6 +370,7 @@ int main(int count, char **words)
     printf("\n");
     print_to_spare(encoder_row);
     print_to_spare(precoder_row);
+    print_worst();
     printf("%s\n", differing == 0 ? "All sides agree." : "SIDES DIFFER.");
     return differing == 0 ? 0 : 1;
 }

@@ -3,6 +3,7 @@
  *
  *   bench.c     rounds, the clock, the table
  *   rows.c      what is measured: inputs, and a pass over them for each operation
+ *   dear.c      the inputs that are dearest by construction
  *   others.c    other ways: a bit-serial register in plain C, and where they were found libosmocore, libcrcutil and GNU Radio
  *   crcutil.cpp libcrcutil
  *   radio.cpp   GNU Radio's scrambler
@@ -61,13 +62,26 @@ struct row {
     const char *operation;
     const char *unit; /* what the nanoseconds are for */
     size_t units;     /* in a pass */
-    int target;       /* how many times as fast as plain C it has to be */
+    int target;       /* how many times as fast as plain C it has to be, emulated */
+    int native;       /* and on a real x86-64 */
     void (*pass)(const struct library *library);
     const struct other *others; /* other ways, the first one in the main table; the last has no name */
 };
 extern const struct row rows[];
 extern const size_t row_count;
 extern const struct row *const encoder_row, *const precoder_row;
+
+/* The inputs that are dearest by construction, one for each row: cases, and a pass over one of them. */
+#define CASES 520 /* of one row, at most */
+struct dear {
+    size_t cases;
+    size_t units; /* in a pass */
+    void (*pass)(const struct library *library, size_t which);
+    void (*name)(size_t which, char *text, size_t room);
+};
+extern const struct dear dears[];
+extern const size_t dear_count;
+void make_dear_inputs(void);
 
 /* Inputs, made once from one seed. */
 void make_inputs(void);

@@ -124,6 +124,7 @@ void make_inputs(void)
     make_frames();
     make_symbols();
     make_codes();
+    make_dear_inputs();
 }
 
 /* ---- A pass of each operation ---- */
@@ -263,22 +264,22 @@ static void run_codes(const struct library *library)
 }
 
 const struct row rows[] = {
-    {"write a training frame", "frame", BATCH, 4, write_training, NULL},
-    {"write a final frame", "frame", BATCH, 4, write_final, NULL},
-    {"check a frame", "frame", BATCH, 6, check, check_others},
-    {"read a training frame", "frame", BATCH, 4, read_training, NULL},
-    {"read a final frame", "frame", BATCH, 4, read_final, NULL},
-    {"scramble a frame, LTU", "frame", BATCH, 15, scramble_ltu, scramble_ltu_others},
-    {"scramble a frame, NTU", "frame", BATCH, 15, scramble_ntu, scramble_ntu_others},
-    {"descramble a frame, LTU", "frame", BATCH, 25, descramble_ltu, descramble_ltu_others},
-    {"descramble a frame, NTU", "frame", BATCH, 25, descramble_ntu, descramble_ntu_others},
-    {"encoder, in a run", "symbol", RUN, 1, encode_run, NULL},
-    {"encoder, a call each", "symbol", RUN, 1, encode_each, NULL},
-    {"precoder, in a run", "symbol", RUN, 1, precode, NULL},
-    {"precoder's inverse, in a run", "symbol", RUN, 1, unprecode, NULL},
-    {"supervisor, a call each", "step", CODES, 1, step, NULL},
-    {"supervisor, in a run", "step", CODES, 1, run_codes, NULL},
-    {"sorter's heart: read 340 frames", "340", 1, 1, read_cards, NULL},
+    {"write a training frame", "frame", BATCH, 4, 25, write_training, NULL},
+    {"write a final frame", "frame", BATCH, 4, 10, write_final, NULL},
+    {"check a frame", "frame", BATCH, 6, 45, check, check_others},
+    {"read a training frame", "frame", BATCH, 4, 26, read_training, NULL},
+    {"read a final frame", "frame", BATCH, 4, 11, read_final, NULL},
+    {"scramble a frame, LTU", "frame", BATCH, 15, 20, scramble_ltu, scramble_ltu_others},
+    {"scramble a frame, NTU", "frame", BATCH, 15, 20, scramble_ntu, scramble_ntu_others},
+    {"descramble a frame, LTU", "frame", BATCH, 25, 40, descramble_ltu, descramble_ltu_others},
+    {"descramble a frame, NTU", "frame", BATCH, 25, 40, descramble_ntu, descramble_ntu_others},
+    {"encoder, in a run", "symbol", RUN, 1, 1, encode_run, NULL},
+    {"encoder, a call each", "symbol", RUN, 1, 1, encode_each, NULL},
+    {"precoder, in a run", "symbol", RUN, 1, 1, precode, NULL},
+    {"precoder's inverse, in a run", "symbol", RUN, 1, 1, unprecode, NULL},
+    {"supervisor, a call each", "step", CODES, 1, 1, step, NULL},
+    {"supervisor, in a run", "step", CODES, 1, 1, run_codes, NULL},
+    {"sorter's heart: read 340 frames", "340", 1, 1, 1, read_cards, NULL},
 };
 const size_t row_count = ITEMS(rows);
 const struct row *const encoder_row = &rows[9], *const precoder_row = &rows[11];

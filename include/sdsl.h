@@ -13,6 +13,7 @@
  * - The library has no state of its own, takes no lock and allocates nothing: any thread may call anything at any time. States
  *   (scrambler, register, history, supervisor) are the caller's: keep what comes back and pass it to the next call.
  * - It needs memcpy, memmove and memset of the C library, and nothing else.
+ * - No call takes more than SDSL_STACK_OCTETS octets of stack, beside what those three take.
  *
  * Bits in octets. Bit n of the paper, n from 1, has weight 1 << ((n - 1) % 8) in octet (n - 1) / 8. The first bit on the line is
  * bit 1. This holds for frames, for vendor data and for the scrambler's runs.
@@ -41,6 +42,8 @@
 #ifdef __cplusplus
 extern "C" {
 #endif
+
+#define SDSL_STACK_OCTETS 2048 /* the stack that a call takes, at most */
 
 /* What comes back. */
 enum sdsl_answer {
