@@ -3,6 +3,8 @@
 A command is a line '    $ ..' in README; what it prints, on standard output and standard error as a terminal shows both, are the indented
 lines below it. A command in the text, `./run ..` or `make ..` in backquotes, has to run too. `make` and `make test` are not typed: the
 first has been by now, and this is part of the second. HOME is a folder of the test's own.
+
+With --write it puts what is printed into README instead: read what has changed before you commit it.
 """
 import os
 import re
@@ -25,10 +27,12 @@ def typed(command, home):
                           stderr=subprocess.STDOUT, text=True, errors="replace")
 
 
-def shown(text):
-    """The commands of README, each with the lines shown below it."""
-    return [(command, re.sub("^    ", "", lines, flags=re.M))
-            for command, lines in re.findall(r"^    \$ (.*)\n((?:    (?!\$ ).*\n)*)", text, re.M)]
+COMMAND = re.compile(r"^    \$ (.*)\n((?:    (?!\$ ).*\n)*)", re.M)
+
+
+def printed(command, home):
+    """What a command prints, indented as README shows it."""
+    return re.sub("^(?=.)", "    ", typed(command, home).stdout, flags=re.M)
 
 
 def blocks(text, name):
@@ -36,17 +40,21 @@ def blocks(text, name):
 
 
 readme = open("README.md", encoding="utf-8").read()
-commands = shown(readme)
+commands = [(command, text) for command, text in COMMAND.findall(readme) if command not in NOT_TYPED]
 say(len(commands) >= 10, f"README has {len(commands)} commands with what they print")
 with tempfile.TemporaryDirectory() as home:
+    if sys.argv[1:] == ["--write"]:
+        def again(found):
+            command = found[1]
+            return found[0] if command in NOT_TYPED else f"    $ {command}\n{printed(command, home)}"
+        open("README.md", "w", encoding="utf-8").write(COMMAND.sub(again, readme))
+        sys.exit()
     for command, text in commands:
-        if command in NOT_TYPED:
-            continue
-        got = typed(command, home).stdout
+        got = printed(command, home)
         say(got == text, f"README: {command}")
         if got != text:
             print(f"--- README shows\n{text}--- printed\n{got}---")
-    inline = sorted(set(re.findall(r"`((?:\./run|make) [^`]*|make)`", readme)) - NOT_TYPED - {command for command, _ in commands})
+    inline = sorted(set(re.findall(r"`((?:\./run|make) [^`]*|make)`", readme)) - NOT_TYPED - set(dict(commands)))
     for command in inline:
         got = typed(command, home)
         say(got.returncode in (0, 1) and got.stdout != "", f"README, in the text: {command}")
