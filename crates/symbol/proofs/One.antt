@@ -9,7 +9,7 @@ use Rattle.symbol.specs.declared.Encoder.{Encoder}
 use Rattle.symbol.specs.declared.Step.{Step}
 use Rattle.symbol.specs.declared.Run.{Run}
 use Rattle.symbol.specs.Levels.{ActivationLevel, DataLevel, LevelCode}
-use Rattle.symbol.specs.Encoder.{startOf, Stepped, Ran}
+use Rattle.symbol.specs.Encoder.{Started, Stepped, Ran}
 
 pub activation-level-one : (bit : ℕ) (r s : Level) → ActivationLevel bit r → ActivationLevel bit s → r ≡ s
 activation-level-one bit r s p q =
@@ -26,8 +26,8 @@ level-code-one level r s p q =
     let e = p .answered ∙ sym (q .answered) in
     λ i. record { answer = e i; code = ((rw e at (p .code)) ∙ sym (q .code)) i }
 
-pub start-one : (a b : ℕ) (r s : Encoder) → r ≡ startOf a b → s ≡ startOf a b → r ≡ s
-start-one a b r s p q = p ∙ sym q
+pub start-one : (a b : ℕ) (r s : Run) → Started a b r → Started a b s → r ≡ s
+start-one a b r s p q = λ i. record { answer = (p .answered ∙ sym (q .answered)) i; next = (p .next ∙ sym (q .next)) i }
 
 pub step-one : (e : Encoder) (symbol : ℕ) (r s : Step) → Stepped e symbol r → Stepped e symbol s → r ≡ s
 step-one e symbol r s p q =
@@ -39,7 +39,8 @@ step-one e symbol r s p q =
       next = ((rw a at (p .next)) ∙ sym (q .next)) i;
     }
 
-pub run-one : (e : Encoder) (symbols codes : List ℕ) (r s : Run) (x y : List ℕ) → Ran e symbols codes r x → Ran e symbols codes s y → (r ≡ s) × (x ≡ y)
+pub run-one : (e : Encoder) (symbols codes : List ℕ) (r s : Run) (x y : List ℕ)
+    → Ran e symbols codes r x → Ran e symbols codes s y → (r ≡ s) × (x ≡ y)
 run-one e symbols codes r s x y p q =
     let a = p .answered ∙ sym (q .answered) in
     (λ i. record { answer = a i; next = ((rw a at (p .next)) ∙ sym (q .next)) i }, ((rw a at (p .written)) ∙ sym (q .written)))

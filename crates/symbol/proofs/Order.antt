@@ -7,7 +7,7 @@ use lib.IntN.{ℤ}
 use Rattle.answer.specs.Answer.{inOrder}
 use Rattle.symbol.specs.declared.Encoder.{Encoder}
 use Rattle.symbol.specs.Levels.{activationTests, dataTests, backTests}
-use Rattle.symbol.specs.Encoder.{stepTests, runTests}
+use Rattle.symbol.specs.Encoder.{startTests, stepTests, runTests}
 
 pub activation-order : (bit : ℕ) → inOrder 1 (activationTests bit) ≡ true
 unfolding inOrder
@@ -20,6 +20,10 @@ data-order code = refl
 pub back-order : (level : ℤ) → inOrder 1 (backTests level) ≡ true
 unfolding inOrder
 back-order level = refl
+
+pub start-order : (a b : ℕ) → inOrder 1 (startTests a b) ≡ true
+unfolding inOrder
+start-order a b = refl
 
 pub step-order : (e : Encoder) (symbol : ℕ) → inOrder 1 (stepTests e symbol) ≡ true
 unfolding inOrder

@@ -30,7 +30,8 @@ x2 symbol = bit symbol 1
 abbrev pub x3 : ℕ → ℕ
 x3 symbol = bit symbol 0
 
--- how many of the places k below n have a 1 both in the word (a_k) and in X1 sent k symbols ago. `sent` is every X1 so far, the current one first; before the first it is 0
+-- how many of the places k below n have a 1 both in the word (a_k) and in X1 sent k symbols ago. `sent` is every X1 so far, the current
+-- one first; before the first it is 0
 unfoldable pub onesLeft : ℕ → ℕ → List ℕ → ℕ
 onesLeft zero word sent = 0
 onesLeft (suc k) word sent = onesLeft k word sent + bit word k * getD sent k 0
@@ -84,16 +85,29 @@ runTests e symbols codes =
 abbrev pub withRegister : Encoder → ℕ → Encoder
 withRegister e register = record { a = e .a; b = e .b; register = register }
 
+-- the encoder after one symbol more
+abbrev pub nextOf : Encoder → ℕ → Encoder
+nextOf e symbol = withRegister e (registerOf (x1 symbol ∷ heldIn (e .register)))
+
 -- the encoder at the start: no X1 sent yet
 abbrev pub startOf : ℕ → ℕ → Encoder
 startOf a b = record { a = a; b = b; register = registerOf [] }
+
+-- of a start: A or B out of range is 4
+abbrev pub startTests : ℕ → ℕ → List Refusal
+startTests a b = refuse 4 (not (isWord a && isWord b)) ∷ []
+
+-- what `Encoder::start` gives back: refused or not, the register is that of the start
+pub record Started (a b : ℕ) (r : Run) : Type 0 where
+  pub answered : r .answer ≡ answer (startTests a b)
+  pub next : r .next ≡ startOf a b
 
 -- what `Encoder::step` gives back
 pub record Stepped (e : Encoder) (symbol : ℕ) (r : Step) : Type 0 where
   pub answered : r .answer ≡ answer (stepTests e symbol)
   pub code : r .code ≡ held (r .answer) 0 (codeOf (e .a) (e .b) (heldIn (e .register)) symbol)
   pub level : r .sixteenths ≡ held (r .answer) (pos 0) (levelAt dataLevels (codeOf (e .a) (e .b) (heldIn (e .register)) symbol))
-  pub next : r .next ≡ held (r .answer) e (withRegister e (registerOf (x1 symbol ∷ heldIn (e .register))))
+  pub next : r .next ≡ held (r .answer) e (nextOf e symbol)
 
 -- what `Encoder::run` gives back, and what the room for the codes holds afterwards
 pub record Ran (e : Encoder) (symbols codes : List ℕ) (r : Run) (codes′ : List ℕ) : Type 0 where

@@ -1,11 +1,10 @@
 // Symbols: levels in sixteenths, and the data encoder (000, clauses 4.1.6 and 4.3.3).
 ghost use mathlib.Core.Path.{_≡_};
 ghost use mathlib.Core.Bool.{true};
-ghost use mathlib.Core.List.{_∷_};
 ghost use Prim.Native.Nat.{_≤_, _<_, _*_};
 ghost use lib.IntN.{pos, _-ℤ_};
 ghost use Rattle.symbol.specs.Levels.{ActivationLevel, DataLevel, LevelCode};
-ghost use Rattle.symbol.specs.Encoder.{x1, codeOf, registerOf, heldIn, symbolsIn, encoderIn, startOf, Stepped, Ran};
+ghost use Rattle.symbol.specs.Encoder.{codeOf, nextOf, heldIn, symbolsIn, encoderIn, Started, Stepped, Ran};
 
 // A level, with the answer first.
 pub struct Level {
@@ -120,16 +119,16 @@ pub struct Step {
     pub next: Encoder,
 }
 
-// What a run gives: the answer and the next state.
+// What a start and a run give: the answer and the next state.
 pub struct Run {
     pub answer: u32,
     pub next: Encoder,
 }
 
-// A symbol's code and the register after it.
+// A symbol's code and the next state.
 struct Turn {
     code: u32,
-    register: u32,
+    next: Encoder,
 }
 
 impl Encoder {
@@ -138,14 +137,24 @@ impl Encoder {
     // The register before the first symbol.
     pub const START: u32 = 0;
 
-    // The encoder before the first symbol. Words out of range are refused by every step.
-    pub fn start(a: u32, b: u32) -> Encoder
-        ensures { λ r. ⌜ r ≡ startOf a b ⌝ }
+    // The encoder before the first symbol. Words out of range are refused, here and by every step.
+    pub fn start(a: u32, b: u32) -> Run
+        ensures { λ r. ⌜ Started a b r ⌝ }
     {
-        Encoder {
+        let next = Encoder {
             a,
             b,
             register: Self::START,
+        };
+        if !next.in_range() {
+            return Run {
+                answer: answer::RANGE,
+                next,
+            };
+        }
+        Run {
+            answer: answer::DONE,
+            next,
         }
     }
 
@@ -162,10 +171,11 @@ impl Encoder {
         self.register < Self::REGISTERS
     }
 
-    // A symbol's code and the next register. The window holds the current X1 at weight 1, where a0 meets it; the register is shifted after that.
+    // One symbol with nothing to refuse: what `step` and `run` are made of. The window holds the current X1 at weight 1, where a0 meets it;
+    // the register is shifted after that.
     fn turn(self, symbol: u32) -> Turn
         requires { ⌜ (encoderIn self ≡ true) × (symbol ≤ 7) ⌝ }
-        ensures { λ r. ⌜ (r .code ≡ codeOf (self .a) (self .b) (heldIn (self .register)) symbol) × (r .register ≡ registerOf (x1 symbol ∷ heldIn (self .register))) ⌝ }
+        ensures { λ r. ⌜ (r .code ≡ codeOf (self .a) (self .b) (heldIn (self .register)) symbol) × (r .next ≡ nextOf self symbol) ⌝ }
     {
         let window = self.register * 2 + symbol / 4;
         let y3 = symbol % 2;
@@ -174,7 +184,11 @@ impl Encoder {
         let y0 = u32::count_ones(self.b & window) % 2;
         Turn {
             code: y3 * 8 + y2 * 4 + y1 * 2 + y0,
-            register: window % Self::REGISTERS,
+            next: Encoder {
+                a: self.a,
+                b: self.b,
+                register: window % Self::REGISTERS,
+            },
         }
     }
 
@@ -199,16 +213,13 @@ impl Encoder {
             };
         }
         let t = self.turn(symbol);
+        let next = t.next;
         let level = data_level(t.code);
         Step {
             answer: answer::DONE,
             code: t.code,
             sixteenths: level.sixteenths,
-            next: Encoder {
-                a: self.a,
-                b: self.b,
-                register: t.register,
-            },
+            next,
         }
     }
 
@@ -234,26 +245,17 @@ impl Encoder {
                 next: self,
             };
         }
-        let mut register = self.register;
+        let mut next = self;
         let mut i = 0;
         while i < symbols.len() {
-            let e = Encoder {
-                a: self.a,
-                b: self.b,
-                register,
-            };
-            let t = e.turn(symbols[i] as u32);
+            let t = next.turn(symbols[i] as u32);
             codes[i] = t.code as u8;
-            register = t.register;
+            next = t.next;
             i += 1;
         }
         Run {
             answer: answer::DONE,
-            next: Encoder {
-                a: self.a,
-                b: self.b,
-                register,
-            },
+            next,
         }
     }
 }

@@ -4,24 +4,25 @@ use borrow.Author.Needs.{needs}
 use borrow.Author.Tests.{eq-eqb, ne-eqb, not-true, not-false}
 use mathlib.Core.Path.{_≡_, refl, sym, ap, _∙_}
 use mathlib.Core.Bool.{true}
-use mathlib.Core.List.{List, _++_}
-use Prim.Native.Nat.{ℕ, _+_, _-_, _^_, _≤_, _<_}
+use mathlib.Core.List.{List, _∷_, _++_}
+use Prim.Native.Nat.{ℕ, _-_, _^_, _≤_, _<_}
 use native.Mathlib.Omega.{arith}
 use lib.ListN.{length, getD, take, drop, length-set}
 use Rattle.symbol.specs.declared.Encoder.{Encoder}
-use Rattle.symbol.specs.Encoder.{encoderIn, symbolsIn, codeOf, codesOf, sentAfter, registerOf, heldIn, withRegister}
+use Rattle.symbol.specs.Encoder.{x1, encoderIn, symbolsIn, codeOf, codesOf, sentAfter, registerOf, heldIn, withRegister}
 use Rattle.symbol.proofs.Runs.{encoder-in, with-in, symbol-in, code-small, next-small, codes-turn, register-turn, codes-end, register-end}
 use Rattle.symbol.proofs.Encoder.run.Statement.{statement}
 use Rattle.symbol.proofs.Encoder.run.Tie as tie
 
 abbrev Inv-loop : tie.InvT-loop
-Inv-loop self symbols codes₀ register₀ i₀ codes register i =
-    (i ≤ length symbols) × (length codes ≡ length codes₀) × (register < 2 ^ 20)
-    × (take i codes ++ codesOf (self .a) (self .b) (heldIn register) (drop i symbols) ≡ codesOf (self .a) (self .b) (heldIn register₀) symbols)
-    × (registerOf (sentAfter (heldIn register) (drop i symbols)) ≡ registerOf (sentAfter (heldIn register₀) symbols))
+Inv-loop symbols codes₀ self i₀ codes next i =
+    (i ≤ length symbols) × (length codes ≡ length codes₀) × (next ≡ withRegister self (next .register)) × (next .register < 2 ^ 20)
+    × (take i codes ++ codesOf (self .a) (self .b) (heldIn (next .register)) (drop i symbols)
+    ≡ codesOf (self .a) (self .b) (heldIn (self .register)) symbols)
+    × (registerOf (sentAfter (heldIn (next .register)) (drop i symbols)) ≡ registerOf (sentAfter (heldIn (self .register)) symbols))
 
 abbrev μ-loop : tie.MeasureT-loop
-μ-loop self symbols codes₀ register₀ i₀ codes register i = length symbols - i
+μ-loop symbols codes₀ self i₀ codes next i = length symbols - i
 
 -- what the checks before the loop have shown
 module _ (c : tie.Else3 Inv-loop μ-loop) where
@@ -62,14 +63,16 @@ symbols-in-requires c κs = search needs
 
 returns-3 : tie.Need-returns-3 Inv-loop μ-loop
 returns-3 c =
+    let in-its-range = sym (c .before .before .before .in-range .ensures) ∙ not-false _ (c .before .before .if2 .left) in
+    let a-symbol-out = sym (c .before .symbols-in .ensures) ∙ not-true _ (c .if3 .taken) in
     record {
-      answered = rw (eq-eqb _ _ (c .before .before .before .before .if1 .left), sym (c .before .before .before .in-range .ensures) ∙ not-false _ (c .before .before .if2 .left), sym (c .before .symbols-in .ensures) ∙ not-true _ (c .if3 .taken));
+      answered = rw (eq-eqb _ _ (c .before .before .before .before .if1 .left), in-its-range, a-symbol-out);
       written = refl;
       next = refl;
     }
 
 loop-holds : tie.Need-loop-holds Inv-loop μ-loop
-loop-holds c = (omega arith, refl, encoder-in (self c) (in-range c) .2, refl, refl)
+loop-holds c = (omega arith, refl, refl, encoder-in (self c) (in-range c) .2, refl, refl)
 
 shared-slice-read-turn : tie.Need-shared-slice-read-turn Inv-loop μ-loop
 shared-slice-read-turn c = omega arith
@@ -81,13 +84,16 @@ turn-requires : tie.Need-turn-requires Inv-loop μ-loop
 turn-requires c κs =
     let before = c .before .before .before in
     let l = c .before .before .loop in
-    (with-in (self before) (l .register) (in-range before) (l .inv .2), symbol-in (symbols before) (l .i) (c .before .loop-test .taken) (symbols-good before))
+    let inside = with-in (self before) (l .next .register) (in-range before) (l .inv .3) in (
+      ap encoderIn (l .inv .2) ∙ inside,
+      symbol-in (symbols before) (l .i) (c .before .loop-test .taken) (symbols-good before),
+    )
 
 cast-codes : tie.Need-cast-codes Inv-loop μ-loop
 cast-codes c =
     let before = c .before .before .before .before .before in
     let l = c .before .before .before .before .loop in
-    omega (arith, c .before .turn .ensures .0, code-small (self before .a) (self before .b) (heldIn (l .register)) (getD (symbols before) (l .i) 0))
+    omega (arith, c .before .turn .ensures .0, code-small (l .next .a) (l .next .b) (heldIn (l .next .register)) (getD (symbols before) (l .i) 0))
 
 slice-write-codes : tie.Need-slice-write-codes Inv-loop μ-loop
 slice-write-codes c =
@@ -103,17 +109,23 @@ loop-less c = omega arith
 
 loop-again : tie.Need-loop-again Inv-loop μ-loop
 loop-again c =
-    let before = c .before .before .before .before .before in
-    let l = c .before .before .before .before .loop in
-    let t = c .before .turn in
-    let h = c .before .before .before .loop-test .taken in
-    rw (t .ensures .0, t .ensures .1)
+    let before = c .before .before .before .before .before .before in
+    let l = c .before .before .before .before .before .loop in
+    let t = c .before .before .turn in
+    let h = c .before .before .before .before .loop-test .taken in
+    let a = self before .a in
+    let b = self before .b in
+    let symbol = getD (symbols before) (l .i) 0 in
+    let code = t .ensures .0 ∙ ap (λ (e : Encoder). codeOf (e .a) (e .b) (heldIn (l .next .register)) symbol) (l .inv .2) in
+    let next = t .ensures .1 ∙ ap (λ (e : Encoder). withRegister e (registerOf (x1 symbol ∷ heldIn (l .next .register)))) (l .inv .2) in
+    rw (code, next)
     ((
       omega arith,
-      length-set (l .codes) (l .i) (codeOf (self before .a) (self before .b) (heldIn (l .register)) (getD (symbols before) (l .i) 0)) ∙ l .inv .1,
-      next-small (symbols before) (l .register) (l .i),
-      codes-turn (self before .a) (self before .b) (symbols before) (l .register) (l .i) h (l .codes) (omega (arith, lengths before, l .inv .1)) ∙ l .inv .3,
-      register-turn (self before .a) (self before .b) (symbols before) (l .register) (l .i) h ∙ l .inv .4,
+      length-set (l .codes) (l .i) (codeOf a b (heldIn (l .next .register)) symbol) ∙ l .inv .1,
+      refl,
+      next-small (symbols before) (l .next .register) (l .i),
+      codes-turn a b (symbols before) (l .next .register) (l .i) h (l .codes) (omega (arith, lengths before, l .inv .1)) ∙ l .inv .4,
+      register-turn a b (symbols before) (l .next .register) (l .i) h ∙ l .inv .5,
     ))
 
 same-length : tie.Need-same-length Inv-loop μ-loop
@@ -123,11 +135,14 @@ returns-4 : tie.Need-returns-4 Inv-loop μ-loop
 returns-4 c =
     let before = c .before .before in
     let l = c .before .loop in
+    let done = c .loop-test .left in
+    let register = l .next .register in
+    let codes-are = codes-end (self before .a) (self before .b) (symbols before) (l .codes) register (l .i) done (l .inv .0) (l .inv .1 ∙ lengths before) in
+    let register-is = register-end (symbols before) register (l .i) done (l .inv .0) (l .inv .3) in
     record {
       answered = rw (eq-eqb _ _ (lengths before), in-range before, symbols-good before);
-      written =
-          sym (codes-end (self before .a) (self before .b) (symbols before) (l .codes) (l .register) (l .i) (c .loop-test .left) (l .inv .0) (l .inv .1 ∙ lengths before)) ∙ l .inv .3;
-      next = ap (withRegister (self before)) (sym (register-end (symbols before) (l .register) (l .i) (c .loop-test .left) (l .inv .0) (l .inv .2)) ∙ l .inv .4);
+      written = sym codes-are ∙ l .inv .4;
+      next = l .inv .2 ∙ ap (withRegister (self before)) (sym register-is ∙ l .inv .5);
     }
 
 pub run-spec : {M : Type 1} → statement M

@@ -10,7 +10,7 @@ use mir.Facts.{toZ-ofZ}
 use mir.Syntax.{w32}
 use mir.Val.{toZ, ofZ}
 use Rattle.symbol.specs.Levels.{dataLevels, levelAt}
-use Rattle.symbol.specs.Encoder.{encoderIn, codeOf, heldIn, withRegister}
+use Rattle.symbol.specs.Encoder.{encoderIn, codeOf, heldIn}
 use Rattle.symbol.proofs.Levels.{level-done, level-fits}
 use Rattle.symbol.proofs.Runs.{code-small}
 use Rattle.symbol.proofs.Encoder.step.Statement.{statement}
@@ -49,18 +49,18 @@ data-level-requires c κs = search needs
 
 returns-3 : tie.Need-returns-3
 returns-3 c =
-    let a = c .before .before .before .before .before .before .args in
-    let t = c .before .before .turn in
+    let a = c .before .before .before .before .before .before .before .args in
+    let t = c .before .before .before .turn in
     let d = c .before .data-level in
     let code = codeOf (a .self .a) (a .self .b) (heldIn (a .self .register)) (a .symbol) in
     let small : t .result .code ≤ 15 = omega (arith, t .ensures .0, code-small (a .self .a) (a .self .b) (heldIn (a .self .register)) (a .symbol)) in
     record {
-      answered = rw (in-range (c .before .before .before .before), le-ltb _ _ (c .before .before .before .if2 .left));
+      answered = rw (in-range (c .before .before .before .before .before), le-ltb _ _ (c .before .before .before .before .if2 .left));
       code = t .ensures .0;
       level =
           ap (λ (z : ℤ). toZ w32 (ofZ w32 z)) (level-done (t .result .code) (d .result) (d .ensures) small)
           ∙ toZ-ofZ (level-fits (t .result .code) small) ∙ ap (levelAt dataLevels) (t .ensures .0);
-      next = ap (withRegister (a .self)) (t .ensures .1);
+      next = t .ensures .1;
     }
 
 pub step-spec : {M : Type 1} → statement M

@@ -1,7 +1,9 @@
 -- `symbol::Encoder::turn` meets its contract. Assumes nothing.
 use borrow.Author.Needs.{needs}
+use mathlib.Core.Path.{ap}
 use Prim.Native.Nat.{_^_, _<_}
 use native.Mathlib.Omega.{arith}
+use Rattle.symbol.specs.Encoder.{withRegister}
 use Rattle.symbol.proofs.Sent.{turn-parity, turn-register}
 use Rattle.symbol.proofs.Runs.{encoder-in}
 use Rattle.symbol.proofs.Encoder.turn.Statement.{statement}
@@ -38,8 +40,10 @@ returns : tie.Need-returns
 returns c =
     let s = c .before .before .before in
     let a = s .args in
-    let parity = turn-parity (a .self .register) (a .symbol) (small s) (s .pre .1) in
-    (omega (arith, parity (a .self .a), parity (a .self .b)), turn-register (a .self .register) (a .symbol) (small s) (s .pre .1))
+    let parity = turn-parity (a .self .register) (a .symbol) (small s) (s .pre .1) in (
+      omega (arith, parity (a .self .a), parity (a .self .b)),
+      ap (withRegister (a .self)) (turn-register (a .self .register) (a .symbol) (small s) (s .pre .1)),
+    )
 
 pub turn-spec : {M : Type 1} → statement M
 turn-spec =
