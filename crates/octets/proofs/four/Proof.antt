@@ -1,12 +1,12 @@
--- `bitfields::four` meets its contract.
+-- `octets::four` meets its contract.
 use borrow.Author.Needs.{needs}
 use mathlib.Core.Path.{_≡_, refl}
 use Prim.Native.Nat.{_+_, _*_}
 use native.Mathlib.Omega.{arith}
 use lib.Dec.{lit≤}
 use Rattle.octets.proofs.Words.{joined-digits}
-use Rattle.bitfields.proofs.four.Statement.{statement}
-use Rattle.bitfields.proofs.four.Tie as tie
+use Rattle.octets.proofs.four.Statement.{statement}
+use Rattle.octets.proofs.four.Tie as tie
 
 two-requires : tie.Need-two-requires
 two-requires c κs = search needs

@@ -1,12 +1,12 @@
--- `bitfields::eight` meets its contract.
+-- `octets::eight` meets its contract.
 use borrow.Author.Needs.{needs}
 use mathlib.Core.Path.{_≡_, refl}
 use Prim.Native.Nat.{_+_, _*_}
 use native.Mathlib.Omega.{arith}
 use lib.Dec.{lit≤}
 use Rattle.octets.proofs.Words.{joined-digits}
-use Rattle.bitfields.proofs.eight.Statement.{statement}
-use Rattle.bitfields.proofs.eight.Tie as tie
+use Rattle.octets.proofs.eight.Statement.{statement}
+use Rattle.octets.proofs.eight.Tie as tie
 
 four-requires : tie.Need-four-requires
 four-requires c κs = search needs

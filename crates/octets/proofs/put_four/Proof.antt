@@ -1,13 +1,13 @@
--- `bitfields::put_four` meets its contract.
+-- `octets::put_four` meets its contract.
 use borrow.Author.Needs.{needs}
 use mathlib.Core.Path.{ap, _∙_}
 use mathlib.Core.List.{List}
 use Prim.Native.Nat.{ℕ, _+_, _/_, _^_}
 use lib.Seq.{sets}
 use Rattle.octets.specs.Bits.{digitsOf, octetsOf}
 use Rattle.octets.proofs.Words.{sets-more}
-use Rattle.bitfields.proofs.put_four.Statement.{statement}
-use Rattle.bitfields.proofs.put_four.Tie as tie
+use Rattle.octets.proofs.put_four.Statement.{statement}
+use Rattle.octets.proofs.put_four.Tie as tie
 
 put-two-requires : tie.Need-put-two-requires
 put-two-requires c κs = search needs

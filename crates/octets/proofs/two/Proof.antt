@@ -1,10 +1,10 @@
--- `bitfields::two` meets its contract.
+-- `octets::two` meets its contract.
 use borrow.Author.Needs.{needs}
 use native.Mathlib.Omega.{arith}
 use Prim.Native.Nat.{_+_}
 use Rattle.octets.proofs.Words.{two-octets}
-use Rattle.bitfields.proofs.two.Statement.{statement}
-use Rattle.bitfields.proofs.two.Tie as tie
+use Rattle.octets.proofs.two.Statement.{statement}
+use Rattle.octets.proofs.two.Tie as tie
 
 shared-slice-read-low : tie.Need-shared-slice-read-low
 shared-slice-read-low c = search needs

@@ -1,12 +1,12 @@
--- `bitfields::put_two` meets its contract.
+-- `octets::put_two` meets its contract.
 use borrow.Author.Needs.{needs}
 use Prim.Native.Nat.{_/_, _^_}
 use native.Mathlib.Omega.{arith}
 use lib.Bits.{mask-lt}
 use lib.ListN.{length-set}
 use Rattle.octets.proofs.Words.{two-put}
-use Rattle.bitfields.proofs.put_two.Statement.{statement}
-use Rattle.bitfields.proofs.put_two.Tie as tie
+use Rattle.octets.proofs.put_two.Statement.{statement}
+use Rattle.octets.proofs.put_two.Tie as tie
 
 cast-s : tie.Need-cast-s
 cast-s c = record { fits = mask-lt (c .args .v) 8 }

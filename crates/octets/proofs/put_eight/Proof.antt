@@ -1,13 +1,13 @@
--- `bitfields::put_eight` meets its contract.
+-- `octets::put_eight` meets its contract.
 use borrow.Author.Needs.{needs}
 use mathlib.Core.Path.{ap, _∙_}
 use mathlib.Core.List.{List}
 use Prim.Native.Nat.{ℕ, _+_, _/_, _^_}
 use lib.Seq.{sets}
 use Rattle.octets.specs.Bits.{digitsOf, octetsOf}
 use Rattle.octets.proofs.Words.{sets-more}
-use Rattle.bitfields.proofs.put_eight.Statement.{statement}
-use Rattle.bitfields.proofs.put_eight.Tie as tie
+use Rattle.octets.proofs.put_eight.Statement.{statement}
+use Rattle.octets.proofs.put_eight.Tie as tie
 
 put-four-requires : tie.Need-put-four-requires
 put-four-requires c κs = search needs
