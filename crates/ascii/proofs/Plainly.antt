@@ -1,8 +1,8 @@
 -- Laws of printable octets and zeros, from a place on. Assumes nothing.
 use mathlib.Core.Path.{_≡_}
 use mathlib.Core.Bool.{Bool, true, false, cond}
-use mathlib.Core.List.{List}
-use Prim.Native.Nat.{ℕ, _+_, _≤_, _<_}
+use mathlib.Core.List.{List, [], _∷_}
+use Prim.Native.Nat.{ℕ, suc, _+_, _≤_, _<_}
 use native.Mathlib.Numerals.{add-one}
 use native.Mathlib.Omega.{arith}
 use borrow.Author.Tests.{eq-eqb, ne-eqb}
@@ -42,3 +42,20 @@ zero-end os k h = rw (drop-of-length-le os h)
 
 pub text-of : (os : List ℕ) (n : ℕ) (b : Bool) → n ≡ printables os → b ≡ allZeros (drop n os) → cond b n 0 ≡ textLength os
 text-of os n b p q = rw (q, p)
+
+prints-within : (os : List ℕ) → printables os ≤ length os
+unfolding printables
+prints-within [] = omega arith
+prints-within (o ∷ os) = go (isPrintable o) (prints-within os)
+  where
+    go : (b : Bool) → printables os ≤ length os → cond b (suc (printables os)) 0 ≤ suc (length os)
+    go true h = omega arith
+    go false h = omega arith
+
+-- text lies within its field
+pub text-within : (os : List ℕ) → textLength os ≤ length os
+text-within os = go (allZeros (drop (printables os) os)) (prints-within os)
+  where
+    go : (b : Bool) → printables os ≤ length os → cond b (printables os) 0 ≤ length os
+    go true h = h
+    go false h = omega arith
