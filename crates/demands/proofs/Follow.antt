@@ -24,6 +24,7 @@ use Rattle.remainder.specs.Errors.{flipped}
 use Rattle.layout.specs.Places.{coefficientsField, aField, bField, vendorField}
 use Rattle.layout.specs.Frame.{trainingSync, finalSync, trainingBits, frameBits, fieldOf, coefficientsOf}
 use Rattle.layout.specs.Refusals.{bitRefusals, hasSync, writeRefusals}
+use Rattle.checker.proofs.Laws.{checked}
 use Rattle.layout.proofs.RoundTrip.{training-laid, a-back, b-back, used-back, vendor-back, sound, field-bits, final-free, laid-in, training-again}
 use Rattle.layout.proofs.Laws.{final-length, final-bits}
 use Rattle.layout.proofs.OneBit.{one-bit}
@@ -123,7 +124,8 @@ module _ (x : Library) (one : One x) where
   -- one, two or three wrong bits, and a burst of up to 16, in bits 15 to 4,227 of a frame that answers 0 make it answer 7
   pub wrong-bits-seen : (frame frame′ : List ℕ) → length frame′ ≡ 529 → Few (bitsOf frame) (bitsOf frame′) ⊎ Burst (bitsOf frame) (bitsOf frame′)
       → x .check frame .answer ≡ 0 → x .check frame′ .answer ≡ 7
-  wrong-bits-seen frame frame′ l f c = changed-checked frame frame′ l f (sym c ∙ one .check .first frame) (x .check frame′ .answer) (one .check .first frame′)
+  wrong-bits-seen frame frame′ l f c =
+      changed-checked frame frame′ l f (checked (sym c ∙ one .check .first frame)) (x .check frame′ .answer) (checked (one .check .first frame′))
 
   -- a final frame's "other payload is arbitrary": with right check bits it answers 0
   pub final-free-payload : (m : List ℕ) → length m ≡ 4197 → Bits m → x .check (octetsOf 529 (frameBits finalSync m)) .answer ≡ 0

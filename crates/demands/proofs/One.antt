@@ -1,13 +1,13 @@
 -- Demand 1 holds of every library that keeps our contracts. Assumes nothing.
 use mathlib.Core.Path.{_≡_, refl, sym, ap, _∙_, subst}
-use mathlib.Core.Bool.{Bool, true, false, cond, not, _&&_, false≢true}
+use mathlib.Core.Bool.{Bool, true, false, cond, not, _&&_}
 use mathlib.Core.List.{List, [], _∷_}
-use Prim.Native.Nat.{ℕ, zero, suc, _≤_, zero-le}
-use borrow.Author.Tests.{leb-true}
-use lib.Dec.{leb, eqb, ltb}
+use Prim.Native.Nat.{ℕ, zero, suc, _≤_}
+use lib.Dec.{eqb, ltb}
 use lib.IntN.{pos}
 use Rattle.answer.specs.Answer.{Refusal, answer, held, inOrder}
 use Rattle.answer.proofs.Laws.{kept}
+use Rattle.answer.proofs.Order.{answer-within}
 use Rattle.octets.specs.Bits.{valueOf}
 use Rattle.layout.specs.Places.{aField, bField}
 use Rattle.layout.specs.Frame.{trainingSync, fieldOf}
@@ -40,33 +40,13 @@ use Rattle.demands.specs.Library.{Outcome, None, none, Library}
 use Rattle.demands.specs.Contracts.{Keeps}
 use Rattle.demands.specs.One.{Answers, One, readChecks, runChecks, frameChecks}
 
--- checks in the order of the table answer with a number of the table
-ordered : (low n : ℕ) (t : Bool) (ts : List Refusal) → inOrder low (record { number = n; applies = t } ∷ ts) ≡ true → (leb n 8 ≡ true) × (inOrder n ts ≡ true)
-unfolding inOrder
-ordered low n t ts e = pick (leb low n) (leb n 8) (inOrder n ts) e
-  where
-    pick : (a b c : Bool) → (a && (b && c)) ≡ true → (b ≡ true) × (c ≡ true)
-    pick true true c e = (refl, e)
-    pick true false c e = absurd (false≢true e)
-    pick false b c e = absurd (false≢true e)
-
-pub table : (low : ℕ) (ts : List Refusal) → inOrder low ts ≡ true → answer ts ≤ 8
-table low [] e = zero-le
-table low (t ∷ ts) e =
-    let w = ordered low (t .number) (t .applies) ts e in
-    pick (t .applies) (leb-true _ _ (w .0)) (table (t .number) ts (w .1))
-  where
-    pick : (b : Bool) → t .number ≤ 8 → answer ts ≤ 8 → cond b (t .number) (answer ts) ≤ 8
-    pick true x y = x
-    pick false x y = y
-
 answers : {C N M : Type 0} {f : C → Outcome N M} {checks : C → List Refusal} {before : C → M} {nothing : N}
     → ((c : C) → inOrder 1 (checks c) ≡ true) → ((c : C) → f c .answer ≡ answer (checks c))
     → ((c : C) → (f c .answer ≡ 0 → ⊥) → f c .numbers ≡ nothing) → ((c : C) → (f c .answer ≡ 0 → ⊥) → f c .memory ≡ before c)
     → Answers f checks before nothing
 answers {checks = checks} o e n m =
     record {
-      in-table = λ c. subst (λ (k : ℕ). k ≤ 8) (sym (e c)) (table 1 (checks c) (o c));
+      in-table = λ c. subst (λ (k : ℕ). k ≤ 8) (sym (e c)) (answer-within 1 (checks c) (o c));
       in-order = o;
       first = e;
       no-numbers = n;
@@ -145,7 +125,7 @@ module _ (x : Library) (k : Keeps x) where
   one = record {
     write = answers (λ c. frame-write-order (c .kind) (c .count) (c .coefficients) (c .a) (c .b) (c .vendor) (c .frame)) (λ c. k .write c .answered)
         (λ c h. only _) (λ c h. k .write c .left ∙ kept _ _ _ h);
-    check = answers check-order (k .check) (λ c h. only _) (λ c h. only _);
+    check = answers check-order (λ f. k .check f .answered) (λ c h. only _) (λ c h. only _);
     read = answers (λ c. frame-read-order (c .frame) (c .coefficients) (c .vendor)) read-answer
         (λ c h.
         let e = k .read c .found ∙ ap fieldsOf (found-none _ _ (other (read-answer c) h)) in

@@ -12,7 +12,9 @@ use Rattle.octets.specs.Bits.{bitsOf, laid}
 use Rattle.layout.specs.Refusals.{checkRefusals}
 use Rattle.numbers.specs.Promises.{numbersOf, numberOctets}
 use Rattle.writer.specs.Promises.{frameOctets}
+use Rattle.checker.proofs.Laws.{checked}
 use Rattle.reader.specs.Promises.{foundOf, vendorOctets}
+use Rattle.host.proofs.FrameLaws.{frame-written}
 use Rattle.scrambler.specs.Ends.{tapOf}
 use Rattle.recurrence.specs.Run.{runOf, afterOf}
 use Rattle.symbol.specs.Levels.{activationLevels, dataLevels, levelAt, placeIn, activationTests, dataTests, backTests}
@@ -137,8 +139,8 @@ samples y = pick (answer (shaperTests y)) refl
 pub ours-keep : Keeps ours
 unfolding ours
 ours-keep = record {
-  write = λ c. record { answered = refl; left = refl };
-  check = λ f. refl;
+  write = λ c. frame-written refl refl;
+  check = λ f. checked refl;
   read = λ c. record { found = refl; coefficients-left = refl; vendor-left = refl };
   run = λ way c. record {
     ran = record { answer = ours .run way c .answer; next = record { end = c .end; state = ours .run way c .memory .state } };

@@ -1,11 +1,10 @@
 -- The first sentence of demand 2 holds of every library that keeps our contracts. Assumes nothing.
-use mathlib.Core.Path.{_≡_, refl, sym, ap, _∙_, subst}
+use mathlib.Core.Path.{_≡_, refl, ap, _∙_, subst}
 use mathlib.Core.Bool.{Bool, true, cond}
-use mathlib.Core.Logic.{_⊎_, inl, inr}
 use mathlib.Core.List.{List, [], _∷_}
-use Prim.Native.Nat.{ℕ, _≤_}
+use Prim.Native.Nat.{ℕ}
 use borrow.Author.Tests.{le-ltb}
-use lib.Dec.{eqb, ltb, lit≤}
+use lib.Dec.{eqb, ltb}
 use lib.IntN.{ℤ}
 use lib.ListN.{drop}
 use Rattle.answer.specs.Answer.{answer}
@@ -13,13 +12,8 @@ use Rattle.answer.proofs.Laws.{given as held-given, passed}
 use Rattle.octets.specs.Bits.{valueOf, bitsOf, octetsOf, part, laid}
 use Rattle.octets.proofs.Digits.{Bits, take-bits, drop-bits}
 use Rattle.octets.proofs.Laws.{bits-bits}
-use Rattle.remainder.specs.Division.{Remainder, generator, polynomial}
-use Rattle.remainder.proofs.Division.{exists}
-use Rattle.remainder.proofs.Errors.{generator-degree}
-use Rattle.layout.specs.Places.{aField, bField, checkField}
-use Rattle.layout.specs.Frame.{trainingBits, finalBits, fieldOf, messageOf, coefficientsOf}
-use Rattle.layout.specs.Refusals.{bitRefusals}
-use Rattle.layout.proofs.RoundTrip.{training-laid, training-answers, final-laid, final-answers, sound}
+use Rattle.layout.specs.Places.{aField, bField}
+use Rattle.layout.specs.Frame.{trainingBits, finalBits, fieldOf, coefficientsOf}
 use Rattle.numbers.specs.Promises.{numbersOf, numberOctets}
 use Rattle.scrambler.specs.Ends.{tapOf}
 use Rattle.recurrence.specs.Run.{Way, scramble, descramble, runOf, afterOf}
@@ -42,24 +36,17 @@ use Rattle.host.specs.declared.frames.FrameFields.{FrameFields}
 use Rattle.host.specs.Frames.{fieldsOf, coefficientOctets}
 use Rattle.reader.specs.declared.Found.{Found}
 use Rattle.reader.specs.Promises.{foundOf, vendorOctets}
-use Rattle.demands.specs.Library.{Outcome, None, none, WriteCall, ReadCall, Fields, Rooms, RunCall, FrameCall, Library}
+use Rattle.demands.specs.Library.{Outcome, none, WriteCall, ReadCall, Fields, Rooms, RunCall, FrameCall, Library}
 use Rattle.demands.specs.Contracts.{Keeps}
 use Rattle.demands.specs.One.{writeChecks, readChecks, runChecks, frameChecks}
 use Rattle.demands.specs.Two.{Right, done, given, clocked, around, Frames, Scrambling, Symbols, Precoding, Exact}
 use Rattle.demands.proofs.One.{only, found-answer}
-use Rattle.demands.proofs.Fit.{many, lengths-fit, training-fit, kind-fit}
 
 -- an outcome that is done
 pub same : {N M : Type 0} {o : Outcome N M} {n : N} {m : M} → o .answer ≡ 0 → o .numbers ≡ n → o .memory ≡ m → o ≡ done n m
 same a b c = λ i. record { answer = a i; numbers = b i; memory = c i }
 
 -- ---- frames
-
--- the bits of a frame that answers 0 end in the remainder of its message
-divided : (B : List ℕ) → Bits B → answer (bitRefusals B) ≡ 0 → Remainder 16 generator (messageOf B) (polynomial (fieldOf checkField B))
-divided B h z =
-    subst (Remainder 16 generator (messageOf B)) (sym (sound B z .checked))
-    (exists 16 generator (lit≤ tt) generator-degree (messageOf B) (take-bits 4197 (drop 14 B) (drop-bits 14 B h)))
 
 -- what reading gives, by whether the frame is a training frame
 abbrev readAs : Bool → List ℕ → List ℕ → Outcome Fields Rooms
@@ -97,23 +84,6 @@ module _ (x : Library) (k : Keeps x) where
       (k .write c .left ∙ held-given _ _ _ z
       ∙ ap (λ (n : ℕ). octetsOf 529 (cond (eqb n 0) (trainingBits (c .count) (numbersOf (c .coefficients)) (c .a) (c .b) (c .vendor)) (finalBits (c .vendor)))) e)
 
-  -- what was written answers 0 when it is checked
-  written-answers : (c : WriteCall) → Right (writeChecks c) → answer (bitRefusals (bitsOf (x .write c .memory))) ≡ 0
-  written-answers c h = pick (kind-fit c h)
-    where
-      bits : (B : List ℕ) → bitsOf (x .write c .memory) ≡ B → answer (bitRefusals B) ≡ 0 → answer (bitRefusals (bitsOf (x .write c .memory))) ≡ 0
-      bits B e z = ap (λ (b : List ℕ). answer (bitRefusals b)) e ∙ z
-
-      pick : (c .kind ≡ 0) ⊎ (c .kind ≡ 1) → answer (bitRefusals (bitsOf (x .write c .memory))) ≡ 0
-      pick (inl e) =
-          let f = training-fit c h e in
-          let l = many (c .coefficients) (f .coefficients) in
-          bits _ (ap (λ (o : Outcome None (List ℕ)). bitsOf (o .memory)) (write-training c e h) ∙ training-laid (c .count) (numbersOf (c .coefficients)) (c .a) (c .b) (c .vendor) (f .count) l (f .vendor))
-          (training-answers (c .count) (numbersOf (c .coefficients)) (c .a) (c .b) (c .vendor) (f .count) l (f .vendor) .0)
-      pick (inr e) =
-          let l = lengths-fit c h .1 in
-          bits _ (ap (λ (o : Outcome None (List ℕ)). bitsOf (o .memory)) (write-final c e h) ∙ final-laid (c .vendor) l) (final-answers (c .vendor) l .0)
-
   read-done : (c : ReadCall) → Right (readChecks c) → x .read c ≡ done
       (record { kind = foundOf 0 (bitsOf (c .frame)) .kind; a = foundOf 0 (bitsOf (c .frame)) .a; b = foundOf 0 (bitsOf (c .frame)) .b })
       (record { coefficients = coefficientOctets (bitsOf (c .frame)) (c .coefficients); vendor = vendorOctets (bitsOf (c .frame)) })
@@ -127,7 +97,7 @@ module _ (x : Library) (k : Keeps x) where
   frames = record {
     training = write-training;
     final = write-final;
-    check-bits = λ c h. divided (bitsOf (x .write c .memory)) (bits-bits (x .write c .memory)) (written-answers c h);
+    check-bits = λ c h. k .write c .check-right (k .write c .answered ∙ h);
     read-training = λ c h t. read-done c h ∙ ap (λ (s : Bool). readAs s (bitsOf (c .frame)) (c .coefficients)) t;
     read-final = λ c h t. read-done c h ∙ ap (λ (s : Bool). readAs s (bitsOf (c .frame)) (c .coefficients)) t;
   }

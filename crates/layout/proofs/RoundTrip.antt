@@ -120,13 +120,17 @@ module _ (count : ℕ) (cs : List ℤ) (a b : ℕ) (v : List ℕ) (n : count ≤
       training-clear M M-length M-bits
       (ap valueOf (reserved-field U a b v (replicate 67 0) U-length lv refl trainingSync training-length) ∙ zeros-value 67)
 
+  -- a field that holds a word's digits gives the word back
+  word-back : (k w : ℕ) → fieldOf k T ≡ digitsOf 21 w → w ≤ 2097151 → valueOf (fieldOf k T) ≡ w
+  word-back k w e h = ap valueOf e ∙ value-digits 21 w ∙ mod-eq-of-lt (omega arith)
+
   pub a-back : a ≤ 2097151 → valueOf (fieldOf aField T) ≡ a
   unfolding trainingBits
-  a-back h = ap valueOf (a-field U a b v (replicate 67 0) U-length lv refl trainingSync training-length) ∙ value-digits 21 a ∙ mod-eq-of-lt (omega arith)
+  a-back = word-back aField a (a-field U a b v (replicate 67 0) U-length lv refl trainingSync training-length)
 
   pub b-back : b ≤ 2097151 → valueOf (fieldOf bField T) ≡ b
   unfolding trainingBits
-  b-back h = ap valueOf (b-field U a b v (replicate 67 0) U-length lv refl trainingSync training-length) ∙ value-digits 21 b ∙ mod-eq-of-lt (omega arith)
+  b-back = word-back bField b (b-field U a b v (replicate 67 0) U-length lv refl trainingSync training-length)
 
   pub vendor-back : Octets v → octetsOf 16 (fieldOf vendorField T) ≡ v
   unfolding trainingBits

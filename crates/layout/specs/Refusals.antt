@@ -7,9 +7,9 @@ use lib.IntN.{ℤ}
 use lib.ListN.{take}
 use Rattle.answer.specs.Answer.{Refusal, refuse, wrongLength}
 use Rattle.octets.specs.Bits.{valueOf, bitsOf}
-use Rattle.remainder.specs.Division.{polynomial}
+use Rattle.remainder.specs.Division.{polynomial, Remainder, generator}
 use Rattle.ranges.specs.Ranges.{coefficientCount, isCoefficient, isWord, every}
-use Rattle.layout.specs.Places.{vendorLength, frameLength, syncField, reservedField, checkField, padField}
+use Rattle.layout.specs.Places.{checkWidth, vendorLength, frameLength, syncField, reservedField, checkField, padField}
 use Rattle.layout.specs.Frame.{trainingSync, finalSync, fieldOf, messageOf, checkOf}
 
 -- at least 128 coefficients are in use
@@ -28,6 +28,10 @@ writeRefusals kind count cs a b vendor frame =
 -- whether a frame's bits begin with a sync word
 abbrev pub hasSync : List ℕ → List ℕ → Bool
 hasSync word bits = eqb (valueOf (fieldOf syncField bits)) (valueOf word)
+
+-- the check bits are those of the message: what is left of its division
+abbrev pub RightCheck : List ℕ → Type 0
+RightCheck bits = Remainder checkWidth generator (messageOf bits) (polynomial (fieldOf checkField bits))
 
 -- what is wrong with a frame's bits: sync, pad, check bits, and of a training frame the reserved bits
 abbrev pub bitRefusals : List ℕ → List Refusal
