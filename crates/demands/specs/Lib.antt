@@ -3,5 +3,5 @@ pub mod Contracts
 pub mod One
 pub mod Two
 pub mod Three
-pub mod Wrong
+-- pub mod Wrong
 pub mod Follow
