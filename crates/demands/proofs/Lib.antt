@@ -4,6 +4,6 @@ pub mod Two
 pub mod Interwork
 pub mod Three
 pub mod Ours
--- pub mod Refuted
--- pub mod Rejected
+pub mod Refuted
+pub mod Rejected
 pub mod Follow
