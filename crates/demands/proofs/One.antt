@@ -13,7 +13,7 @@ use Rattle.layout.specs.Places.{aField, bField}
 use Rattle.layout.specs.Frame.{trainingSync, fieldOf}
 use Rattle.layout.specs.Refusals.{hasSync}
 use Rattle.layout.proofs.Order.{check-order}
-use Rattle.recurrence.specs.Run.{Way}
+use Rattle.recurrence.specs.Run.{Way, scramble}
 use Rattle.scrambler.proofs.One.{run-order as scrambler-order, frame-order}
 use Rattle.symbol.specs.declared.Encoder.{Encoder}
 use Rattle.symbol.proofs.Order.{activation-order, data-order, back-order, step-order, run-order}
@@ -38,7 +38,7 @@ use Rattle.host.specs.Symbols.{encoder}
 use Rattle.host.proofs.One.{frame-write-order, frame-read-order}
 use Rattle.demands.specs.Library.{Outcome, None, none, Library}
 use Rattle.demands.specs.Contracts.{Keeps}
-use Rattle.demands.specs.One.{Answers, One, readChecks, runChecks, frameChecks}
+use Rattle.demands.specs.One.{Answers, Ordered, One, readChecks, runChecks, frameChecks}
 
 answers : {C N M : Type 0} {f : C → Outcome N M} {checks : C → List Refusal} {before : C → M} {nothing : N}
     → ((c : C) → inOrder 1 (checks c) ≡ true) → ((c : C) → f c .answer ≡ answer (checks c))
@@ -47,11 +47,30 @@ answers : {C N M : Type 0} {f : C → Outcome N M} {checks : C → List Refusal}
 answers {checks = checks} o e n m =
     record {
       in-table = λ c. subst (λ (k : ℕ). k ≤ 8) (sym (e c)) (answer-within 1 (checks c) (o c));
-      in-order = o;
       first = e;
       no-numbers = n;
       unchanged = m;
     }
+
+-- the checks run in their order
+pub ordered : Ordered
+ordered = record {
+  write = λ c. frame-write-order (c .kind) (c .count) (c .coefficients) (c .a) (c .b) (c .vendor) (c .frame);
+  check = check-order;
+  read = λ c. frame-read-order (c .frame) (c .coefficients) (c .vendor);
+  run = λ c. scrambler-order scramble (record { end = c .end; state = c .state }) (c .input) (c .bits) (c .output);
+  frame = λ c. frame-order scramble (record { end = c .end; state = c .state }) (c .frame) (c .output);
+  activation = activation-order;
+  level = data-order;
+  code = back-order;
+  encode = λ c. step-order (encoder (c .a) (c .b) (c .register)) (c .symbol);
+  encode-run = λ c. run-order (encoder (c .a) (c .b) (c .register)) (c .symbols) (c .codes);
+  precode = λ c. precoder-order (c .coefficients) (c .history) (c .symbols) (c .room);
+  shape = shaper-order;
+  start = λ c. start-in-order (c .end) (c .silence);
+  step = λ c. step-in-order (stateIn (c .state)) (c .code);
+  run-codes = λ c. state-in-order (stateIn (c .state));
+}
 
 -- a number that is not 0, named otherwise
 other : {n m : ℕ} → n ≡ m → (n ≡ 0 → ⊥) → m ≡ 0 → ⊥
@@ -75,7 +94,7 @@ found-none (suc n) bits h = refl
 
 -- a run of codes answers 0 where its state is legal
 noted-answer : (r : StartupRun) (s : State) (p e : ℕ) → noted r s p e .answer ≡ 0
-noted-answer r s p e = pick (eqb e 1) (ltb 1 e && not (eqb (r .how) 0))
+noted-answer r s p e = pick (eqb e 1) (ltb 1 e && not (eqb (r .outcome) 0))
   where
     pick : (b c : Bool) → cond b (opens r s p) (cond c (ends r s p e) (goesOn r s)) .answer ≡ 0
     pick true c = refl
@@ -96,7 +115,7 @@ module _ (x : Library) (k : Keeps x) where
 
   run-is : (way : Way) → Answers (x .run way) runChecks (λ c. record { state = c .state; output = c .output }) none
   run-is way =
-      answers (λ c. scrambler-order way (record { end = c .end; state = c .state }) (c .input) (c .bits) (c .output))
+      answers (ordered .run)
       (λ c. ap (λ (r : Scrambled). r .answer) (k .run way c .crossed) ∙ k .run way c .promise .answered) (λ c h. only _)
       (λ c h.
       let w = k .run way c in
@@ -108,7 +127,7 @@ module _ (x : Library) (k : Keeps x) where
 
   frame-is : (way : Way) → Answers (x .frame way) frameChecks (λ c. record { state = c .state; output = c .output }) none
   frame-is way =
-      answers (λ c. frame-order way (record { end = c .end; state = c .state }) (c .frame) (c .output))
+      answers (ordered .frame)
       (λ c. ap (λ (r : Scrambled). r .answer) (k .frame way c .crossed) ∙ k .frame way c .promise .answered) (λ c h. only _)
       (λ c h.
       let w = k .frame way c in
@@ -123,10 +142,10 @@ module _ (x : Library) (k : Keeps x) where
 
   pub one : One x
   one = record {
-    write = answers (λ c. frame-write-order (c .kind) (c .count) (c .coefficients) (c .a) (c .b) (c .vendor) (c .frame)) (λ c. k .write c .answered)
+    write = answers (ordered .write) (λ c. k .write c .answered)
         (λ c h. only _) (λ c h. k .write c .left ∙ kept _ _ _ h);
-    check = answers check-order (λ f. k .check f .answered) (λ c h. only _) (λ c h. only _);
-    read = answers (λ c. frame-read-order (c .frame) (c .coefficients) (c .vendor)) read-answer
+    check = answers (ordered .check) (λ f. k .check f .answered) (λ c h. only _) (λ c h. only _);
+    read = answers (ordered .read) read-answer
         (λ c h.
         let e = k .read c .found ∙ ap fieldsOf (found-none _ _ (other (read-answer c) h)) in
         λ i. record { kind = e i .kind; a = e i .a; b = e i .b })
@@ -137,33 +156,33 @@ module _ (x : Library) (k : Keeps x) where
         λ i. record { coefficients = m i; vendor = v i });
     run = run-is;
     frame = frame-is;
-    activation = answers activation-order (λ c. k .activation c .answered) (λ c h. k .activation c .level ∙ kept _ _ _ h) (λ c h. only _);
-    level = answers data-order (λ c. k .level c .answered) (λ c h. k .level c .level ∙ kept _ _ _ h) (λ c h. only _);
-    code = answers back-order (λ c. k .code c .answered) (λ c h. k .code c .code ∙ kept _ _ _ h) (λ c h. only _);
-    encode = answers (λ c. step-order (encoder (c .a) (c .b) (c .register)) (c .symbol)) (λ c. k .encode c .answered)
+    activation = answers (ordered .activation) (λ c. k .activation c .answered) (λ c h. k .activation c .level ∙ kept _ _ _ h) (λ c h. only _);
+    level = answers (ordered .level) (λ c. k .level c .answered) (λ c h. k .level c .level ∙ kept _ _ _ h) (λ c h. only _);
+    code = answers (ordered .code) (λ c. k .code c .answered) (λ c h. k .code c .code ∙ kept _ _ _ h) (λ c h. only _);
+    encode = answers (ordered .encode) (λ c. k .encode c .answered)
         (λ c h.
         let y = k .encode c .code ∙ kept _ _ _ h in
         let l = k .encode c .level ∙ kept _ _ _ h in
         λ i. record { code = y i; sixteenths = l i })
         (λ c h. ap (λ (e : Encoder). e .register) (k .encode c .next ∙ kept _ _ _ h));
-    encode-run = answers (λ c. run-order (encoder (c .a) (c .b) (c .register)) (c .symbols) (c .codes)) (λ c. k .encode-run c .answered) (λ c h. only _)
+    encode-run = answers (ordered .encode-run) (λ c. k .encode-run c .answered) (λ c h. only _)
         (λ c h.
         let n = k .encode-run c .next ∙ kept _ _ _ h in
         let w = k .encode-run c .written ∙ kept _ _ _ h in
         λ i. record { register = n i .register; codes = w i });
-    precode = answers (λ c. precoder-order (c .coefficients) (c .history) (c .symbols) (c .room)) (λ c. k .precode c .answered) (λ c h. only _)
+    precode = answers (ordered .precode) (λ c. k .precode c .answered) (λ c h. only _)
         (λ c h.
         let p = k .precode c .past ∙ kept _ _ _ h in
         let w = k .precode c .written ∙ kept _ _ _ h in
         λ i. record { history = p i; room = w i });
-    decode = answers (λ c. precoder-order (c .coefficients) (c .history) (c .symbols) (c .room)) (λ c. k .decode c .answered) (λ c h. only _)
+    decode = answers (ordered .precode) (λ c. k .decode c .answered) (λ c h. only _)
         (λ c h.
         let p = k .decode c .past ∙ kept _ _ _ h in
         let w = k .decode c .written ∙ kept _ _ _ h in
         λ i. record { history = p i; room = w i });
-    shape = answers shaper-order (λ y. k .shape y .answered)
+    shape = answers (ordered .shape) (λ y. k .shape y .answered)
         (λ y h. exact-unique _ _ (pos 0) (subst (Exactly (x .shape y .numbers)) (kept _ _ _ h) (k .shape y .value)) exact-zero) (λ y h. only _);
-    start = answers (λ c. start-in-order (c .end) (c .silence)) (λ c. ap (λ (r : Stepped). r .answer) (k .start c))
+    start = answers (ordered .start) (λ c. ap (λ (r : Stepped). r .answer) (k .start c))
         (λ c h.
         let z = other (ap (λ (r : Stepped). r .answer) (k .start c)) h in
         let p = ap (λ (r : Stepped). r .phase) (k .start c) ∙ kept _ _ _ z in
@@ -172,7 +191,7 @@ module _ (x : Library) (k : Keeps x) where
         (λ c h.
         let z = other (ap (λ (r : Stepped). r .answer) (k .start c)) h in
         ap (λ (r : Stepped). r .state) (k .start c) ∙ ap stateOf (kept _ _ _ z));
-    step = answers (λ c. step-in-order (stateIn (c .state)) (c .code)) (λ c. ap (λ (r : Stepped). r .answer) (k .step c))
+    step = answers (ordered .step) (λ c. ap (λ (r : Stepped). r .answer) (k .step c))
         (λ c h.
         let z = other (ap (λ (r : Stepped). r .answer) (k .step c)) h in
         let p = ap (λ (r : Stepped). r .phase) (k .step c) ∙ kept _ _ _ z in
@@ -181,9 +200,9 @@ module _ (x : Library) (k : Keeps x) where
         (λ c h.
         let z = other (ap (λ (r : Stepped). r .answer) (k .step c)) h in
         ap (λ (r : Stepped). r .state) (k .step c) ∙ ap stateOf (kept _ _ _ z));
-    run-codes = answers (λ c. state-in-order (stateIn (c .state))) codes-answer
+    run-codes = answers (ordered .run-codes) codes-answer
         (λ c h.
         let e = k .run-codes c ∙ ap runFieldsOf (kept _ _ _ (other (codes-answer c) h)) in
-        λ i. record { opened = e i .opened; opened-at = e i .«opened_at»; ended = e i .ended; ended-at = e i .«ended_at» })
+        λ i. record { attempts = e i .opened; opened-at = e i .«opened_at»; outcome = e i .ended; ended-at = e i .«ended_at» })
         (λ c h. ap (λ (r : Run). r .state) (k .run-codes c ∙ ap runFieldsOf (kept _ _ _ (other (codes-answer c) h))));
   }

@@ -16,6 +16,7 @@ use Rattle.checker.proofs.Laws.{checked}
 use Rattle.reader.specs.Promises.{foundOf, vendorOctets}
 use Rattle.host.proofs.FrameLaws.{frame-written}
 use Rattle.scrambler.specs.Ends.{tapOf}
+use Rattle.scrambler.specs.Promises.{given, clocked, around}
 use Rattle.recurrence.specs.Run.{runOf, afterOf}
 use Rattle.symbol.specs.Levels.{activationLevels, dataLevels, levelAt, placeIn, activationTests, dataTests, backTests}
 use Rattle.symbol.specs.Encoder.{codeOf, codesOf, x1, sentAfter, heldIn, registerOf, withRegister}
@@ -31,7 +32,7 @@ use Rattle.host.specs.Supervising.{stateIn, stateOf, runFieldsOf}
 use Rattle.demands.specs.Library.{none, Library}
 use Rattle.demands.specs.Contracts.{Keeps}
 use Rattle.demands.specs.One.{One, writeChecks, readChecks, runChecks, frameChecks, encodeChecks, encodeRunChecks, precodeChecks}
-use Rattle.demands.specs.Two.{Two, given, clocked, around}
+use Rattle.demands.specs.Two.{Two}
 use Rattle.demands.specs.Three.{Three, supervisor}
 use Rattle.demands.proofs.One.{one}
 use Rattle.demands.proofs.Two.{exact as exact-of}
@@ -65,8 +66,8 @@ ours = record {
         answer = n;
         numbers = none;
         memory = record {
-          state = held n (c .state) (afterOf way (tapOf (c .end)) (c .state) (given c));
-          output = held n (c .output) (laid (c .output) 0 (runOf way (tapOf (c .end)) (c .state) (given c)));
+          state = held n (c .state) (afterOf way (tapOf (c .end)) (c .state) (given (c .input) (c .bits)));
+          output = held n (c .output) (laid (c .output) 0 (runOf way (tapOf (c .end)) (c .state) (given (c .input) (c .bits))));
         };
       };
   frame = λ way c.
@@ -75,8 +76,8 @@ ours = record {
         answer = n;
         numbers = none;
         memory = record {
-          state = held n (c .state) (afterOf way (tapOf (c .end)) (c .state) (clocked c));
-          output = held n (c .output) (around c (runOf way (tapOf (c .end)) (c .state) (clocked c)));
+          state = held n (c .state) (afterOf way (tapOf (c .end)) (c .state) (clocked (c .frame)));
+          output = held n (c .output) (around (c .frame) (runOf way (tapOf (c .end)) (c .state) (clocked (c .frame))));
         };
       };
   activation = λ b. record { answer = answer (activationTests b); numbers = held (answer (activationTests b)) (pos 0) (levelAt activationLevels b); memory = none };
@@ -120,7 +121,7 @@ ours = record {
   step = λ c. let r = stepOf (stateIn (c .state)) (c .code) in record { answer = r .answer; numbers = record { phase = r .phase; attempt = r .attempt }; memory = stateOf (r .state) };
   run-codes = λ c.
       let r = runFieldsOf (codesRun (stateIn (c .state)) (c .codes)) in
-      record { answer = r .answer; numbers = record { opened = r .opened; opened-at = r .«opened_at»; ended = r .ended; ended-at = r .«ended_at» }; memory = r .state };
+      record { answer = r .answer; numbers = record { attempts = r .opened; opened-at = r .«opened_at»; outcome = r .ended; ended-at = r .«ended_at» }; memory = r .state };
 }
 
 -- a state or the next, by its number

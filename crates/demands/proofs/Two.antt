@@ -16,6 +16,7 @@ use Rattle.layout.specs.Places.{aField, bField}
 use Rattle.layout.specs.Frame.{trainingBits, finalBits, fieldOf, coefficientsOf}
 use Rattle.numbers.specs.Promises.{numbersOf, numberOctets}
 use Rattle.scrambler.specs.Ends.{tapOf}
+use Rattle.scrambler.specs.Promises.{given, clocked, around}
 use Rattle.recurrence.specs.Run.{Way, scramble, descramble, runOf, afterOf}
 use Rattle.scrambler.specs.declared.Scrambler.{Scrambler}
 use Rattle.scrambler.proofs.Laws.{tap-range, run-sound, frame-sound}
@@ -39,7 +40,7 @@ use Rattle.reader.specs.Promises.{foundOf, vendorOctets}
 use Rattle.demands.specs.Library.{Outcome, none, WriteCall, ReadCall, Fields, Rooms, RunCall, FrameCall, Library}
 use Rattle.demands.specs.Contracts.{Keeps}
 use Rattle.demands.specs.One.{writeChecks, readChecks, runChecks, frameChecks}
-use Rattle.demands.specs.Two.{Right, done, given, clocked, around, Frames, Scrambling, Symbols, Precoding, Exact}
+use Rattle.demands.specs.Two.{Right, done, Frames, Scrambling, Symbols, Precoding, Exact}
 use Rattle.demands.proofs.One.{only, found-answer}
 
 -- an outcome that is done
@@ -98,6 +99,7 @@ module _ (x : Library) (k : Keeps x) where
     training = write-training;
     final = write-final;
     check-bits = λ c h. k .write c .check-right (k .write c .answered ∙ h);
+    checked = λ f h. same (k .check f .answered ∙ h) (only _) (only _);
     read-training = λ c h t. read-done c h ∙ ap (λ (s : Bool). readAs s (bitsOf (c .frame)) (c .coefficients)) t;
     read-final = λ c h t. read-done c h ∙ ap (λ (s : Bool). readAs s (bitsOf (c .frame)) (c .coefficients)) t;
   }
@@ -105,7 +107,7 @@ module _ (x : Library) (k : Keeps x) where
   -- ---- scrambling
 
   run-is : (way : Way) (c : RunCall) → Right (runChecks c) → x .run way c ≡ done none
-      (record { state = afterOf way (tapOf (c .end)) (c .state) (given c); output = laid (c .output) 0 (runOf way (tapOf (c .end)) (c .state) (given c)) })
+      (record { state = afterOf way (tapOf (c .end)) (c .state) (given (c .input) (c .bits)); output = laid (c .output) 0 (runOf way (tapOf (c .end)) (c .state) (given (c .input) (c .bits))) })
   run-is way c h =
       let w = k .run way c in
       let z : w .ran .answer ≡ 0 = w .promise .answered ∙ h in
@@ -114,7 +116,7 @@ module _ (x : Library) (k : Keeps x) where
       same (ap (λ (r : Scrambled). r .answer) (w .crossed) ∙ z) (only _) (λ i. record { state = s i; output = o i })
 
   frame-is : (way : Way) (c : FrameCall) → Right (frameChecks c) → x .frame way c ≡ done none
-      (record { state = afterOf way (tapOf (c .end)) (c .state) (clocked c); output = around c (runOf way (tapOf (c .end)) (c .state) (clocked c)) })
+      (record { state = afterOf way (tapOf (c .end)) (c .state) (clocked (c .frame)); output = around (c .frame) (runOf way (tapOf (c .end)) (c .state) (clocked (c .frame))) })
   frame-is way c h =
       let w = k .frame way c in
       let z : w .ran .answer ≡ 0 = w .promise .answered ∙ h in
@@ -128,33 +130,33 @@ module _ (x : Library) (k : Keeps x) where
         let t = tap-range (c .end) in
         let b = part-of-bits (c .input) 0 (c .bits) in
         let lt = run-sound (record { end = c .end; state = c .state }) (c .input) (c .bits) (c .output) h .1 in (
-          runOf scramble (tapOf (c .end)) (c .state) (given c),
-          run-scrambles (tapOf (c .end)) (t .0) (t .1) (c .state) (given c) b,
-          run-is scramble c h ∙ ap (λ (n : ℕ). done none (record { state = n; output = laid (c .output) 0 (runOf scramble (tapOf (c .end)) (c .state) (given c)) })) (scrambled-state (tapOf (c .end)) (c .state) (given c) lt),
+          runOf scramble (tapOf (c .end)) (c .state) (given (c .input) (c .bits)),
+          run-scrambles (tapOf (c .end)) (t .0) (t .1) (c .state) (given (c .input) (c .bits)) b,
+          run-is scramble c h ∙ ap (λ (n : ℕ). done none (record { state = n; output = laid (c .output) 0 (runOf scramble (tapOf (c .end)) (c .state) (given (c .input) (c .bits))) })) (scrambled-state (tapOf (c .end)) (c .state) (given (c .input) (c .bits)) lt),
         );
     descrambled = λ c h.
         let t = tap-range (c .end) in
         let b = part-of-bits (c .input) 0 (c .bits) in
         let lt = run-sound (record { end = c .end; state = c .state }) (c .input) (c .bits) (c .output) h .1 in (
-          runOf descramble (tapOf (c .end)) (c .state) (given c),
-          run-descrambles (tapOf (c .end)) (t .0) (t .1) (c .state) (given c) b,
-          run-is descramble c h ∙ ap (λ (n : ℕ). done none (record { state = n; output = laid (c .output) 0 (runOf descramble (tapOf (c .end)) (c .state) (given c)) })) (descrambled-state (tapOf (c .end)) (c .state) (given c) lt b),
+          runOf descramble (tapOf (c .end)) (c .state) (given (c .input) (c .bits)),
+          run-descrambles (tapOf (c .end)) (t .0) (t .1) (c .state) (given (c .input) (c .bits)) b,
+          run-is descramble c h ∙ ap (λ (n : ℕ). done none (record { state = n; output = laid (c .output) 0 (runOf descramble (tapOf (c .end)) (c .state) (given (c .input) (c .bits))) })) (descrambled-state (tapOf (c .end)) (c .state) (given (c .input) (c .bits)) lt b),
         );
     frame-scrambled = λ c h.
         let t = tap-range (c .end) in
         let b = part-of-bits (c .frame) 14 4213 in
         let lt = frame-sound (record { end = c .end; state = c .state }) (c .frame) (c .output) h .2 in (
-          runOf scramble (tapOf (c .end)) (c .state) (clocked c),
-          run-scrambles (tapOf (c .end)) (t .0) (t .1) (c .state) (clocked c) b,
-          frame-is scramble c h ∙ ap (λ (n : ℕ). done none (record { state = n; output = around c (runOf scramble (tapOf (c .end)) (c .state) (clocked c)) })) (scrambled-state (tapOf (c .end)) (c .state) (clocked c) lt),
+          runOf scramble (tapOf (c .end)) (c .state) (clocked (c .frame)),
+          run-scrambles (tapOf (c .end)) (t .0) (t .1) (c .state) (clocked (c .frame)) b,
+          frame-is scramble c h ∙ ap (λ (n : ℕ). done none (record { state = n; output = around (c .frame) (runOf scramble (tapOf (c .end)) (c .state) (clocked (c .frame))) })) (scrambled-state (tapOf (c .end)) (c .state) (clocked (c .frame)) lt),
         );
     frame-descrambled = λ c h.
         let t = tap-range (c .end) in
         let b = part-of-bits (c .frame) 14 4213 in
         let lt = frame-sound (record { end = c .end; state = c .state }) (c .frame) (c .output) h .2 in (
-          runOf descramble (tapOf (c .end)) (c .state) (clocked c),
-          run-descrambles (tapOf (c .end)) (t .0) (t .1) (c .state) (clocked c) b,
-          frame-is descramble c h ∙ ap (λ (n : ℕ). done none (record { state = n; output = around c (runOf descramble (tapOf (c .end)) (c .state) (clocked c)) })) (descrambled-state (tapOf (c .end)) (c .state) (clocked c) lt b),
+          runOf descramble (tapOf (c .end)) (c .state) (clocked (c .frame)),
+          run-descrambles (tapOf (c .end)) (t .0) (t .1) (c .state) (clocked (c .frame)) b,
+          frame-is descramble c h ∙ ap (λ (n : ℕ). done none (record { state = n; output = around (c .frame) (runOf descramble (tapOf (c .end)) (c .state) (clocked (c .frame))) })) (descrambled-state (tapOf (c .end)) (c .state) (clocked (c .frame)) lt b),
         );
   }
 

@@ -38,4 +38,4 @@ pub record Keeps (x : Library) : Type 0 where
   pub step : (c : StepCall) → StateStepped (c .state) (c .code)
       (record { answer = x .step c .answer; phase = x .step c .numbers .phase; attempt = x .step c .numbers .attempt; state = x .step c .memory })
   pub run-codes : (c : CodesCall) → CodesRun (c .state) (c .codes)
-      (record { answer = x .run-codes c .answer; opened = x .run-codes c .numbers .opened; «opened_at» = x .run-codes c .numbers .opened-at; ended = x .run-codes c .numbers .ended; «ended_at» = x .run-codes c .numbers .ended-at; state = x .run-codes c .memory })
+      (record { answer = x .run-codes c .answer; opened = x .run-codes c .numbers .attempts; «opened_at» = x .run-codes c .numbers .opened-at; ended = x .run-codes c .numbers .outcome; «ended_at» = x .run-codes c .numbers .ended-at; state = x .run-codes c .memory })

@@ -123,9 +123,9 @@ pub record CodesCall : Type 0 where
 
 -- how many attempts opened; where the last one did, what became of it and where
 pub record Attempts : Type 0 where
-  pub opened : ℕ
+  pub attempts : ℕ
   pub opened-at : ℕ
-  pub ended : ℕ
+  pub outcome : ℕ
   pub ended-at : ℕ
 
 -- the functions of sdsl.h

@@ -37,6 +37,10 @@ StepPromise way x bit r =
       next = record { end = x .end; state = held (answer (stepRefusals x bit)) (x .state) (nextOf way (tapOf (x .end)) (x .state) bit) };
     }
 
+-- the bits of a run: the first so many of the input
+abbrev pub given : List ℕ → ℕ → List ℕ
+given input bits = part 0 bits (bitsOf input)
+
 -- a run: a count over eight times the length, or unequal lengths, is 1
 abbrev pub runRefusals : Scrambler → List ℕ → ℕ → List ℕ → List Refusal
 runRefusals x input bits output =
@@ -45,8 +49,8 @@ runRefusals x input bits output =
 -- Scrambler::scramble_run and Scrambler::descramble_run: the next state, and the output, whose bits past the count stay
 pub record RunPromise (way : Way) (x : Scrambler) (input : List ℕ) (bits : ℕ) (output : List ℕ) (r : Ran) (exit : List ℕ) : Type 0 where
   pub answered : r .answer ≡ answer (runRefusals x input bits output)
-  pub next : r .next ≡ record { end = x .end; state = held (r .answer) (x .state) (afterOf way (tapOf (x .end)) (x .state) (part 0 bits (bitsOf input))) }
-  pub left : exit ≡ held (r .answer) output (laid output 0 (runOf way (tapOf (x .end)) (x .state) (part 0 bits (bitsOf input))))
+  pub next : r .next ≡ record { end = x .end; state = held (r .answer) (x .state) (afterOf way (tapOf (x .end)) (x .state) (given input bits)) }
+  pub left : exit ≡ held (r .answer) output (laid output 0 (runOf way (tapOf (x .end)) (x .state) (given input bits)))
 
 -- a whole frame: lengths, the end, the state, then the pad (6)
 abbrev pub frameRefusals : Scrambler → List ℕ → List ℕ → List Refusal
@@ -58,10 +62,13 @@ frameRefusals x frame output =
 abbrev pub clocked : List ℕ → List ℕ
 clocked frame = part (placeOf coefficientsField) (placeOf padField - placeOf coefficientsField) (bitsOf frame)
 
--- the octets that come out: the 14 sync bits straight through, the rest run, the pad zero
+-- a frame's 14 sync bits straight through, these bits for the rest, and the pad zero
+abbrev pub around : List ℕ → List ℕ → List ℕ
+around frame bits = octetsOf frameLength (fieldOf syncField (bitsOf frame) ++ (bits ++ replicate padWidth 0))
+
+-- the octets that come out
 abbrev pub frameOut : Way → Scrambler → List ℕ → List ℕ
-frameOut way x frame =
-    octetsOf frameLength (fieldOf syncField (bitsOf frame) ++ (runOf way (tapOf (x .end)) (x .state) (clocked frame) ++ replicate padWidth 0))
+frameOut way x frame = around frame (runOf way (tapOf (x .end)) (x .state) (clocked frame))
 
 -- Scrambler::scramble_frame and Scrambler::descramble_frame
 pub record FramePromise (way : Way) (x : Scrambler) (frame output : List ℕ) (r : Ran) (exit : List ℕ) : Type 0 where

@@ -12,13 +12,13 @@ use Rattle.supervisor.specs.Limits.{settlingTicks}
 use Rattle.supervisor.specs.Phases.{Ready, Settling, Valid, inAttempt}
 use Rattle.supervisor.specs.Step.{fresh}
 use Rattle.supervisor.proofs.Laws.{by-cases}
-use Rattle.startup.specs.Attempts.{at, one, count, Need, shown, InOrder, FirstLacking, Needs, ntuNeeds, ltuNeeds, needsOf, meant, all, InTime, EndsInData, OpensAt}
+use Rattle.startup.specs.Attempts.{at, one, count, Need, shown, InOrder, FirstLacking, Needs, ntuNeeds, ltuNeeds, needsOf, meant, all, InTime, StillOpen, EndsInData, OpensAt}
 use Rattle.startup.specs.Stands.{Stands, ready, waiting, trying, settling, valid, silent}
 use Rattle.startup.specs.Make.{after, answerTo, Taken}
 use Rattle.startup.proofs.History.{Reached, begun, went, reached-le, not-all}
 use Rattle.startup.proofs.Unique.{Hist, ready as readyH, await, trying as tryingH, done, failed, Holds, Sound, histOf, unique, holds}
 use Rattle.startup.proofs.Simulates.{kOf, sound, conc, reached-suffix, run-hist}
-use Rattle.startup.proofs.Fate.{place-of}
+use Rattle.startup.proofs.Fate.{place-of, is-open}
 use Rattle.startup.proofs.Three.{InAttempt, in-attempt, answered-run, ticks-are, meant-range, either-end}
 
 -- the phase and the ticks of a history
@@ -151,6 +151,25 @@ stands-once end silence h x l n ph t ph′ t′ =
     either-end (λ e. Stands (needsOf e (meant silence)) l n ph t → Stands (needsOf e (meant silence)) l n ph′ t′ → (ph ≡ ph′) × (t ≡ t′))
     (says-once (ntuNeeds (meant silence)) (sound true (meant silence) pos) l n ph t ph′ t′)
     (says-once (ltuNeeds (meant silence)) (sound false (meant silence) pos) l n ph t ph′ t′) end h
+  where
+    pos : 0 < meant silence
+    pos = omega (arith, meant-range silence x .0)
+
+-- A PHASE OF AN ATTEMPT IS SHOWN EXACTLY WHILE THE LIST HAS ONE OPEN, and then with its ticks
+module _ (b : Bool) (sil : ℕ) (pos : 0 < sil) (l : List ℕ) (n ph t : ℕ) (x : Stands (kOf b sil) l n ph t) where
+  open-then : (m : ℕ) → OpensAt (kOf b sil) l m → StillOpen (kOf b sil) l m n → (inAttempt ph ≡ true) × (t ≡ count 0 l m n)
+  open-then m o y =
+      let w = is-open (kOf b sil) (sound b sil pos) l m n o y in
+      let e = says-once (kOf b sil) (sound b sil pos) l n ph t _ _ x (says (kOf b sil) (sound b sil pos) l n (tryingH (w .0 .0) (w .0 .1) (w .0 .2) m) (w .1)) in
+      (ap inAttempt (e .0) ∙ reached-suffix (kOf b sil) l m (InAttempt b sil) (in-attempt b sil) (w .0 .3) .0 .0, e .1)
+
+pub open-says : (end silence : ℕ) → end ≤ 1 → Taken silence → (l : List ℕ) (m n ph t : ℕ)
+    → OpensAt (needsOf end (meant silence)) l m → StillOpen (needsOf end (meant silence)) l m n → Stands (needsOf end (meant silence)) l n ph t
+    → (inAttempt ph ≡ true) × (t ≡ count 0 l m n)
+open-says end silence h x l m n ph t =
+    either-end (λ e. OpensAt (needsOf e (meant silence)) l m → StillOpen (needsOf e (meant silence)) l m n → Stands (needsOf e (meant silence)) l n ph t
+    → (inAttempt ph ≡ true) × (t ≡ count 0 l m n))
+    (λ o y s. open-then true (meant silence) pos l n ph t s m o y) (λ o y s. open-then false (meant silence) pos l n ph t s m o y) end h
   where
     pos : 0 < meant silence
     pos = omega (arith, meant-range silence x .0)

@@ -295,6 +295,13 @@ started end silence h t =
     let r = meant-range silence t in
     simp (le-ltb 1 end h, le-ltb (meant silence) 2000 (r .0), le-ltb 60000 (meant silence) (r .1))
 
+-- and its answer is 0, with Ready and no ticks
+pub start-answers : (end silence : ℕ) → end ≤ 1 → Taken silence
+    → startOf end silence ≡ record { answer = 0; phase = Ready; attempt = 0; state = fresh end (meant silence) }
+start-answers end silence h t =
+    let r = meant-range silence t in
+    simp (le-ltb 1 end h, le-ltb (meant silence) 2000 (r .0), le-ltb 60000 (meant silence) (r .1))
+
 -- LTU and NTU
 pub either-end : (P : ℕ → Type 0) → P 1 → P 0 → (end : ℕ) → end ≤ 1 → P end
 either-end P n l end h =
