@@ -60,7 +60,7 @@ table low (t ∷ ts) e =
     pick true x y = x
     pick false x y = y
 
-answers : {C N M : Type 0} {f : C → Outcome N M} {checks : C → List Refusal} {before : C → M} {nothing : N}
+pub answers : {C N M : Type 0} {f : C → Outcome N M} {checks : C → List Refusal} {before : C → M} {nothing : N}
     → ((c : C) → inOrder 1 (checks c) ≡ true) → ((c : C) → f c .answer ≡ answer (checks c))
     → ((c : C) → (f c .answer ≡ 0 → ⊥) → f c .numbers ≡ nothing) → ((c : C) → (f c .answer ≡ 0 → ⊥) → f c .memory ≡ before c)
     → Answers f checks before nothing

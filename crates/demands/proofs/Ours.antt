@@ -42,11 +42,11 @@ pub demands : (x : Library) → Keeps x → One x × Two x × Three (supervisor 
 demands x k = (one x k, record { exact = exact-of x k; back = interwork x x (exact-of x k) (exact-of x k) }, three x k)
 
 -- the float that is y/131,072, and 0 with a refusal
-sample : ℤ → Float
+pub sample : ℤ → Float
 sample y = held (answer (shaperTests y)) (ofBits binary32 0) (div binary32 (ofInt binary32 y) (ofBits binary32 1207959552))
 
 -- what our functions compute, by the definitions that their contracts cite
-pub ours : Library
+unfoldable pub ours : Library
 ours = record {
   write = λ c. record { answer = answer (writeChecks c); numbers = none; memory = held (answer (writeChecks c)) (c .frame) (frameOctets (c .kind) (c .count) (numbersOf (c .coefficients)) (c .a) (c .b) (c .vendor)) };
   check = λ f. record { answer = answer (checkRefusals f); numbers = none; memory = none };
