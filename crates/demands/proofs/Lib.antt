@@ -9,3 +9,4 @@ pub mod Rejected
 pub mod Follow
 pub mod Rebuilt
 pub mod WrongSteps
+pub mod WrongFunctions

@@ -108,8 +108,14 @@ usual-answer = record {
 
 abbrev pub withStep : (StepCall → Outcome Shown Supervisor) → Parts
 withStep f = record {
-  write = usual .write; read = usual .read; run = usual .run; frame = usual .frame; encode-run = usual .encode-run;
-  precode = usual .precode; decode = usual .decode; step = f;
+  write = usual .write;
+  read = usual .read;
+  run = usual .run;
+  frame = usual .frame;
+  encode-run = usual .encode-run;
+  precode = usual .precode;
+  decode = usual .decode;
+  step = f;
 }
 
 -- a step by other rules: f moves a state that is not refused, and t is the number of ticks that is shown
@@ -122,8 +128,13 @@ stepping f t c =
 
 pub stepping-one : (f : State → ℕ → State) (t : State → ℕ) → One (rebuilt (withStep (stepping f t)))
 stepping-one f t = rebuilt-one (withStep (stepping f t)) (record {
-  write = usual-answer .write; read = usual-answer .read; run = usual-answer .run; frame = usual-answer .frame;
-  encode-run = usual-answer .encode-run; precode = usual-answer .precode; decode = usual-answer .decode;
+  write = usual-answer .write;
+  read = usual-answer .read;
+  run = usual-answer .run;
+  frame = usual-answer .frame;
+  encode-run = usual-answer .encode-run;
+  precode = usual-answer .precode;
+  decode = usual-answer .decode;
   step = answers (ordered .step) (λ c. refl)
       (λ c h. λ i. record {
         phase = kept (answer (stepChecks c)) 0 (f (stateIn (c .state)) (c .code) .phase) h i;

@@ -107,16 +107,21 @@ module _ {S : Type 0} (make : Make S) (demand : Three make) where
   same-ticks-refuted w =
       let l = told-and-heard (0 ∷ []) in
       let a = then 0 (lit≤ tt) after-tick in
-      omega (arith,
-      sym (w .1 0 0 (lit≤ tt) (inl refl) l 1 (lit≤ tt) (ap inAttempt (shows (0 ∷ []) .1))) ∙ first-ticks (0 ∷ []),
-      sym (w .1 0 0 (lit≤ tt) (inl refl) l 2 (lit≤ tt) (a .0)) ∙ a .1)
+      omega (
+        arith,
+        sym (w .1 0 0 (lit≤ tt) (inl refl) l 1 (lit≤ tt) (ap inAttempt (shows (0 ∷ []) .1))) ∙ first-ticks (0 ∷ []),
+        sym (w .1 0 0 (lit≤ tt) (inl refl) l 2 (lit≤ tt) (a .0)) ∙ a .1,
+      )
 
   counts-codes-refuted : CountsCodes make → ⊥
   counts-codes-refuted w =
       let l = told-and-heard (4 ∷ []) in
       let a = then 4 (lit≤ tt) after-4 in
-      omega (arith, first-ticks (4 ∷ []),
-      sym (w 0 0 (lit≤ tt) (inl refl) l 1 (lit≤ tt) (lit≤ tt) (ap inAttempt (shows (4 ∷ []) .1)) (a .0)) ∙ a .1)
+      omega (
+        arith,
+        first-ticks (4 ∷ []),
+        sym (w 0 0 (lit≤ tt) (inl refl) l 1 (lit≤ tt) (lit≤ tt) (ap inAttempt (shows (4 ∷ []) .1)) (a .0)) ∙ a .1,
+      )
 
   gives-up-refuted : GivesUp make → ⊥
   gives-up-refuted (end, silence, h, t, l, m, p, o, x, c, e) =

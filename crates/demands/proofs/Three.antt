@@ -150,8 +150,11 @@ module _ {S T : Type 0} (m : Make S) (n : Make T) (g : T → S) (back : S → T)
 -- ---- the demand
 
 pub three : (x : Library) → Keeps x → Three (supervisor x)
-three x k end silence h t = (begins, λ l. follows-alike ours (supervisor x) stateIn stateOf (λ s. refl) (λ s. refl) alike runs start l _ _
-    (subst (λ (s : State). Follows ours s (needsOf end (meant silence)) (opening end) l) (sym started-so) (start-follows end silence h t l)))
+three x k end silence h t = (
+  begins,
+  λ l. follows-alike ours (supervisor x) stateIn stateOf (λ s. refl) (λ s. refl) alike runs start l _ _
+      (subst (λ (s : State). Follows ours s (needsOf end (meant silence)) (opening end) l) (sym started-so) (start-follows end silence h t l)),
+)
   where
     start : Supervisor
     start = supervisor x .start end silence .state

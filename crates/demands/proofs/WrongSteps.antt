@@ -160,9 +160,12 @@ abbrev seven : State → ℕ
 seven s = cond (inAttempt (s .phase)) 7 0
 
 same-ticks : SameTicks (makeOf moved seven)
-same-ticks = (7, λ end silence h t l p c.
-    let s = stepsBy (makeOf moved seven) (makeOf moved seven .start end silence .state) (take p l) in
-    pick (refusal moved seven s (at l p)) (moved (stateIn s) (at l p)))
+same-ticks = (
+  7,
+  λ end silence h t l p c.
+      let s = stepsBy (makeOf moved seven) (makeOf moved seven .start end silence .state) (take p l) in
+      pick (refusal moved seven s (at l p)) (moved (stateIn s) (at l p)),
+)
   where
     pick : (n : ℕ) (x : State) → inAttempt (held n 0 (x .phase)) ≡ true → held n 0 (seven x) ≡ 7
     pick (suc n) x e = absurd (false≢true e)
@@ -199,7 +202,7 @@ counts-codes end silence h t l p c c′ a a′ =
     -- from such a state the next such answer has one more
     next : (n : ℕ) (s x : State) → inAttempt (s .phase) ≡ true
         → let y = cond (inAttempt (s .phase) && inAttempt (x .phase))
-            (cond (leb attemptTicks (s .attempt + 1)) (entered s Exception 0) (changed x (x .phase) (x .ticks) (s .attempt + 1) (x .converged) (x .seen))) x in
+        (cond (leb attemptTicks (s .attempt + 1)) (entered s Exception 0) (changed x (x .phase) (x .ticks) (s .attempt + 1) (x .converged) (x .seen))) x in
         inAttempt (held n 0 (y .phase)) ≡ true → held n 0 (shownTicks y) ≡ suc (s .attempt)
     next (suc n) s x i = λ e. absurd (false≢true e)
     next zero s x i = rw i
