@@ -10,3 +10,4 @@ pub mod Follow
 pub mod Rebuilt
 pub mod WrongSteps
 pub mod WrongFunctions
+pub mod Widened

@@ -138,28 +138,28 @@ samples y = pick (answer (shaperTests y)) refl
 pub ours-keep : Keeps ours
 unfolding ours
 ours-keep = record {
-  write = λ c. record { answered = refl; left = refl };
-  check = λ f. refl;
-  read = λ c. record { found = refl; coefficients-left = refl; vendor-left = refl };
-  run = λ way c. record {
+  write = λ c h. record { answered = refl; left = refl };
+  check = λ f h. refl;
+  read = λ c h. record { found = refl; coefficients-left = refl; vendor-left = refl };
+  run = λ way c h. record {
     ran = record { answer = ours .run way c .answer; next = record { end = c .end; state = ours .run way c .memory .state } };
     crossed = refl;
     promise = record { answered = refl; next = refl; left = refl };
   };
-  frame = λ way c. record {
+  frame = λ way c h. record {
     ran = record { answer = ours .frame way c .answer; next = record { end = c .end; state = ours .frame way c .memory .state } };
     crossed = refl;
     promise = record { answered = refl; next = refl; left = refl };
   };
-  activation = λ b. record { answered = refl; level = refl };
-  level = λ b. record { answered = refl; level = refl };
-  code = λ l. record { answered = refl; code = refl };
-  encode = λ c. record { answered = refl; code = refl; level = refl; next = either-register (answer (encodeChecks c)) _ _ _ _ };
-  encode-run = λ c. record { answered = refl; written = refl; next = either-register (answer (encodeRunChecks c)) _ _ _ _ };
-  precode = λ c. record { answered = refl; written = refl; past = refl };
-  decode = λ c. record { answered = refl; written = refl; past = refl };
-  shape = λ y. record { answered = refl; value = samples y };
-  start = λ c. refl;
-  step = λ c. refl;
-  run-codes = λ c. refl;
+  activation = λ b h. record { answered = refl; level = refl };
+  level = λ b h. record { answered = refl; level = refl };
+  code = λ l h. record { answered = refl; code = refl };
+  encode = λ c h. record { answered = refl; code = refl; level = refl; next = either-register (answer (encodeChecks c)) _ _ _ _ };
+  encode-run = λ c h. record { answered = refl; written = refl; next = either-register (answer (encodeRunChecks c)) _ _ _ _ };
+  precode = λ c h. record { answered = refl; written = refl; past = refl };
+  decode = λ c h. record { answered = refl; written = refl; past = refl };
+  shape = λ y h. record { answered = refl; value = samples y };
+  start = λ c h. refl;
+  step = λ c h. refl;
+  run-codes = λ c h. refl;
 }
