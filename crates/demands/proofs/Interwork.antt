@@ -83,13 +83,13 @@ module _ (x y : Library) (ex : Frames x) (ey : Frames y) (c : WriteCall) (room v
 -- ---- scrambling
 
 -- bits laid over octets from the start stand there
-laid-there : (s bs : List ℕ) (n : ℕ) → Bits bs → length bs ≡ n → n ≤ 8 * length s → part 0 n (bitsOf (laid s 0 bs)) ≡ bs
+pub laid-there : (s bs : List ℕ) (n : ℕ) → Bits bs → length bs ≡ n → n ≤ 8 * length s → part 0 n (bitsOf (laid s 0 bs)) ≡ bs
 laid-there s bs n h l m =
     ap (part 0 n) (laid-bits s 0 bs h ∙ sets-eq bs (bitsOf s) 0 (omega (arith, bits-length s)))
     ∙ take-at bs (drop (0 + length bs) (bitsOf s)) n l
 
 -- the checks of a run that passed, for another input and output of the same length
-run-right : (c : RunCall) (input output : List ℕ) → Right (runChecks c) → length input ≡ length (c .output) → length output ≡ length (c .output)
+pub run-right : (c : RunCall) (input output : List ℕ) → Right (runChecks c) → length input ≡ length (c .output) → length output ≡ length (c .output)
     → (length (c .input) ≡ length (c .output)) × (c .bits ≤ 8 * length (c .output)) × Right (runChecks (record { end = c .end; state = c .state; input = input; bits = c .bits; output = output }))
 run-right c input output h l m =
     let R = runChecks c in

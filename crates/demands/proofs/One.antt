@@ -40,7 +40,7 @@ use Rattle.demands.specs.Library.{Outcome, None, none, Library}
 use Rattle.demands.specs.Contracts.{Keeps}
 use Rattle.demands.specs.One.{Answers, Ordered, One, readChecks, runChecks, frameChecks}
 
-answers : {C N M : Type 0} {f : C → Outcome N M} {checks : C → List Refusal} {before : C → M} {nothing : N}
+pub answers : {C N M : Type 0} {f : C → Outcome N M} {checks : C → List Refusal} {before : C → M} {nothing : N}
     → ((c : C) → inOrder 1 (checks c) ≡ true) → ((c : C) → f c .answer ≡ answer (checks c))
     → ((c : C) → (f c .answer ≡ 0 → ⊥) → f c .numbers ≡ nothing) → ((c : C) → (f c .answer ≡ 0 → ⊥) → f c .memory ≡ before c)
     → Answers f checks before nothing
@@ -111,14 +111,14 @@ held-run (suc n) s l = refl
 
 module _ (x : Library) (k : Keeps x) where
   read-answer : (c : _) → x .read c .answer ≡ answer (readChecks c)
-  read-answer c = ap (λ (f : FrameFields). f .answer) (k .read c .found) ∙ found-answer (answer (readChecks c)) _
+  read-answer c = ap (λ (f : FrameFields). f .answer) (k .read c refl .found) ∙ found-answer (answer (readChecks c)) _
 
   run-is : (way : Way) → Answers (x .run way) runChecks (λ c. record { state = c .state; output = c .output }) none
   run-is way =
       answers (ordered .run)
-      (λ c. ap (λ (r : Scrambled). r .answer) (k .run way c .crossed) ∙ k .run way c .promise .answered) (λ c h. only _)
+      (λ c. ap (λ (r : Scrambled). r .answer) (k .run way c refl .crossed) ∙ k .run way c refl .promise .answered) (λ c h. only _)
       (λ c h.
-      let w = k .run way c in
+      let w = k .run way c refl in
       let e : x .run way c .answer ≡ w .ran .answer = ap (λ (r : Scrambled). r .answer) (w .crossed) in
       let s : x .run way c .memory .state ≡ c .state =
       ap (λ (r : Scrambled). r .state) (w .crossed) ∙ ap (λ (y : _). y .state) (w .promise .next) ∙ kept (w .ran .answer) _ _ (other e h) in
@@ -128,9 +128,9 @@ module _ (x : Library) (k : Keeps x) where
   frame-is : (way : Way) → Answers (x .frame way) frameChecks (λ c. record { state = c .state; output = c .output }) none
   frame-is way =
       answers (ordered .frame)
-      (λ c. ap (λ (r : Scrambled). r .answer) (k .frame way c .crossed) ∙ k .frame way c .promise .answered) (λ c h. only _)
+      (λ c. ap (λ (r : Scrambled). r .answer) (k .frame way c refl .crossed) ∙ k .frame way c refl .promise .answered) (λ c h. only _)
       (λ c h.
-      let w = k .frame way c in
+      let w = k .frame way c refl in
       let e : x .frame way c .answer ≡ w .ran .answer = ap (λ (r : Scrambled). r .answer) (w .crossed) in
       let s : x .frame way c .memory .state ≡ c .state =
       ap (λ (r : Scrambled). r .state) (w .crossed) ∙ ap (λ (y : _). y .state) (w .promise .next) ∙ kept (w .ran .answer) _ _ (other e h) in
@@ -138,71 +138,71 @@ module _ (x : Library) (k : Keeps x) where
       λ i. record { state = s i; output = o i })
 
   codes-answer : (c : _) → x .run-codes c .answer ≡ answer (stateRefusals (stateIn (c .state)))
-  codes-answer c = ap (λ (r : Run). r .answer) (k .run-codes c) ∙ held-run (answer (stateRefusals (stateIn (c .state)))) (stateIn (c .state)) (c .codes)
+  codes-answer c = ap (λ (r : Run). r .answer) (k .run-codes c refl) ∙ held-run (answer (stateRefusals (stateIn (c .state)))) (stateIn (c .state)) (c .codes)
 
   pub one : One x
   one = record {
-    write = answers (ordered .write) (λ c. k .write c .answered)
-        (λ c h. only _) (λ c h. k .write c .left ∙ kept _ _ _ h);
-    check = answers (ordered .check) (λ f. k .check f .answered) (λ c h. only _) (λ c h. only _);
+    write = answers (ordered .write) (λ c. k .write c refl .answered)
+        (λ c h. only _) (λ c h. k .write c refl .left ∙ kept _ _ _ h);
+    check = answers (ordered .check) (λ c. k .check c refl .answered) (λ c h. only _) (λ c h. only _);
     read = answers (ordered .read) read-answer
         (λ c h.
-        let e = k .read c .found ∙ ap fieldsOf (found-none _ _ (other (read-answer c) h)) in
+        let e = k .read c refl .found ∙ ap fieldsOf (found-none _ _ (other (read-answer c) h)) in
         λ i. record { kind = e i .kind; a = e i .a; b = e i .b })
         (λ c h.
         let z = other (read-answer c) h in
-        let m = k .read c .coefficients-left ∙ kept (answer (readChecks c)) _ _ z in
-        let v = k .read c .vendor-left ∙ kept (answer (readChecks c)) _ _ z in
+        let m = k .read c refl .coefficients-left ∙ kept (answer (readChecks c)) _ _ z in
+        let v = k .read c refl .vendor-left ∙ kept (answer (readChecks c)) _ _ z in
         λ i. record { coefficients = m i; vendor = v i });
     run = run-is;
     frame = frame-is;
-    activation = answers (ordered .activation) (λ c. k .activation c .answered) (λ c h. k .activation c .level ∙ kept _ _ _ h) (λ c h. only _);
-    level = answers (ordered .level) (λ c. k .level c .answered) (λ c h. k .level c .level ∙ kept _ _ _ h) (λ c h. only _);
-    code = answers (ordered .code) (λ c. k .code c .answered) (λ c h. k .code c .code ∙ kept _ _ _ h) (λ c h. only _);
-    encode = answers (ordered .encode) (λ c. k .encode c .answered)
+    activation = answers (ordered .activation) (λ c. k .activation c refl .answered) (λ c h. k .activation c refl .level ∙ kept _ _ _ h) (λ c h. only _);
+    level = answers (ordered .level) (λ c. k .level c refl .answered) (λ c h. k .level c refl .level ∙ kept _ _ _ h) (λ c h. only _);
+    code = answers (ordered .code) (λ c. k .code c refl .answered) (λ c h. k .code c refl .code ∙ kept _ _ _ h) (λ c h. only _);
+    encode = answers (ordered .encode) (λ c. k .encode c refl .answered)
         (λ c h.
-        let y = k .encode c .code ∙ kept _ _ _ h in
-        let l = k .encode c .level ∙ kept _ _ _ h in
+        let y = k .encode c refl .code ∙ kept _ _ _ h in
+        let l = k .encode c refl .level ∙ kept _ _ _ h in
         λ i. record { code = y i; sixteenths = l i })
-        (λ c h. ap (λ (e : Encoder). e .register) (k .encode c .next ∙ kept _ _ _ h));
-    encode-run = answers (ordered .encode-run) (λ c. k .encode-run c .answered) (λ c h. only _)
+        (λ c h. ap (λ (e : Encoder). e .register) (k .encode c refl .next ∙ kept _ _ _ h));
+    encode-run = answers (ordered .encode-run) (λ c. k .encode-run c refl .answered) (λ c h. only _)
         (λ c h.
-        let n = k .encode-run c .next ∙ kept _ _ _ h in
-        let w = k .encode-run c .written ∙ kept _ _ _ h in
+        let n = k .encode-run c refl .next ∙ kept _ _ _ h in
+        let w = k .encode-run c refl .written ∙ kept _ _ _ h in
         λ i. record { register = n i .register; codes = w i });
-    precode = answers (ordered .precode) (λ c. k .precode c .answered) (λ c h. only _)
+    precode = answers (ordered .precode) (λ c. k .precode c refl .answered) (λ c h. only _)
         (λ c h.
-        let p = k .precode c .past ∙ kept _ _ _ h in
-        let w = k .precode c .written ∙ kept _ _ _ h in
+        let p = k .precode c refl .past ∙ kept _ _ _ h in
+        let w = k .precode c refl .written ∙ kept _ _ _ h in
         λ i. record { history = p i; room = w i });
-    decode = answers (ordered .precode) (λ c. k .decode c .answered) (λ c h. only _)
+    decode = answers (ordered .precode) (λ c. k .decode c refl .answered) (λ c h. only _)
         (λ c h.
-        let p = k .decode c .past ∙ kept _ _ _ h in
-        let w = k .decode c .written ∙ kept _ _ _ h in
+        let p = k .decode c refl .past ∙ kept _ _ _ h in
+        let w = k .decode c refl .written ∙ kept _ _ _ h in
         λ i. record { history = p i; room = w i });
-    shape = answers (ordered .shape) (λ y. k .shape y .answered)
-        (λ y h. exact-unique _ _ (pos 0) (subst (Exactly (x .shape y .numbers)) (kept _ _ _ h) (k .shape y .value)) exact-zero) (λ y h. only _);
-    start = answers (ordered .start) (λ c. ap (λ (r : Stepped). r .answer) (k .start c))
+    shape = answers (ordered .shape) (λ y. k .shape y refl .answered)
+        (λ y h. exact-unique _ _ (pos 0) (subst (Exactly (x .shape y .numbers)) (kept _ _ _ h) (k .shape y refl .value)) exact-zero) (λ y h. only _);
+    start = answers (ordered .start) (λ c. ap (λ (r : Stepped). r .answer) (k .start c refl))
         (λ c h.
-        let z = other (ap (λ (r : Stepped). r .answer) (k .start c)) h in
-        let p = ap (λ (r : Stepped). r .phase) (k .start c) ∙ kept _ _ _ z in
-        let a = ap (λ (r : Stepped). r .attempt) (k .start c) ∙ kept _ _ _ z in
+        let z = other (ap (λ (r : Stepped). r .answer) (k .start c refl)) h in
+        let p = ap (λ (r : Stepped). r .phase) (k .start c refl) ∙ kept _ _ _ z in
+        let a = ap (λ (r : Stepped). r .attempt) (k .start c refl) ∙ kept _ _ _ z in
         λ i. record { phase = p i; attempt = a i })
         (λ c h.
-        let z = other (ap (λ (r : Stepped). r .answer) (k .start c)) h in
-        ap (λ (r : Stepped). r .state) (k .start c) ∙ ap stateOf (kept _ _ _ z));
-    step = answers (ordered .step) (λ c. ap (λ (r : Stepped). r .answer) (k .step c))
+        let z = other (ap (λ (r : Stepped). r .answer) (k .start c refl)) h in
+        ap (λ (r : Stepped). r .state) (k .start c refl) ∙ ap stateOf (kept _ _ _ z));
+    step = answers (ordered .step) (λ c. ap (λ (r : Stepped). r .answer) (k .step c refl))
         (λ c h.
-        let z = other (ap (λ (r : Stepped). r .answer) (k .step c)) h in
-        let p = ap (λ (r : Stepped). r .phase) (k .step c) ∙ kept _ _ _ z in
-        let a = ap (λ (r : Stepped). r .attempt) (k .step c) ∙ kept _ _ _ z in
+        let z = other (ap (λ (r : Stepped). r .answer) (k .step c refl)) h in
+        let p = ap (λ (r : Stepped). r .phase) (k .step c refl) ∙ kept _ _ _ z in
+        let a = ap (λ (r : Stepped). r .attempt) (k .step c refl) ∙ kept _ _ _ z in
         λ i. record { phase = p i; attempt = a i })
         (λ c h.
-        let z = other (ap (λ (r : Stepped). r .answer) (k .step c)) h in
-        ap (λ (r : Stepped). r .state) (k .step c) ∙ ap stateOf (kept _ _ _ z));
+        let z = other (ap (λ (r : Stepped). r .answer) (k .step c refl)) h in
+        ap (λ (r : Stepped). r .state) (k .step c refl) ∙ ap stateOf (kept _ _ _ z));
     run-codes = answers (ordered .run-codes) codes-answer
         (λ c h.
-        let e = k .run-codes c ∙ ap runFieldsOf (kept _ _ _ (other (codes-answer c) h)) in
+        let e = k .run-codes c refl ∙ ap runFieldsOf (kept _ _ _ (other (codes-answer c) h)) in
         λ i. record { attempts = e i .opened; opened-at = e i .«opened_at»; outcome = e i .ended; ended-at = e i .«ended_at» })
-        (λ c h. ap (λ (r : Run). r .state) (k .run-codes c ∙ ap runFieldsOf (kept _ _ _ (other (codes-answer c) h))));
+        (λ c h. ap (λ (r : Run). r .state) (k .run-codes c refl ∙ ap runFieldsOf (kept _ _ _ (other (codes-answer c) h))));
   }

@@ -44,11 +44,11 @@ pub demands : (x : Library) → Keeps x → One x × Two x × Three (supervisor 
 demands x k = (one x k, record { exact = exact-of x k; back = interwork x x (exact-of x k) (exact-of x k) }, three x k)
 
 -- the float that is y/131,072, and 0 with a refusal
-sample : ℤ → Float
+pub sample : ℤ → Float
 sample y = held (answer (shaperTests y)) (ofBits binary32 0) (div binary32 (ofInt binary32 y) (ofBits binary32 1207959552))
 
 -- what our functions compute, by the definitions that their contracts cite
-pub ours : Library
+unfoldable pub ours : Library
 ours = record {
   write = λ c. record { answer = answer (writeChecks c); numbers = none; memory = held (answer (writeChecks c)) (c .frame) (frameOctets (c .kind) (c .count) (numbersOf (c .coefficients)) (c .a) (c .b) (c .vendor)) };
   check = λ f. record { answer = answer (checkRefusals f); numbers = none; memory = none };
@@ -140,28 +140,28 @@ samples y = pick (answer (shaperTests y)) refl
 pub ours-keep : Keeps ours
 unfolding ours
 ours-keep = record {
-  write = λ c. frame-written refl refl;
-  check = λ f. checked refl;
-  read = λ c. record { found = refl; coefficients-left = refl; vendor-left = refl };
-  run = λ way c. record {
+  write = λ c h. frame-written refl refl;
+  check = λ f h. checked refl;
+  read = λ c h. record { found = refl; coefficients-left = refl; vendor-left = refl };
+  run = λ way c h. record {
     ran = record { answer = ours .run way c .answer; next = record { end = c .end; state = ours .run way c .memory .state } };
     crossed = refl;
     promise = record { answered = refl; next = refl; left = refl };
   };
-  frame = λ way c. record {
+  frame = λ way c h. record {
     ran = record { answer = ours .frame way c .answer; next = record { end = c .end; state = ours .frame way c .memory .state } };
     crossed = refl;
     promise = record { answered = refl; next = refl; left = refl };
   };
-  activation = λ b. record { answered = refl; level = refl };
-  level = λ b. record { answered = refl; level = refl };
-  code = λ l. record { answered = refl; code = refl };
-  encode = λ c. record { answered = refl; code = refl; level = refl; next = either-register (answer (encodeChecks c)) _ _ _ _ };
-  encode-run = λ c. record { answered = refl; written = refl; next = either-register (answer (encodeRunChecks c)) _ _ _ _ };
-  precode = λ c. record { answered = refl; written = refl; past = refl };
-  decode = λ c. record { answered = refl; written = refl; past = refl };
-  shape = λ y. record { answered = refl; value = samples y };
-  start = λ c. refl;
-  step = λ c. refl;
-  run-codes = λ c. refl;
+  activation = λ b h. record { answered = refl; level = refl };
+  level = λ b h. record { answered = refl; level = refl };
+  code = λ l h. record { answered = refl; code = refl };
+  encode = λ c h. record { answered = refl; code = refl; level = refl; next = either-register (answer (encodeChecks c)) _ _ _ _ };
+  encode-run = λ c h. record { answered = refl; written = refl; next = either-register (answer (encodeRunChecks c)) _ _ _ _ };
+  precode = λ c h. record { answered = refl; written = refl; past = refl };
+  decode = λ c h. record { answered = refl; written = refl; past = refl };
+  shape = λ y h. record { answered = refl; value = samples y };
+  start = λ c h. refl;
+  step = λ c h. refl;
+  run-codes = λ c h. refl;
 }

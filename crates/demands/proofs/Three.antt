@@ -160,11 +160,11 @@ three x k end silence h t = (
     start = supervisor x .start end silence .state
 
     started-so : stateIn start ≡ startOf end silence .state
-    started-so = ap (λ (r : Stepped). stateIn (r .state)) (k .start (record { end = end; silence = silence }))
+    started-so = ap (λ (r : Stepped). stateIn (r .state)) (k .start (record { end = end; silence = silence }) refl)
 
     begins : Begins (supervisor x) end silence
     begins =
-        let e = k .start (record { end = end; silence = silence }) in
+        let e = k .start (record { end = end; silence = silence }) refl in
         let w = start-answers end silence h t in
         record {
           answer = ap (λ (r : Stepped). r .answer) e ∙ ap (λ (r : Answer). r .answer) w;
@@ -176,11 +176,11 @@ three x k end silence h t = (
     alike : (s : Supervisor) (c : ℕ) → let r = supervisor x .step s c in
         record { answer = r .answer; phase = r .phase; attempt = r .attempt; state = stateIn (r .state) } ≡ ours .step (stateIn s) c
     alike s c =
-        λ i. let e = k .step (record { state = s; code = c }) i in
+        λ i. let e = k .step (record { state = s; code = c }) refl i in
         record { answer = e .answer; phase = e .phase; attempt = e .attempt; state = stateIn (e .state) }
 
     runs : (s : Supervisor) (l : List ℕ) → supervisor x .run s l ≡ (let q = ours .run (stateIn s) l in
         record { answer = q .answer; attempts = q .attempts; openedAt = q .openedAt; outcome = q .outcome; endedAt = q .endedAt; state = stateOf (q .state) })
     runs s l =
-        λ i. let e = k .run-codes (record { state = s; codes = l }) i in
+        λ i. let e = k .run-codes (record { state = s; codes = l }) refl i in
         record { answer = e .answer; attempts = e .opened; openedAt = e .«opened_at»; outcome = e .ended; endedAt = e .«ended_at»; state = e .state }

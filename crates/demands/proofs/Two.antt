@@ -73,33 +73,33 @@ inputs-sent coefficients past (y ∷ ys) h =
 module _ (x : Library) (k : Keeps x) where
   write-training : (c : WriteCall) → c .kind ≡ 0 → Right (writeChecks c) → x .write c ≡ done none (octetsOf 529 (trainingBits (c .count) (numbersOf (c .coefficients)) (c .a) (c .b) (c .vendor)))
   write-training c e h =
-      let z : x .write c .answer ≡ 0 = k .write c .answered ∙ h in
+      let z : x .write c .answer ≡ 0 = k .write c refl .answered ∙ h in
       same z (only _)
-      (k .write c .left ∙ held-given _ _ _ z
+      (k .write c refl .left ∙ held-given _ _ _ z
       ∙ ap (λ (n : ℕ). octetsOf 529 (cond (eqb n 0) (trainingBits (c .count) (numbersOf (c .coefficients)) (c .a) (c .b) (c .vendor)) (finalBits (c .vendor)))) e)
 
   write-final : (c : WriteCall) → c .kind ≡ 1 → Right (writeChecks c) → x .write c ≡ done none (octetsOf 529 (finalBits (c .vendor)))
   write-final c e h =
-      let z : x .write c .answer ≡ 0 = k .write c .answered ∙ h in
+      let z : x .write c .answer ≡ 0 = k .write c refl .answered ∙ h in
       same z (only _)
-      (k .write c .left ∙ held-given _ _ _ z
+      (k .write c refl .left ∙ held-given _ _ _ z
       ∙ ap (λ (n : ℕ). octetsOf 529 (cond (eqb n 0) (trainingBits (c .count) (numbersOf (c .coefficients)) (c .a) (c .b) (c .vendor)) (finalBits (c .vendor)))) e)
 
   read-done : (c : ReadCall) → Right (readChecks c) → x .read c ≡ done
       (record { kind = foundOf 0 (bitsOf (c .frame)) .kind; a = foundOf 0 (bitsOf (c .frame)) .a; b = foundOf 0 (bitsOf (c .frame)) .b })
       (record { coefficients = coefficientOctets (bitsOf (c .frame)) (c .coefficients); vendor = vendorOctets (bitsOf (c .frame)) })
   read-done c h =
-      let e = k .read c .found ∙ ap (λ (n : ℕ). fieldsOf (foundOf n (bitsOf (c .frame)))) h in
-      let m = k .read c .coefficients-left ∙ held-given _ _ _ h in
-      let v = k .read c .vendor-left ∙ held-given _ _ _ h in
+      let e = k .read c refl .found ∙ ap (λ (n : ℕ). fieldsOf (foundOf n (bitsOf (c .frame)))) h in
+      let m = k .read c refl .coefficients-left ∙ held-given _ _ _ h in
+      let v = k .read c refl .vendor-left ∙ held-given _ _ _ h in
       same (ap (λ (f : FrameFields). f .answer) e ∙ found-answer 0 (bitsOf (c .frame))) (λ i. record { kind = e i .kind; a = e i .a; b = e i .b }) (λ i. record { coefficients = m i; vendor = v i })
 
   pub frames : Frames x
   frames = record {
     training = write-training;
     final = write-final;
-    check-bits = λ c h. k .write c .check-right (k .write c .answered ∙ h);
-    checked = λ f h. same (k .check f .answered ∙ h) (only _) (only _);
+    check-bits = λ c h. k .write c refl .check-right (k .write c refl .answered ∙ h);
+    checked = λ f h. same (k .check f refl .answered ∙ h) (only _) (only _);
     read-training = λ c h t. read-done c h ∙ ap (λ (s : Bool). readAs s (bitsOf (c .frame)) (c .coefficients)) t;
     read-final = λ c h t. read-done c h ∙ ap (λ (s : Bool). readAs s (bitsOf (c .frame)) (c .coefficients)) t;
   }
@@ -109,7 +109,7 @@ module _ (x : Library) (k : Keeps x) where
   run-is : (way : Way) (c : RunCall) → Right (runChecks c) → x .run way c ≡ done none
       (record { state = afterOf way (tapOf (c .end)) (c .state) (given (c .input) (c .bits)); output = laid (c .output) 0 (runOf way (tapOf (c .end)) (c .state) (given (c .input) (c .bits))) })
   run-is way c h =
-      let w = k .run way c in
+      let w = k .run way c refl in
       let z : w .ran .answer ≡ 0 = w .promise .answered ∙ h in
       let s = ap (λ (r : Scrambled). r .state) (w .crossed) ∙ ap (λ (y : Scrambler). y .state) (w .promise .next) ∙ held-given _ _ _ z in
       let o = w .promise .left ∙ held-given _ _ _ z in
@@ -118,7 +118,7 @@ module _ (x : Library) (k : Keeps x) where
   frame-is : (way : Way) (c : FrameCall) → Right (frameChecks c) → x .frame way c ≡ done none
       (record { state = afterOf way (tapOf (c .end)) (c .state) (clocked (c .frame)); output = around (c .frame) (runOf way (tapOf (c .end)) (c .state) (clocked (c .frame))) })
   frame-is way c h =
-      let w = k .frame way c in
+      let w = k .frame way c refl in
       let z : w .ran .answer ≡ 0 = w .promise .answered ∙ h in
       let s = ap (λ (r : Scrambled). r .state) (w .crossed) ∙ ap (λ (y : Scrambler). y .state) (w .promise .next) ∙ held-given _ _ _ z in
       let o = w .promise .left ∙ held-given _ _ _ z in
@@ -164,21 +164,21 @@ module _ (x : Library) (k : Keeps x) where
 
   pub symbols : Symbols x
   symbols = record {
-    activation = λ b h. let z = k .activation b .answered ∙ h in same z (k .activation b .level ∙ held-given _ _ _ z) (only _);
-    level = λ b h. let z = k .level b .answered ∙ h in same z (k .level b .level ∙ held-given _ _ _ z) (only _);
+    activation = λ b h. let z = k .activation b refl .answered ∙ h in same z (k .activation b refl .level ∙ held-given _ _ _ z) (only _);
+    level = λ b h. let z = k .level b refl .answered ∙ h in same z (k .level b refl .level ∙ held-given _ _ _ z) (only _);
     code = λ b l.
         let p = code-of-level b l in
-        let z = k .code (levelAt dataLevels b) .answered ∙ passed 4 [] (ap (ltb 15) p ∙ le-ltb 15 b l) in
-        same z (k .code (levelAt dataLevels b) .code ∙ held-given _ _ _ z ∙ p) (only _);
+        let z = k .code (levelAt dataLevels b) refl .answered ∙ passed 4 [] (ap (ltb 15) p ∙ le-ltb 15 b l) in
+        same z (k .code (levelAt dataLevels b) refl .code ∙ held-given _ _ _ z ∙ p) (only _);
     encode = λ c h.
-        let z = k .encode c .answered ∙ h in
-        let y = k .encode c .code ∙ held-given _ _ _ z in
-        let l = k .encode c .level ∙ held-given _ _ _ z in
-        same z (λ i. record { code = y i; sixteenths = l i }) (ap (λ (e : Encoder). e .register) (k .encode c .next ∙ held-given _ _ _ z));
+        let z = k .encode c refl .answered ∙ h in
+        let y = k .encode c refl .code ∙ held-given _ _ _ z in
+        let l = k .encode c refl .level ∙ held-given _ _ _ z in
+        same z (λ i. record { code = y i; sixteenths = l i }) (ap (λ (e : Encoder). e .register) (k .encode c refl .next ∙ held-given _ _ _ z));
     encode-run = λ c h.
-        let z = k .encode-run c .answered ∙ h in
-        let n = k .encode-run c .next ∙ held-given _ _ _ z in
-        let w = k .encode-run c .written ∙ held-given _ _ _ z in
+        let z = k .encode-run c refl .answered ∙ h in
+        let n = k .encode-run c refl .next ∙ held-given _ _ _ z in
+        let w = k .encode-run c refl .written ∙ held-given _ _ _ z in
         same z (only _) (λ i. record { register = n i .register; codes = w i });
   }
 
@@ -187,21 +187,21 @@ module _ (x : Library) (k : Keeps x) where
   pub precoding : Precoding x
   precoding = record {
     precoded = λ c h.
-        let z = k .precode c .answered ∙ h in
-        let m = k .precode c .past ∙ held-given _ _ _ z in
-        let w = k .precode c .written ∙ held-given _ _ _ z in (
+        let z = k .precode c refl .answered ∙ h in
+        let m = k .precode c refl .past ∙ held-given _ _ _ z in
+        let w = k .precode c refl .written ∙ held-given _ _ _ z in (
           outputsOf (numbersOf (c .coefficients)) (numbersOf (c .history)) (numbersOf (c .symbols)),
           outputs-sent (numbersOf (c .coefficients)) (numbersOf (c .history)) (numbersOf (c .symbols)),
           same z (only _) (λ i. record { history = m i; room = w i }),
         );
     decoded = λ c h.
-        let z = k .decode c .answered ∙ h in
-        let m = k .decode c .past ∙ held-given _ _ _ z in
-        let w = k .decode c .written ∙ held-given _ _ _ z in
+        let z = k .decode c refl .answered ∙ h in
+        let m = k .decode c refl .past ∙ held-given _ _ _ z in
+        let w = k .decode c refl .written ∙ held-given _ _ _ z in
         let r = ranges-are (numbersOf (c .coefficients)) (numbersOf (c .history)) (numbersOf (c .symbols)) (run-done (c .coefficients) (c .history) (c .symbols) (c .room) h .1) in
         let s = inputs-sent (numbersOf (c .coefficients)) (numbersOf (c .history)) (numbersOf (c .symbols)) (r .2) in
         (inputsOf (numbersOf (c .coefficients)) (numbersOf (c .history)) (numbersOf (c .symbols)), s .0, s .1, same z (only _) (λ i. record { history = m i; room = w i }));
-    shaped = λ y h. let z = k .shape y .answered ∙ h in (z, subst (Exactly (x .shape y .numbers)) (held-given _ _ _ z) (k .shape y .value));
+    shaped = λ y h. let z = k .shape y refl .answered ∙ h in (z, subst (Exactly (x .shape y .numbers)) (held-given _ _ _ z) (k .shape y refl .value));
   }
 
   pub exact : Exact x

@@ -1,4 +1,5 @@
 pub mod Library
+pub mod FromC
 pub mod Contracts
 pub mod One
 pub mod Two
