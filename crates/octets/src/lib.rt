@@ -2,7 +2,7 @@
 // (n-1) mod 8 in octet (n-1)/8. Every function takes every input: what lies past the end reads 0 and is not written.
 ghost use mathlib.Core.Path.{_≡_};
 ghost use mathlib.Core.List.{_++_};
-ghost use Prim.Native.Nat.{_+_, _*_, _^_, _<_, _≤_, min};
+ghost use Prim.Native.Nat.{_+_, _-_, _*_, _^_, _<_, _≤_, min};
 ghost use lib.Dec.{ltb};
 ghost use lib.ListN.{length, getD, take, drop};
 ghost use lib.Seq.{sets};
@@ -48,6 +48,13 @@ fn has_octet(s: &[u8], i: usize, k: usize) -> bool
         return false;
     }
     k < s.len() - i
+}
+
+// At how many octets eight octets begin. A loop asks this once.
+fn starts(s: &[u8]) -> usize
+    ensures { λ r. ⌜ r ≡ length (now (s .entry)) - 7 ⌝ }
+{
+    if s.len() < 7 { 0 } else { s.len() - 7 }
 }
 
 // The two octets from octet i on as one number, the first lowest.
@@ -158,7 +165,7 @@ fn put_octets(s: &mut [u8], i: usize, v: u64)
 pub fn word(s: &[u8], i: usize) -> u64
     ensures { λ r. ⌜ WordRead (now (s .entry)) i r ⌝ }
 {
-    if has_octet(s, i, 7) {
+    if i < starts(s) {
         eight(s, i)
     } else {
         by_octets(s, i)
@@ -169,7 +176,7 @@ pub fn word(s: &[u8], i: usize) -> u64
 pub fn put_word(s: &mut [u8], i: usize, v: u64)
     ensures { λ r. ⌜ WordPut (now (s .entry)) i v (now (s .exit)) ⌝ }
 {
-    if has_octet(s, i, 7) {
+    if i < starts(s) {
         put_eight(s, i, v);
     } else {
         put_octets(s, i, v);

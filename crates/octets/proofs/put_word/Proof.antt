@@ -1,7 +1,6 @@
 -- `octets::put_word` meets its contract: the eight octets are there, or they are put one by one.
 use borrow.Author.Needs.{needs}
-use borrow.Author.Tests.{ltb-true}
-use mathlib.Core.Path.{sym, _∙_}
+use mathlib.Core.Path.{_∙_}
 use Prim.Native.Nat.{_+_, _≤_}
 use native.Mathlib.Omega.{arith}
 use lib.ListN.{length}
@@ -9,14 +8,12 @@ use Rattle.octets.proofs.Words.{word-laid}
 use Rattle.octets.proofs.put_word.Statement.{statement}
 use Rattle.octets.proofs.put_word.Tie as tie
 
-has-octet-requires : tie.Need-has-octet-requires
-has-octet-requires c κs = search needs
+starts-requires : tie.Need-starts-requires
+starts-requires c κs = search needs
 
 -- where the test holds, there are eight
 there : (c : tie.Then1) → c .before .before .before .before .args .i + 8 ≤ length (c .before .before .before .before .args .s .now)
-there c =
-    let a = c .before .before .before .before .args in
-    omega (arith, ltb-true (a .i + 7) (length (a .s .now)) (sym (c .before .has-octet .ensures) ∙ c .if1 .taken))
+there c = omega (arith, c .before .starts .ensures)
 
 put-eight-requires : tie.Need-put-eight-requires
 put-eight-requires c κs = there (c .before)
@@ -44,7 +41,7 @@ pub put-word-spec : {M : Type 1} → statement M
 put-word-spec =
     tie.close
     (tie.spec
-    has-octet-requires
+    starts-requires
     put-eight-requires
     put-octets-requires
     same-length

@@ -1,23 +1,18 @@
 -- `octets::word` meets its contract: the eight octets are there, or they are read one by one.
 use borrow.Author.Needs.{needs}
-use borrow.Author.Tests.{ltb-true}
 use mathlib.Core.Path.{_≡_, sym, ap, _∙_}
-use Prim.Native.Nat.{_+_, _≤_, _<_}
 use native.Mathlib.Nat.{mod-eq-of-lt}
 use native.Mathlib.Omega.{arith}
-use lib.ListN.{length}
 use Rattle.octets.specs.Bits.{valueOf}
 use Rattle.octets.proofs.Digits.{value-digits}
 use Rattle.octets.proofs.word.Statement.{statement}
 use Rattle.octets.proofs.word.Tie as tie
 
-has-octet-requires : tie.Need-has-octet-requires
-has-octet-requires c κs = search needs
+starts-requires : tie.Need-starts-requires
+starts-requires c κs = search needs
 
 eight-requires : tie.Need-eight-requires
-eight-requires c κs =
-    let a = c .before .before .before .args in
-    omega (arith, ltb-true (a .i + 7) (length (a .s .now)) (sym (c .before .has-octet .ensures) ∙ c .if1 .taken))
+eight-requires c κs = omega (arith, c .before .starts .ensures)
 
 by-octets-requires : tie.Need-by-octets-requires
 by-octets-requires c κs = search needs
@@ -30,4 +25,4 @@ returns-2 c = search needs
 
 pub word-spec : {M : Type 1} → statement M
 word-spec =
-    tie.close (tie.spec has-octet-requires eight-requires by-octets-requires returns returns-2)
+    tie.close (tie.spec starts-requires eight-requires by-octets-requires returns returns-2)
