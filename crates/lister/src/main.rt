@@ -172,7 +172,10 @@ fn explain(octets: &[u8]) -> u8 {
 fn list(octets: &[u8]) -> u8 {
     let mut room = [0u8; 4096];
     let n = listing::list(octets, &mut room);
-    print(&room[..n], explain(octets))
+    if print(&room[..n], GOOD) != GOOD {
+        return WRONG;
+    }
+    explain(octets)
 }
 
 // Lists what an open file holds.

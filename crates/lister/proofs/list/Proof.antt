@@ -20,14 +20,17 @@ slice-aggregate-print c =
     let t = c .before .before .list in
     sym (length-take-le (t .result) (t .last .1 .0) (omega (arith, t .ensures .count, t .kept .1 .0)))
 
-explain-requires : tie.Need-explain-requires
-explain-requires c κs = search needs
-
 print-requires : tie.Need-print-requires
 print-requires c κs = search needs
 
 returns : tie.Need-returns
 returns c = search needs
+
+explain-requires : tie.Need-explain-requires
+explain-requires c κs = search needs
+
+returns-2 : tie.Need-returns-2
+returns-2 c = search needs
 
 pub list-spec : {M : Type 1} → statement M
 list-spec =
@@ -37,6 +40,7 @@ list-spec =
     list-requires
     array-share-prefix-room
     slice-aggregate-print
-    explain-requires
     print-requires
-    returns)
+    returns
+    explain-requires
+    returns-2)
