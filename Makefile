@@ -1,17 +1,22 @@
 # make                      builds the static library for a card's host software, build/libsdsl.a, and the programs, build/NAME
 # make test                 proves every crate, then runs every test; the last line is 'N passed, 0 failed'
+# make first                builds README's example in C, build/first (examples/first.c)
 # make pair                 builds the example host, build/pair, which trains two cards in memory (examples/pair)
 # make bench                measures every operation against plain C and what else there is (docs/PERFORMANCE.md)
-# make install PREFIX=..    header, library, sdsl.pc, the programs as sdsl-NAME, their man pages; DESTDIR is respected
+# make house                draws crates.txt, docs/house.svg; needs graphviz
+# make install PREFIX=..    header, library, sdsl.pc, the programs as sdsl-NAME with an exit status, man pages; DESTDIR is respected
 # make uninstall PREFIX=..  takes the same files away again
 # make clean                removes what was built
 # make help                 prints this
-.PHONY: all test pair bench install uninstall clean help
+# A program in build/ is run as './run NAME ARGS..', on any processor.
+.PHONY: all test first pair bench house install uninstall clean help
+.NOTPARALLEL: # two runs of rt at a time would prove the same crate twice; rt itself uses every processor
 
-VERSION = 0.1.0
+VERSION = 0.2.0
 PROGRAMS = lister replay sorter
 PREFIX = /usr/local
 bindir = $(PREFIX)/bin
+libexecdir = $(PREFIX)/libexec
 includedir = $(PREFIX)/include
 libdir = $(PREFIX)/lib
 mandir = $(PREFIX)/share/man
@@ -25,19 +30,18 @@ endif
 CFLAGS = -O2
 STRICT = -std=c11 -Wall -Wextra -Werror
 
-SOURCES = crates.txt $(shell find crates -name '*.rt' -o -name '*.antt')
+SOURCES = crates.txt tools/build $(shell find crates -name '*.rt' -o -name '*.antt')
+BUILT = build/libsdsl.a $(PROGRAMS:%=build/%)
 
-all: build/libsdsl.a $(PROGRAMS:%=build/%)
+all: $(BUILT)
 
-build/libsdsl.a: $(SOURCES)
-	rt staticlib host
-	mkdir -p build
-	cp target/staticlib/libhost.a $@
+$(BUILT) &: $(SOURCES)
+	@sh tools/build $(PROGRAMS)
 
-$(PROGRAMS:%=build/%): build/%: $(SOURCES)
-	rt check $*
-	mkdir -p build
-	cp target/bin/$* $@
+first: build/first
+
+build/first: examples/first.c include/sdsl.h build/libsdsl.a
+	$(SDSL_CC) $(STRICT) $(CFLAGS) -I include -o $@ $< build/libsdsl.a
 
 PAIR = examples/pair
 
@@ -53,10 +57,15 @@ build/bench: $(wildcard bench/*.c bench/*.h bench/*.cpp bench/*.S) bench/compile
 	bash bench/compile
 
 test:
+	@sh tools/toolchain
 	bash tests/run
 
+house:
+	@command -v dot > /dev/null || { echo "dot is missing: install graphviz" >&2; exit 1; }
+	python3 tools/house.py crates.txt | dot -Tsvg -o docs/house.svg
+
 INSTALLED = $(includedir)/sdsl.h $(libdir)/libsdsl.a $(libdir)/pkgconfig/sdsl.pc $(mandir)/man3/sdsl.3 \
-	$(PROGRAMS:%=$(bindir)/sdsl-%) $(PROGRAMS:%=$(mandir)/man1/sdsl-%.1)
+	$(PROGRAMS:%=$(bindir)/sdsl-%) $(PROGRAMS:%=$(libexecdir)/sdsl/%) $(PROGRAMS:%=$(mandir)/man1/sdsl-%.1)
 
 install: all
 	install -d $(addprefix $(DESTDIR),$(sort $(dir $(INSTALLED))))
@@ -67,12 +76,15 @@ install: all
 	chmod 644 $(DESTDIR)$(libdir)/pkgconfig/sdsl.pc
 	install -m 644 man/sdsl.3 $(DESTDIR)$(mandir)/man3/
 	for p in $(PROGRAMS); do \
-		install -m 755 build/$$p $(DESTDIR)$(bindir)/sdsl-$$p && \
+		install -m 755 build/$$p $(DESTDIR)$(libexecdir)/sdsl/ && \
+		sed -e "s|@NAME@|$$p|" -e "s|@PROGRAM@|$(libexecdir)/sdsl/$$p|" tools/wrapper.in > $(DESTDIR)$(bindir)/sdsl-$$p && \
+		chmod 755 $(DESTDIR)$(bindir)/sdsl-$$p && \
 		install -m 644 man/sdsl-$$p.1 $(DESTDIR)$(mandir)/man1/ || exit 1; \
 	done
 
 uninstall:
 	rm -f $(addprefix $(DESTDIR),$(INSTALLED))
+	@rmdir $(DESTDIR)$(libexecdir)/sdsl 2> /dev/null || true
 
 clean:
 	rm -rf build target

@@ -24,7 +24,7 @@ abbrev pub answer : List Refusal → ℕ
 answer [] = 0
 answer (t ∷ ts) = cond (t .applies) (t .number) (answer ts)
 
--- what is given where the answer is n: the new with 0, and else the old
+-- what a call that answers n leaves: the new where n is 0, else the old
 abbrev pub held : {A : Type 0} → ℕ → A → A → A
 held zero old new = new
 held (suc n) old new = old

@@ -11,7 +11,7 @@ pub record Put (room : List ℕ) (at : ℕ) (text : List ℕ) (next : ℕ) (exit
   pub behind : next ≡ at + min (length text) (length room - at)
   pub laid : exit ≡ sets room at text
 
--- a whole text told from the room's start on: its first r octets are the text, cut where the room ends; the others are as they were
+-- a whole text put from the room's start on: its first r octets are the text, cut where the room ends; the others are as they were
 pub record Told (text room : List ℕ) (r : ℕ) (exit : List ℕ) : Type 0 where
   pub count : r ≡ min (length text) (length room)
   pub room-left : exit ≡ take r text ++ drop r room

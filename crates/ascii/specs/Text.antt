@@ -9,7 +9,7 @@ use lib.Dec.{ltb}
 use lib.IntN.{ℤ, pos, negsuc}
 use lib.ListN.{length, getD}
 
--- the octets of a quoted text: of each character its code, so that "\n" is the octet 10
+-- the octets of a quoted text: the code of each character, so that "\n" is the octet 10
 abbrev pub text : String → List ℕ
 text none = []
 text (c then s) = code c ∷ text s
@@ -18,8 +18,8 @@ text (c then s) = code c ∷ text s
 abbrev pub digit : ℕ → ℕ
 digit d = cond (ltb d 10) (48 + d) (55 + d)
 
--- n in decimal, `small` where it is below ten: its one digit; else its tenth in decimal, and then its last digit. Each turn takes one off
--- `most`, of which n itself is more than enough
+-- n in decimal: its one digit where it is below ten (`small`), else a tenth of it in decimal and then its last digit. `most` bounds the
+-- turns; n turns are more than enough
 unfoldable pub decimalIn : ℕ → Bool → ℕ → List ℕ
 decimalIn zero small n = digit n ∷ []
 decimalIn (suc most) true n = digit n ∷ []

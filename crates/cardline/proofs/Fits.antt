@@ -11,7 +11,7 @@ use Rattle.octets.specs.Bits.{bitsOf}
 use Rattle.octets.proofs.Digits.{Bits, drop-bits, value-part}
 use Rattle.octets.proofs.Laws.{bits-bits, octets-length}
 use Rattle.octets.proofs.Numbers.{numbers-length}
-use Rattle.layout.specs.Places.{coefficients, vendor}
+use Rattle.layout.specs.Places.{coefficientsField, vendorField}
 use Rattle.layout.specs.Frame.{trainingSync, fieldOf, coefficientsOf}
 use Rattle.layout.specs.Refusals.{hasSync, checkRefusals}
 use Rattle.ascii.proofs.Numbers.{decimal-length, hexes-length}
@@ -81,10 +81,10 @@ line-fits name frame k = go (answer (checkRefusals frame))
     read-length : (t : Bool) → length (cardLine name (cond t (trainingVerdict B k) (finalVerdict B k))) ≤ length name + 95
     read-length true =
         line-length name (trainingVerdict B k)
-        (training-length _ _ _ _ (omega (arith, highest-within (coefficientsOf B), numbers-length 22 180 (fieldOf coefficients B)))
+        (training-length _ _ _ _ (omega (arith, highest-within (coefficientsOf B), numbers-length 22 180 (fieldOf coefficientsField B)))
         (omega (arith, value-part 21 (drop 3974 B) (from 3974))) (omega (arith, value-part 21 (drop 3995 B) (from 3995)))
-        (octets-length 16 (fieldOf vendor B)))
-    read-length false = line-length name (finalVerdict B k) (final-length _ (octets-length 16 (fieldOf vendor B)))
+        (octets-length 16 (fieldOf vendorField B)))
+    read-length false = line-length name (finalVerdict B k) (final-length _ (octets-length 16 (fieldOf vendorField B)))
 
     go : (n : ℕ) → length (cardLine name (judged n B k)) ≤ length name + 95
     go zero = read-length (hasSync trainingSync B)

@@ -1,13 +1,15 @@
 -- Laws of checking a frame. Assumes nothing.
 use mathlib.Core.Path.{_≡_, refl, sym, ap, ap₂, _∙_}
-use mathlib.Core.Bool.{Bool, true, false, _||_}
-use mathlib.Core.List.{List, reverse}
+use mathlib.Core.Bool.{Bool, true, false, not, _||_}
+use mathlib.Core.List.{List, _∷_, reverse}
 use Prim.Native.Nat.{ℕ}
 use native.Mathlib.Omega.{arith}
 use borrow.Author.Tests.{eq-eqb, ne-eqb}
 use lib.Dec.{eqb, lit≤}
 use lib.ListN.{length, drop, length-drop}
 use lib.Seq.{length-take-le}
+use Rattle.answer.specs.Answer.{refuse, answer}
+use Rattle.answer.proofs.Laws.{none}
 use Rattle.octets.specs.Bits.{digitsOf, valueOf, bitsOf, part}
 use Rattle.octets.proofs.Digits.{digits-value, take-bits, drop-bits}
 use Rattle.octets.proofs.Laws.{bits-length, bits-bits}
@@ -18,10 +20,12 @@ use Rattle.remainder.specs.Division.{polynomial, generator}
 use Rattle.remainder.specs.Promises.{CheckBits}
 use Rattle.remainder.proofs.Division.{computed}
 use Rattle.remainder.proofs.Errors.{generator-degree}
-use Rattle.layout.specs.Places.{check, pad}
+use Rattle.layout.specs.Places.{checkField, padField}
 use Rattle.layout.specs.Frame.{trainingSync, finalSync, fieldOf, messageOf, checkOf}
-use Rattle.layout.specs.Refusals.{hasSync}
+use Rattle.layout.specs.Refusals.{hasSync, bitRefusals, checkRefusals}
 use Rattle.layout.proofs.Laws.{training-value, final-value}
+use Rattle.layout.proofs.Check.{check-right, check-wrong}
+use Rattle.checker.specs.Promises.{Checked}
 
 -- ---- sync
 
@@ -61,7 +65,7 @@ module _ (f : List ℕ) (t : Taken) (e : SingleTaken f 0 14 t) where
 
 -- as the code reads them
 pub check-number : (f : List ℕ) (c t : ℕ) → length f ≡ 529 → c ≡ valueOf (part 4211 16 (bitsOf f)) → t ≡ valueOf (reverse (digitsOf 16 c))
-    → t ≡ polynomial (fieldOf check (bitsOf f))
+    → t ≡ polynomial (fieldOf checkField (bitsOf f))
 check-number f c t l e g =
     let B = bitsOf f in
     let K = part 4211 16 B in
@@ -71,7 +75,7 @@ check-number f c t l e g =
     g ∙ ap (λ (x : List ℕ). valueOf (reverse x)) back
 
 pub checks-is : (f : List ℕ) (r c t : ℕ) → length f ≡ 529 → CheckBits f 14 4197 r → c ≡ valueOf (part 4211 16 (bitsOf f)) → t ≡ valueOf (reverse (digitsOf 16 c))
-    → eqb t r ≡ eqb (polynomial (fieldOf check (bitsOf f))) (checkOf (messageOf (bitsOf f)))
+    → eqb t r ≡ eqb (polynomial (fieldOf checkField (bitsOf f))) (checkOf (messageOf (bitsOf f)))
 checks-is f r c t l d e g =
     let B = bitsOf f in
     ap₂ eqb (check-number f c t l e g)
@@ -80,11 +84,26 @@ checks-is f r c t l d e g =
 -- ---- check bits and pad, as the last two fields of a frame
 
 module _ (f : List ℕ) (t : TakenPair) (e : PairTaken f 4211 16 5 t) where
-  pub check-is : t .first ≡ valueOf (fieldOf check (bitsOf f))
+  pub check-is : t .first ≡ valueOf (fieldOf checkField (bitsOf f))
   check-is = ap (λ (x : TakenPair). x .first) e
 
-  pub pad-not : (t .second ≡ 0 → ⊥) → eqb (valueOf (fieldOf pad (bitsOf f))) 0 ≡ false
-  pad-not h = ne-eqb (valueOf (fieldOf pad (bitsOf f))) 0 (λ g. h (ap (λ (x : TakenPair). x .second) e ∙ g))
+  pub pad-not : (t .second ≡ 0 → ⊥) → eqb (valueOf (fieldOf padField (bitsOf f))) 0 ≡ false
+  pad-not h = ne-eqb (valueOf (fieldOf padField (bitsOf f))) 0 (λ g. h (ap (λ (x : TakenPair). x .second) e ∙ g))
 
-  pub pad-is : t .second ≡ 0 → eqb (valueOf (fieldOf pad (bitsOf f))) 0 ≡ true
-  pad-is h = eq-eqb (valueOf (fieldOf pad (bitsOf f))) 0 (sym (ap (λ (x : TakenPair). x .second) e) ∙ h)
+  pub pad-is : t .second ≡ 0 → eqb (valueOf (fieldOf padField (bitsOf f))) 0 ≡ true
+  pad-is h = eq-eqb (valueOf (fieldOf padField (bitsOf f))) 0 (sym (ap (λ (x : TakenPair). x .second) e) ∙ h)
+
+-- ---- the promise
+
+-- the answer says of the check bits what the division says
+pub checked : {frame : List ℕ} {r : ℕ} → r ≡ answer (checkRefusals frame) → Checked frame r
+checked {frame} {r} e =
+    record {
+      answered = e;
+      check-right = λ z. check-right (bitsOf frame) (bits-bits frame) (none 0 (not (eqb (length frame) 529)) (bitRefusals (bitsOf frame)) (sym e ∙ z) .1);
+      check-wrong = λ z. check-wrong (bitsOf frame) (bits-bits frame) (past (not (eqb (length frame) 529)) (sym e ∙ z));
+    }
+  where
+    past : (t : Bool) → answer (refuse 1 t ∷ bitRefusals (bitsOf frame)) ≡ 7 → answer (bitRefusals (bitsOf frame)) ≡ 7
+    past true f = absurd (omega arith)
+    past false f = f

@@ -5,4 +5,4 @@ use Prim.Native.Nat.{ℕ}
 use Rattle.checker.specs.Promises.{Checked}
 
 pub check-one : (frame : List ℕ) (r r′ : ℕ) → Checked frame r → Checked frame r′ → r ≡ r′
-check-one frame r r′ p q = p ∙ sym q
+check-one frame r r′ p q = p .answered ∙ sym (q .answered)

@@ -3,8 +3,11 @@ use mathlib.Core.Path.{_≡_}
 use mathlib.Core.List.{List}
 use Prim.Native.Nat.{ℕ}
 use Rattle.answer.specs.Answer.{answer}
-use Rattle.layout.specs.Refusals.{checkRefusals}
+use Rattle.octets.specs.Bits.{bitsOf}
+use Rattle.layout.specs.Refusals.{RightCheck, checkRefusals}
 
--- check
-abbrev pub Checked : List ℕ → ℕ → Type 0
-Checked frame r = r ≡ answer (checkRefusals frame)
+-- check: the answer; with 0 the check bits are the remainder of the message, with 7 they are not
+pub record Checked (frame : List ℕ) (r : ℕ) : Type 0 where
+  pub answered : r ≡ answer (checkRefusals frame)
+  pub check-right : r ≡ 0 → RightCheck (bitsOf frame)
+  pub check-wrong : r ≡ 7 → RightCheck (bitsOf frame) → ⊥

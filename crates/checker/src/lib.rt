@@ -6,7 +6,7 @@ ghost use Rattle.answer.specs.Answer.{answer};
 ghost use Rattle.octets.specs.Bits.{valueOf, bitsOf};
 ghost use Rattle.remainder.specs.Division.{polynomial};
 ghost use lib.Dec.{eqb};
-ghost use Rattle.layout.specs.Places.{check};
+ghost use Rattle.layout.specs.Places.{frameLength, checkField};
 ghost use Rattle.layout.specs.Frame.{trainingSync, finalSync, fieldOf, messageOf, checkOf};
 ghost use Rattle.layout.specs.Refusals.{bitRefusals};
 ghost use Rattle.checker.specs.Promises.{Checked};
@@ -23,8 +23,8 @@ fn known(sync: u32) -> bool
 
 // Whether the check bits, as a field, are those of the message.
 fn checks(frame: &[u8], c: u32) -> bool
-    requires { ⌜ (length (now frame) ≡ 529) × (c ≡ valueOf (fieldOf check (bitsOf (now frame)))) ⌝ }
-    ensures { λ r. ⌜ r ≡ eqb (polynomial (fieldOf check (bitsOf (now (frame .entry))))) (checkOf (messageOf (bitsOf (now (frame .entry))))) ⌝ }
+    requires { ⌜ (length (now frame) ≡ frameLength) × (c ≡ valueOf (fieldOf checkField (bitsOf (now frame)))) ⌝ }
+    ensures { λ r. ⌜ r ≡ eqb (polynomial (fieldOf checkField (bitsOf (now (frame .entry))))) (checkOf (messageOf (bitsOf (now (frame .entry))))) ⌝ }
 {
     let r = remainder::check_bits(frame, layout::COEFFICIENTS_AT, layout::MESSAGE_BITS);
     bitfields::turned(layout::CHECK_BITS, c) == r
@@ -32,7 +32,7 @@ fn checks(frame: &[u8], c: u32) -> bool
 
 // What is wrong with a frame of the right length, or 0.
 fn wrong(frame: &[u8]) -> u32
-    requires { ⌜ length (now frame) ≡ 529 ⌝ }
+    requires { ⌜ length (now frame) ≡ frameLength ⌝ }
     ensures { λ r. ⌜ r ≡ answer (bitRefusals (bitsOf (now (frame .entry)))) ⌝ }
 {
     let sync = walk::single(frame, 0, layout::SYNC_BITS).value;

@@ -21,9 +21,10 @@ use Rattle.octets.proofs.Digits.{Bits, drop-bits, value-part}
 use Rattle.octets.proofs.Laws.{octets-length, bits-length, bits-bits, octets-bits}
 use Rattle.octets.proofs.Numbers.{numbers-length}
 use Rattle.remainder.specs.Errors.{flipped}
-use Rattle.layout.specs.Places.{coefficients, wordA, wordB, vendor}
+use Rattle.layout.specs.Places.{coefficientsField, aField, bField, vendorField}
 use Rattle.layout.specs.Frame.{trainingSync, finalSync, trainingBits, frameBits, fieldOf, coefficientsOf}
 use Rattle.layout.specs.Refusals.{bitRefusals, hasSync, writeRefusals}
+use Rattle.checker.proofs.Laws.{checked}
 use Rattle.layout.proofs.RoundTrip.{training-laid, a-back, b-back, used-back, vendor-back, sound, field-bits, final-free, laid-in, training-again}
 use Rattle.layout.proofs.Laws.{final-length, final-bits}
 use Rattle.layout.proofs.OneBit.{one-bit}
@@ -57,13 +58,13 @@ module _ (x : Library) (two : Two x) where
       let q = numbersOf (d .coefficients) in
       let t : trainingBits (c .count) p (c .a) (c .b) (c .vendor) ≡ trainingBits (d .count) q (d .a) (d .b) (d .vendor) = sym (bits-of c ec hc) ∙ ap bitsOf e ∙ bits-of d ed hd in
       record {
-        same-a = sym (a-back (c .count) p (c .a) (c .b) (c .vendor) (f .count) l (f .vendor) (f .a)) ∙ ap (λ (b : List ℕ). valueOf (fieldOf wordA b)) t
+        same-a = sym (a-back (c .count) p (c .a) (c .b) (c .vendor) (f .count) l (f .vendor) (f .a)) ∙ ap (λ (b : List ℕ). valueOf (fieldOf aField b)) t
             ∙ a-back (d .count) q (d .a) (d .b) (d .vendor) (g .count) m (g .vendor) (g .a);
-        same-b = sym (b-back (c .count) p (c .a) (c .b) (c .vendor) (f .count) l (f .vendor) (f .b)) ∙ ap (λ (b : List ℕ). valueOf (fieldOf wordB b)) t
+        same-b = sym (b-back (c .count) p (c .a) (c .b) (c .vendor) (f .count) l (f .vendor) (f .b)) ∙ ap (λ (b : List ℕ). valueOf (fieldOf bField b)) t
             ∙ b-back (d .count) q (d .a) (d .b) (d .vendor) (g .count) m (g .vendor) (g .b);
         same-coefficients = sym (used-back (c .count) p (c .a) (c .b) (c .vendor) (f .count) l (f .vendor) (f .range)) ∙ ap coefficientsOf t
             ∙ used-back (d .count) q (d .a) (d .b) (d .vendor) (g .count) m (g .vendor) (g .range);
-        same-vendor = sym (vendor-back (c .count) p (c .a) (c .b) (c .vendor) (f .count) l (f .vendor) oc) ∙ ap (λ (b : List ℕ). octetsOf 16 (fieldOf vendor b)) t
+        same-vendor = sym (vendor-back (c .count) p (c .a) (c .b) (c .vendor) (f .count) l (f .vendor) oc) ∙ ap (λ (b : List ℕ). octetsOf 16 (fieldOf vendorField b)) t
             ∙ vendor-back (d .count) q (d .a) (d .b) (d .vendor) (g .count) m (g .vendor) od;
       }
 
@@ -90,16 +91,16 @@ module _ (x : Library) (two : Two x) (c : ReadCall) (room : List ℕ) (o : Octet
       let L : length B ≡ 4232 = bits-length (c .frame) ∙ ap (λ (k : ℕ). 8 * k) (f .1) in
       let hB = bits-bits (c .frame) in
       let cs = coefficientsOf B in
-      let l : length cs ≡ 180 = numbers-length 22 180 (fieldOf coefficients B) in
-      let all : every isCoefficient cs ≡ true = numbers-range 180 (fieldOf coefficients B) (field-bits B L hB 14 3960) in
-      let w : WriteCall = record { kind = 0; count = 180; coefficients = numberOctets cs; a = valueOf (fieldOf wordA B); b = valueOf (fieldOf wordB B); vendor = octetsOf 16 (fieldOf vendor B); frame = room } in
+      let l : length cs ≡ 180 = numbers-length 22 180 (fieldOf coefficientsField B) in
+      let all : every isCoefficient cs ≡ true = numbers-range 180 (fieldOf coefficientsField B) (field-bits B L hB 14 3960) in
+      let w : WriteCall = record { kind = 0; count = 180; coefficients = numberOctets cs; a = valueOf (fieldOf aField B); b = valueOf (fieldOf bField B); vendor = octetsOf 16 (fieldOf vendorField B); frame = room } in
       let n : numbersOf (numberOctets cs) ≡ cs = numbers-kept cs (λ i. omega (arith, mag-at 2097151 cs i all)) in
       let R = writeRefusals 0 180 (numbersOf (numberOctets cs)) (w .a) (w .b) (w .vendor) room in
       let word : (at : ℕ) → valueOf (part at 21 B) ≤ 2097151 = λ at. omega (arith, value-part 21 (drop at B) (drop-bits at B hB)) in
       let right : Right (writeChecks w) =
       passed 1 R (ap not (eq-eqb _ _ (octets-many cs ∙ ap (λ (k : ℕ). 4 * k) l)))
       ∙ passed 1 (drop 1 R) (ap not (eq-eqb _ _ (ap length n ∙ l)))
-      ∙ passed 1 (drop 2 R) (ap not (eq-eqb _ _ (octets-length 16 (fieldOf vendor B))))
+      ∙ passed 1 (drop 2 R) (ap not (eq-eqb _ _ (octets-length 16 (fieldOf vendorField B))))
       ∙ passed 1 (drop 3 R) (ap not (eq-eqb _ _ lr))
       ∙ passed 4 (drop 6 R) (ap (λ (zs : List ℤ). not (every isCoefficient (take 180 zs))) n ∙ ap (λ (zs : List ℤ). not (every isCoefficient zs)) (take-all 180 cs (omega arith)) ∙ ap not all)
       ∙ passed 4 [] (ap not (ap₂ _&&_ (le-leb (w .a) 2097151 (word 3974)) (le-leb (w .b) 2097151 (word 3995)))) in
@@ -123,7 +124,8 @@ module _ (x : Library) (one : One x) where
   -- one, two or three wrong bits, and a burst of up to 16, in bits 15 to 4,227 of a frame that answers 0 make it answer 7
   pub wrong-bits-seen : (frame frame′ : List ℕ) → length frame′ ≡ 529 → Few (bitsOf frame) (bitsOf frame′) ⊎ Burst (bitsOf frame) (bitsOf frame′)
       → x .check frame .answer ≡ 0 → x .check frame′ .answer ≡ 7
-  wrong-bits-seen frame frame′ l f c = changed-checked frame frame′ l f (sym c ∙ one .check .first frame) (x .check frame′ .answer) (one .check .first frame′)
+  wrong-bits-seen frame frame′ l f c =
+      changed-checked frame frame′ l f (checked (sym c ∙ one .check .first frame)) (x .check frame′ .answer) (checked (one .check .first frame′))
 
   -- a final frame's "other payload is arbitrary": with right check bits it answers 0
   pub final-free-payload : (m : List ℕ) → length m ≡ 4197 → Bits m → x .check (octetsOf 529 (frameBits finalSync m)) .answer ≡ 0

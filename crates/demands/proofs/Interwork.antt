@@ -1,28 +1,29 @@
 -- What one card writes or scrambles, the other gets back: for libraries of any two makes that are exact to the paper. Assumes nothing.
 use mathlib.Core.Path.{_≡_, refl, sym, ap, ap₂, _∙_, subst}
 use mathlib.Core.Bool.{true, not}
+use mathlib.Core.Logic.{⊎-elim}
 use mathlib.Core.List.{List, [], _∷_}
-use Prim.Native.Nat.{ℕ, _+_, _*_, _≤_, _^_}
+use Prim.Native.Nat.{ℕ, zero, suc, _+_, _*_, _≤_, _<_, _^_}
 use native.Mathlib.Omega.{arith}
-use borrow.Author.Tests.{eq-eqb, eqb-true, ltb-false, not-false}
-use lib.Dec.{eqb, ltb, leb}
+use borrow.Author.Tests.{eq-eqb, eqb-true, ltb-false, le-ltb, lt-leb, not-false}
+use lib.Dec.{eqb, ltb, leb, lit≤}
 use lib.IntN.{ℤ}
 use lib.ListN.{length, drop}
 use lib.Seq.{sets-eq, take-at, length-take-le}
 use Rattle.answer.specs.Answer.{answer, held}
 use Rattle.answer.proofs.Laws.{none as none-applies, passed, given as held-given}
 use Rattle.octets.specs.Bits.{valueOf, bitsOf, octetsOf, part, laid}
-use Rattle.octets.proofs.Digits.{Bits, take-bits, drop-bits}
+use Rattle.octets.proofs.Digits.{Bits, take-bits, drop-bits, value-part}
 use Rattle.octets.proofs.Laws.{bits-bits, bits-length, octets-length, laid-length, laid-bits}
-use Rattle.layout.specs.Places.{wordA, wordB, vendor, pad}
+use Rattle.layout.specs.Places.{aField, bField, vendorField, padField}
 use Rattle.layout.specs.Frame.{used, trainingBits, finalBits, fieldOf, coefficientsOf}
 use Rattle.layout.specs.Refusals.{bitRefusals, hasSync}
-use Rattle.layout.proofs.RoundTrip.{training-laid, training-answers, a-back, b-back, used-back, vendor-back, final-laid, final-answers, final-vendor}
+use Rattle.layout.proofs.RoundTrip.{training-laid, training-answers, a-back, b-back, used-back, vendor-back, final-laid, final-answers, final-vendor, sound}
 use Rattle.numbers.specs.Promises.{numbersOf, numberOctets}
 use Rattle.recurrence.specs.Line.{newest}
 use Rattle.scrambler.specs.Ends.{tapOf}
 use Rattle.recurrence.specs.Run.{scramble, descramble, runOf}
-use Rattle.scrambler.specs.Promises.{frameOut}
+use Rattle.scrambler.specs.Promises.{given, clocked, around, frameOut}
 use Rattle.scrambler.specs.declared.Scrambler.{Scrambler}
 use Rattle.recurrence.proofs.Laws.{run-bits}
 use Rattle.scrambler.proofs.Laws.{tap-range}
@@ -38,8 +39,8 @@ use Rattle.precoder.proofs.Turns.{lengths-are}
 use Rattle.numbers.proofs.Laws.{octets-many, octets-kept}
 use Rattle.demands.specs.Library.{Outcome, None, none, WriteCall, ReadCall, RunCall, FrameCall, Line, PrecodeCall, Signal, Library}
 use Rattle.demands.specs.One.{writeChecks, readChecks, runChecks, frameChecks, precodeChecks}
-use Rattle.demands.specs.Two.{Right, Octets, done, given, clocked, around, Frames, Scrambling, Precoding, Exact, Back}
-use Rattle.demands.proofs.Fit.{many, lengths-fit, training-fit, read-right}
+use Rattle.demands.specs.Two.{Right, Octets, done, overTheLine, Frames, Scrambling, Precoding, Exact, Back}
+use Rattle.demands.proofs.Fit.{many, lengths-fit, training-fit, kind-fit, read-right}
 
 -- ---- frames
 
@@ -60,8 +61,8 @@ module _ (x y : Library) (ex : Frames x) (ey : Frames y) (c : WriteCall) (room v
       let r : Right (readChecks (call F)) = read-right (call F) lr (octets-length 529 T) lv (ap (λ (b : List ℕ). answer (bitRefusals b)) B ∙ t .0) in
       ap (λ (m : Outcome None (List ℕ)). y .read (call (m .memory))) (ex .training c e h)
       ∙ ey .read-training (call F) r (ap (hasSync _) B ∙ t .1)
-      ∙ ap (λ (b : List ℕ). done (record { kind = 0; a = valueOf (fieldOf wordA b); b = valueOf (fieldOf wordB b) }) (record { coefficients = numberOctets (coefficientsOf b); vendor = octetsOf 16 (fieldOf vendor b) })) B
-      ∙ ap₂ (λ (p q : ℕ). done (record { kind = 0; a = p; b = q }) (record { coefficients = numberOctets (coefficientsOf T); vendor = octetsOf 16 (fieldOf vendor T) }))
+      ∙ ap (λ (b : List ℕ). done (record { kind = 0; a = valueOf (fieldOf aField b); b = valueOf (fieldOf bField b) }) (record { coefficients = numberOctets (coefficientsOf b); vendor = octetsOf 16 (fieldOf vendorField b) })) B
+      ∙ ap₂ (λ (p q : ℕ). done (record { kind = 0; a = p; b = q }) (record { coefficients = numberOctets (coefficientsOf T); vendor = octetsOf 16 (fieldOf vendorField T) }))
       (a-back (c .count) cs (c .a) (c .b) (c .vendor) (f .count) n (f .vendor) (f .a)) (b-back (c .count) cs (c .a) (c .b) (c .vendor) (f .count) n (f .vendor) (f .b))
       ∙ ap₂ (λ (p : List ℤ) (q : List ℕ). done (record { kind = 0; a = c .a; b = c .b }) (record { coefficients = numberOctets p; vendor = q }))
       (used-back (c .count) cs (c .a) (c .b) (c .vendor) (f .count) n (f .vendor) (f .range)) (vendor-back (c .count) cs (c .a) (c .b) (c .vendor) (f .count) n (f .vendor) o)
@@ -76,19 +77,19 @@ module _ (x y : Library) (ex : Frames x) (ey : Frames y) (c : WriteCall) (room v
       let r : Right (readChecks (call F)) = read-right (call F) lr (octets-length 529 T) lv (ap (λ (b : List ℕ). answer (bitRefusals b)) B ∙ t .0) in
       ap (λ (m : Outcome None (List ℕ)). y .read (call (m .memory))) (ex .final c e h)
       ∙ ey .read-final (call F) r (ap (hasSync _) B ∙ t .1)
-      ∙ ap (λ (b : List ℕ). done (record { kind = 1; a = 0; b = 0 }) (record { coefficients = room; vendor = octetsOf 16 (fieldOf vendor b) })) B
+      ∙ ap (λ (b : List ℕ). done (record { kind = 1; a = 0; b = 0 }) (record { coefficients = room; vendor = octetsOf 16 (fieldOf vendorField b) })) B
       ∙ ap (λ (q : List ℕ). done (record { kind = 1; a = 0; b = 0 }) (record { coefficients = room; vendor = q })) (final-vendor (c .vendor) l o)
 
 -- ---- scrambling
 
 -- bits laid over octets from the start stand there
-laid-there : (s bs : List ℕ) (n : ℕ) → Bits bs → length bs ≡ n → n ≤ 8 * length s → part 0 n (bitsOf (laid s 0 bs)) ≡ bs
+pub laid-there : (s bs : List ℕ) (n : ℕ) → Bits bs → length bs ≡ n → n ≤ 8 * length s → part 0 n (bitsOf (laid s 0 bs)) ≡ bs
 laid-there s bs n h l m =
     ap (part 0 n) (laid-bits s 0 bs h ∙ sets-eq bs (bitsOf s) 0 (omega (arith, bits-length s)))
     ∙ take-at bs (drop (0 + length bs) (bitsOf s)) n l
 
 -- the checks of a run that passed, for another input and output of the same length
-run-right : (c : RunCall) (input output : List ℕ) → Right (runChecks c) → length input ≡ length (c .output) → length output ≡ length (c .output)
+pub run-right : (c : RunCall) (input output : List ℕ) → Right (runChecks c) → length input ≡ length (c .output) → length output ≡ length (c .output)
     → (length (c .input) ≡ length (c .output)) × (c .bits ≤ 8 * length (c .output)) × Right (runChecks (record { end = c .end; state = c .state; input = input; bits = c .bits; output = output }))
 run-right c input output h l m =
     let R = runChecks c in
@@ -105,27 +106,27 @@ run-right c input output h l m =
 module _ (x y : Library) (ex : Scrambling x) (ey : Scrambling y) where
   run-back : (c : RunCall) (room : List ℕ) → Right (runChecks c) → length room ≡ length (c .output)
       → y .run descramble (record { end = c .end; state = c .state; input = x .run scramble c .memory .output; bits = c .bits; output = room })
-      ≡ done none (record { state = x .run scramble c .memory .state; output = laid room 0 (given c) })
+      ≡ done none (record { state = x .run scramble c .memory .state; output = laid room 0 (given (c .input) (c .bits)) })
   run-back c room h l =
       let tap = tapOf (c .end) in
       let t = tap-range (c .end) in
       let w = ex .scrambled c h in
       let s = w .0 in
       let call : List ℕ → RunCall = λ o. record { end = c .end; state = c .state; input = o; bits = c .bits; output = room } in
-      let F : Bits (given c) = take-bits (c .bits) (bitsOf (c .input)) (bits-bits (c .input)) in
-      let is : s ≡ runOf scramble tap (c .state) (given c) = scrambles-run tap (t .0) (t .1) (c .state) (given c) s (w .1) in
-      let S : Bits s = subst Bits (sym is) (run-bits scramble tap (c .state) (given c)) in
+      let F : Bits (given (c .input) (c .bits)) = take-bits (c .bits) (bitsOf (c .input)) (bits-bits (c .input)) in
+      let is : s ≡ runOf scramble tap (c .state) (given (c .input) (c .bits)) = scrambles-run tap (t .0) (t .1) (c .state) (given (c .input) (c .bits)) s (w .1) in
+      let S : Bits s = subst Bits (sym is) (run-bits scramble tap (c .state) (given (c .input) (c .bits))) in
       let O = laid (c .output) 0 s in
       let r = run-right c O room h (laid-length (c .output) 0 s) l in
       let n : length s ≡ c .bits = w .1 .size ∙ length-take-le (c .bits) (bitsOf (c .input)) (omega (arith, bits-length (c .input), r .0, r .1)) in
-      let there : given (call O) ≡ s = laid-there (c .output) s (c .bits) S n (r .1) in
+      let there : given O (c .bits) ≡ s = laid-there (c .output) s (c .bits) S n (r .1) in
       let v = ey .descrambled (call O) (r .2) in
-      let f : v .0 ≡ given c =
-      descrambles-run tap (t .0) (t .1) (c .state) (given (call O)) (v .0) (take-bits (c .bits) (bitsOf O) (bits-bits O)) (v .1)
-      ∙ ap (runOf descramble tap (c .state)) (there ∙ is) ∙ comes-back tap (c .state) (given c) F .0 in
+      let f : v .0 ≡ given (c .input) (c .bits) =
+      descrambles-run tap (t .0) (t .1) (c .state) (given O (c .bits)) (v .0) (take-bits (c .bits) (bitsOf O) (bits-bits O)) (v .1)
+      ∙ ap (runOf descramble tap (c .state)) (there ∙ is) ∙ comes-back tap (c .state) (given (c .input) (c .bits)) F .0 in
       ap (λ (m : Outcome None Line). y .run descramble (call (m .memory .output))) (w .2) ∙ v .2
       ∙ ap₂ (λ (a b : List ℕ). done none (record { state = newest (c .state) a; output = laid room 0 b })) there f
-      ∙ ap (λ (m : Outcome None Line). done none (record { state = m .memory .state; output = laid room 0 (given c) })) (sym (w .2))
+      ∙ ap (λ (m : Outcome None Line). done none (record { state = m .memory .state; output = laid room 0 (given (c .input) (c .bits)) })) (sym (w .2))
 
   frame-comes-back : (c : FrameCall) (room : List ℕ) → Right (frameChecks c) → Octets (c .frame) → length room ≡ 529
       → y .frame descramble (record { end = c .end; state = c .state; frame = x .frame scramble c .memory .output; output = room })
@@ -142,23 +143,23 @@ module _ (x y : Library) (ex : Scrambling x) (ey : Scrambling y) where
       let two = none-applies 0 (not (eqb (length (c .output)) 529)) (drop 2 R) (one .1) in
       let three = none-applies 1 (ltb 1 (c .end)) (drop 3 R) (two .1) in
       let four = none-applies 3 (leb (2 ^ 23) (c .state)) (drop 4 R) (three .1) in
-      let five = none-applies 5 (not (eqb (valueOf (fieldOf pad (bitsOf (c .frame)))) 0)) [] (four .1) in
+      let five = none-applies 5 (not (eqb (valueOf (fieldOf padField (bitsOf (c .frame)))) 0)) [] (four .1) in
       let lf : length (c .frame) ≡ 529 = eqb-true _ _ (not-false _ (one .0)) in
-      let p : valueOf (fieldOf pad (bitsOf (c .frame))) ≡ 0 = eqb-true _ _ (not-false _ (five .0)) in
-      let is : s ≡ runOf scramble tap (c .state) (clocked c) = scrambles-run tap (t .0) (t .1) (c .state) (clocked c) s (w .1) in
+      let p : valueOf (fieldOf padField (bitsOf (c .frame))) ≡ 0 = eqb-true _ _ (not-false _ (five .0)) in
+      let is : s ≡ runOf scramble tap (c .state) (clocked (c .frame)) = scrambles-run tap (t .0) (t .1) (c .state) (clocked (c .frame)) s (w .1) in
       let O = frameOut scramble X (c .frame) in
-      let out : around c s ≡ O = ap (around c) is in
+      let out : around (c .frame) s ≡ O = ap (around (c .frame)) is in
       let R′ = frameChecks (call O) in
       let r : Right R′ =
       passed 1 (drop 1 R′) (ap not (eq-eqb _ _ (octets-length 529 _))) ∙ passed 1 (drop 2 R′) (ap not (eq-eqb _ _ l))
       ∙ passed 2 (drop 3 R′) (three .0) ∙ passed 4 (drop 4 R′) (four .0) ∙ passed 6 [] (ap not (eq-eqb _ _ (pad-out X (c .frame) lf o p))) in
       let v = ey .frame-descrambled (call O) r in
-      let f : v .0 ≡ runOf descramble tap (c .state) (clocked (call O)) =
-      descrambles-run tap (t .0) (t .1) (c .state) (clocked (call O)) (v .0) (take-bits 4213 (drop 14 (bitsOf O)) (drop-bits 14 (bitsOf O) (bits-bits O))) (v .1) in
+      let f : v .0 ≡ runOf descramble tap (c .state) (clocked O) =
+      descrambles-run tap (t .0) (t .1) (c .state) (clocked O) (v .0) (take-bits 4213 (drop 14 (bitsOf O)) (drop-bits 14 (bitsOf O) (bits-bits O))) (v .1) in
       ap (λ (m : Outcome None Line). y .frame descramble (call (m .memory .output))) (w .2)
       ∙ ap (λ (m : List ℕ). y .frame descramble (call m)) out ∙ v .2
       ∙ ap₂ (λ (a b : List ℕ). done none (record { state = newest (c .state) a; output = b }))
-      (received X (c .frame) lf o p ∙ sym is) (ap (around (call O)) f ∙ frame-back X (c .frame) lf o p)
+      (received X (c .frame) lf o p ∙ sym is) (ap (around O) f ∙ frame-back X (c .frame) lf o p)
       ∙ ap (λ (m : Outcome None Line). done none (record { state = m .memory .state; output = c .frame })) (sym (w .2))
 
 -- ---- precoding
@@ -203,6 +204,58 @@ module _ (x y : Library) (ex : Precoding x) (ey : Precoding y) where
       ∙ ap (λ (z : List ℤ). done none (record { history = numberOctets (pastAfterAll past z); room = c .symbols })) (sym is)
       ∙ ap (λ (m : Outcome None Signal). done none (record { history = m .memory .history; room = c .symbols })) (sym (w .2))
 
+-- ---- the whole way
+
+-- what bits make are octets
+octets-octets : (n : ℕ) (bs : List ℕ) → Bits bs → Octets (octetsOf n bs)
+unfolding octetsOf
+octets-octets zero bs h i = lit≤ tt
+octets-octets (suc n) bs h zero = value-part 8 bs h
+octets-octets (suc n) bs h (suc i) = octets-octets n (drop 8 bs) (drop-bits 8 bs h) i
+
+-- a frame that was written: its length, its octets, and that its bits answer 0
+module _ (x : Library) (ex : Frames x) (c : WriteCall) (h : Right (writeChecks c)) where
+  abbrev Written : List ℕ → Type 0
+  Written f = (length f ≡ 529) × Octets f × (answer (bitRefusals (bitsOf f)) ≡ 0)
+
+  laid-out : (T : List ℕ) → Bits T → bitsOf (octetsOf 529 T) ≡ T → answer (bitRefusals T) ≡ 0 → Written (octetsOf 529 T)
+  laid-out T b e z = (octets-length 529 T, octets-octets 529 T b, ap (λ (B : List ℕ). answer (bitRefusals B)) e ∙ z)
+
+  written-out : Written (x .write c .memory)
+  written-out = ⊎-elim training final (kind-fit c h)
+    where
+      training : c .kind ≡ 0 → Written (x .write c .memory)
+      training e =
+          let f = training-fit c h e in
+          let cs = numbersOf (c .coefficients) in
+          let n = many (c .coefficients) (f .coefficients) in
+          let B = training-laid (c .count) cs (c .a) (c .b) (c .vendor) (f .count) n (f .vendor) in
+          subst Written (sym (ap (λ (m : Outcome None (List ℕ)). m .memory) (ex .training c e h)))
+          (laid-out _ (subst Bits B (bits-bits _)) B (training-answers (c .count) cs (c .a) (c .b) (c .vendor) (f .count) n (f .vendor) .0))
+
+      final : c .kind ≡ 1 → Written (x .write c .memory)
+      final e =
+          let l = lengths-fit c h .1 in
+          let B = final-laid (c .vendor) l in
+          subst Written (sym (ap (λ (m : Outcome None (List ℕ)). m .memory) (ex .final c e h)))
+          (laid-out _ (subst Bits B (bits-bits _)) B (final-answers (c .vendor) l .0))
+
+module _ (x y : Library) (ex : Exact x) (ey : Exact y) where
+  whole-way : (c : WriteCall) (end state : ℕ) (line received coefficients vendor : List ℕ) → Right (writeChecks c) → end ≤ 1 → state < 2 ^ 23
+      → length line ≡ 529 → length received ≡ 529
+      → y .read (record { frame = overTheLine x y end state line received (x .write c .memory); coefficients = coefficients; vendor = vendor })
+      ≡ y .read (record { frame = x .write c .memory; coefficients = coefficients; vendor = vendor })
+  whole-way c end state line received coefficients vendor h he hs l m =
+      let w = written-out x (ex .frames) c h in
+      let call : FrameCall = record { end = end; state = state; frame = x .write c .memory; output = line } in
+      let R = frameChecks call in
+      let r : Right R =
+      passed 1 (drop 1 R) (ap not (eq-eqb _ _ (w .0))) ∙ passed 1 (drop 2 R) (ap not (eq-eqb _ _ l))
+      ∙ passed 2 (drop 3 R) (le-ltb 1 end he) ∙ passed 4 (drop 4 R) (lt-leb (2 ^ 23) state hs)
+      ∙ passed 6 [] (ap not (eq-eqb _ _ (sound (bitsOf (x .write c .memory)) (w .2) .clear))) in
+      ap (λ (o : Outcome None Line). y .read (record { frame = o .memory .output; coefficients = coefficients; vendor = vendor }))
+      (frame-comes-back x y (ex .scrambling) (ey .scrambling) call received r (w .1) m)
+
 -- ---- the two sentences
 
 pub interwork : (x y : Library) → Exact x → Exact y → Back x y
@@ -212,5 +265,6 @@ interwork x y ex ey =
       final = λ c room v e h o l m. final-back x y (ex .frames) (ey .frames) c room v h o l m e;
       run = run-back x y (ex .scrambling) (ey .scrambling);
       frame = frame-comes-back x y (ex .scrambling) (ey .scrambling);
+      whole = whole-way x y ex ey;
       precoded = precoded-back x y (ex .precoding) (ey .precoding);
     }

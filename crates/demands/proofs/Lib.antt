@@ -7,3 +7,7 @@ pub mod Ours
 pub mod Refuted
 pub mod Rejected
 pub mod Follow
+pub mod Rebuilt
+pub mod WrongSteps
+pub mod WrongFunctions
+pub mod Widened

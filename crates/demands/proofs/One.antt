@@ -1,19 +1,19 @@
 -- Demand 1 holds of every library that keeps our contracts. Assumes nothing.
 use mathlib.Core.Path.{_≡_, refl, sym, ap, _∙_, subst}
-use mathlib.Core.Bool.{Bool, true, false, cond, not, _&&_, false≢true}
+use mathlib.Core.Bool.{Bool, true, false, cond, not, _&&_}
 use mathlib.Core.List.{List, [], _∷_}
-use Prim.Native.Nat.{ℕ, zero, suc, _≤_, zero-le}
-use borrow.Author.Tests.{leb-true}
-use lib.Dec.{leb, eqb, ltb}
+use Prim.Native.Nat.{ℕ, zero, suc, _≤_}
+use lib.Dec.{eqb, ltb}
 use lib.IntN.{pos}
 use Rattle.answer.specs.Answer.{Refusal, answer, held, inOrder}
 use Rattle.answer.proofs.Laws.{kept}
+use Rattle.answer.proofs.Order.{answer-within}
 use Rattle.octets.specs.Bits.{valueOf}
-use Rattle.layout.specs.Places.{wordA, wordB}
+use Rattle.layout.specs.Places.{aField, bField}
 use Rattle.layout.specs.Frame.{trainingSync, fieldOf}
 use Rattle.layout.specs.Refusals.{hasSync}
 use Rattle.layout.proofs.Order.{check-order}
-use Rattle.recurrence.specs.Run.{Way}
+use Rattle.recurrence.specs.Run.{Way, scramble}
 use Rattle.scrambler.proofs.One.{run-order as scrambler-order, frame-order}
 use Rattle.symbol.specs.declared.Encoder.{Encoder}
 use Rattle.symbol.proofs.Order.{activation-order, data-order, back-order, step-order, run-order}
@@ -38,40 +38,39 @@ use Rattle.host.specs.Symbols.{encoder}
 use Rattle.host.proofs.One.{frame-write-order, frame-read-order}
 use Rattle.demands.specs.Library.{Outcome, None, none, Library}
 use Rattle.demands.specs.Contracts.{Keeps}
-use Rattle.demands.specs.One.{Answers, One, readChecks, runChecks, frameChecks}
+use Rattle.demands.specs.One.{Answers, Ordered, One, readChecks, runChecks, frameChecks}
 
--- checks in the order of the table answer with a number of the table
-ordered : (low n : ℕ) (t : Bool) (ts : List Refusal) → inOrder low (record { number = n; applies = t } ∷ ts) ≡ true → (leb n 8 ≡ true) × (inOrder n ts ≡ true)
-unfolding inOrder
-ordered low n t ts e = pick (leb low n) (leb n 8) (inOrder n ts) e
-  where
-    pick : (a b c : Bool) → (a && (b && c)) ≡ true → (b ≡ true) × (c ≡ true)
-    pick true true c e = (refl, e)
-    pick true false c e = absurd (false≢true e)
-    pick false b c e = absurd (false≢true e)
-
-pub table : (low : ℕ) (ts : List Refusal) → inOrder low ts ≡ true → answer ts ≤ 8
-table low [] e = zero-le
-table low (t ∷ ts) e =
-    let w = ordered low (t .number) (t .applies) ts e in
-    pick (t .applies) (leb-true _ _ (w .0)) (table (t .number) ts (w .1))
-  where
-    pick : (b : Bool) → t .number ≤ 8 → answer ts ≤ 8 → cond b (t .number) (answer ts) ≤ 8
-    pick true x y = x
-    pick false x y = y
-
-answers : {C N M : Type 0} {f : C → Outcome N M} {checks : C → List Refusal} {before : C → M} {nothing : N}
+pub answers : {C N M : Type 0} {f : C → Outcome N M} {checks : C → List Refusal} {before : C → M} {nothing : N}
     → ((c : C) → inOrder 1 (checks c) ≡ true) → ((c : C) → f c .answer ≡ answer (checks c))
     → ((c : C) → (f c .answer ≡ 0 → ⊥) → f c .numbers ≡ nothing) → ((c : C) → (f c .answer ≡ 0 → ⊥) → f c .memory ≡ before c)
     → Answers f checks before nothing
 answers {checks = checks} o e n m =
     record {
-      in-table = λ c. subst (λ (k : ℕ). k ≤ 8) (sym (e c)) (table 1 (checks c) (o c));
-      in-order = o;
+      in-table = λ c. subst (λ (k : ℕ). k ≤ 8) (sym (e c)) (answer-within 1 (checks c) (o c));
       first = e;
       no-numbers = n;
       unchanged = m;
     }
+
+-- the checks run in their order
+pub ordered : Ordered
+ordered = record {
+  write = λ c. frame-write-order (c .kind) (c .count) (c .coefficients) (c .a) (c .b) (c .vendor) (c .frame);
+  check = check-order;
+  read = λ c. frame-read-order (c .frame) (c .coefficients) (c .vendor);
+  run = λ c. scrambler-order scramble (record { end = c .end; state = c .state }) (c .input) (c .bits) (c .output);
+  frame = λ c. frame-order scramble (record { end = c .end; state = c .state }) (c .frame) (c .output);
+  activation = activation-order;
+  level = data-order;
+  code = back-order;
+  encode = λ c. step-order (encoder (c .a) (c .b) (c .register)) (c .symbol);
+  encode-run = λ c. run-order (encoder (c .a) (c .b) (c .register)) (c .symbols) (c .codes);
+  precode = λ c. precoder-order (c .coefficients) (c .history) (c .symbols) (c .room);
+  shape = shaper-order;
+  start = λ c. start-in-order (c .end) (c .silence);
+  step = λ c. step-in-order (stateIn (c .state)) (c .code);
+  run-codes = λ c. state-in-order (stateIn (c .state));
+}
 
 -- a number that is not 0, named otherwise
 other : {n m : ℕ} → n ≡ m → (n ≡ 0 → ⊥) → m ≡ 0 → ⊥
@@ -84,7 +83,7 @@ only none = refl
 pub found-answer : (n : ℕ) (bits : List ℕ) → foundOf n bits .answer ≡ n
 found-answer zero bits = pick (hasSync trainingSync bits)
   where
-    pick : (s : Bool) → cond {A = Found} s (record { answer = 0; kind = 0; a = valueOf (fieldOf wordA bits); b = valueOf (fieldOf wordB bits) }) (record { answer = 0; kind = 1; a = 0; b = 0 }) .answer ≡ 0
+    pick : (s : Bool) → cond {A = Found} s (record { answer = 0; kind = 0; a = valueOf (fieldOf aField bits); b = valueOf (fieldOf bField bits) }) (record { answer = 0; kind = 1; a = 0; b = 0 }) .answer ≡ 0
     pick true = refl
     pick false = refl
 found-answer (suc n) bits = refl
@@ -95,7 +94,7 @@ found-none (suc n) bits h = refl
 
 -- a run of codes answers 0 where its state is legal
 noted-answer : (r : StartupRun) (s : State) (p e : ℕ) → noted r s p e .answer ≡ 0
-noted-answer r s p e = pick (eqb e 1) (ltb 1 e && not (eqb (r .how) 0))
+noted-answer r s p e = pick (eqb e 1) (ltb 1 e && not (eqb (r .outcome) 0))
   where
     pick : (b c : Bool) → cond b (opens r s p) (cond c (ends r s p e) (goesOn r s)) .answer ≡ 0
     pick true c = refl
@@ -112,14 +111,14 @@ held-run (suc n) s l = refl
 
 module _ (x : Library) (k : Keeps x) where
   read-answer : (c : _) → x .read c .answer ≡ answer (readChecks c)
-  read-answer c = ap (λ (f : FrameFields). f .answer) (k .read c .found) ∙ found-answer (answer (readChecks c)) _
+  read-answer c = ap (λ (f : FrameFields). f .answer) (k .read c refl .found) ∙ found-answer (answer (readChecks c)) _
 
   run-is : (way : Way) → Answers (x .run way) runChecks (λ c. record { state = c .state; output = c .output }) none
   run-is way =
-      answers (λ c. scrambler-order way (record { end = c .end; state = c .state }) (c .input) (c .bits) (c .output))
-      (λ c. ap (λ (r : Scrambled). r .answer) (k .run way c .crossed) ∙ k .run way c .promise .answered) (λ c h. only _)
+      answers (ordered .run)
+      (λ c. ap (λ (r : Scrambled). r .answer) (k .run way c refl .crossed) ∙ k .run way c refl .promise .answered) (λ c h. only _)
       (λ c h.
-      let w = k .run way c in
+      let w = k .run way c refl in
       let e : x .run way c .answer ≡ w .ran .answer = ap (λ (r : Scrambled). r .answer) (w .crossed) in
       let s : x .run way c .memory .state ≡ c .state =
       ap (λ (r : Scrambled). r .state) (w .crossed) ∙ ap (λ (y : _). y .state) (w .promise .next) ∙ kept (w .ran .answer) _ _ (other e h) in
@@ -128,10 +127,10 @@ module _ (x : Library) (k : Keeps x) where
 
   frame-is : (way : Way) → Answers (x .frame way) frameChecks (λ c. record { state = c .state; output = c .output }) none
   frame-is way =
-      answers (λ c. frame-order way (record { end = c .end; state = c .state }) (c .frame) (c .output))
-      (λ c. ap (λ (r : Scrambled). r .answer) (k .frame way c .crossed) ∙ k .frame way c .promise .answered) (λ c h. only _)
+      answers (ordered .frame)
+      (λ c. ap (λ (r : Scrambled). r .answer) (k .frame way c refl .crossed) ∙ k .frame way c refl .promise .answered) (λ c h. only _)
       (λ c h.
-      let w = k .frame way c in
+      let w = k .frame way c refl in
       let e : x .frame way c .answer ≡ w .ran .answer = ap (λ (r : Scrambled). r .answer) (w .crossed) in
       let s : x .frame way c .memory .state ≡ c .state =
       ap (λ (r : Scrambled). r .state) (w .crossed) ∙ ap (λ (y : _). y .state) (w .promise .next) ∙ kept (w .ran .answer) _ _ (other e h) in
@@ -139,71 +138,71 @@ module _ (x : Library) (k : Keeps x) where
       λ i. record { state = s i; output = o i })
 
   codes-answer : (c : _) → x .run-codes c .answer ≡ answer (stateRefusals (stateIn (c .state)))
-  codes-answer c = ap (λ (r : Run). r .answer) (k .run-codes c) ∙ held-run (answer (stateRefusals (stateIn (c .state)))) (stateIn (c .state)) (c .codes)
+  codes-answer c = ap (λ (r : Run). r .answer) (k .run-codes c refl) ∙ held-run (answer (stateRefusals (stateIn (c .state)))) (stateIn (c .state)) (c .codes)
 
   pub one : One x
   one = record {
-    write = answers (λ c. frame-write-order (c .kind) (c .count) (c .coefficients) (c .a) (c .b) (c .vendor) (c .frame)) (λ c. k .write c .answered)
-        (λ c h. only _) (λ c h. k .write c .left ∙ kept _ _ _ h);
-    check = answers check-order (k .check) (λ c h. only _) (λ c h. only _);
-    read = answers (λ c. frame-read-order (c .frame) (c .coefficients) (c .vendor)) read-answer
+    write = answers (ordered .write) (λ c. k .write c refl .answered)
+        (λ c h. only _) (λ c h. k .write c refl .left ∙ kept _ _ _ h);
+    check = answers (ordered .check) (λ c. k .check c refl .answered) (λ c h. only _) (λ c h. only _);
+    read = answers (ordered .read) read-answer
         (λ c h.
-        let e = k .read c .found ∙ ap fieldsOf (found-none _ _ (other (read-answer c) h)) in
+        let e = k .read c refl .found ∙ ap fieldsOf (found-none _ _ (other (read-answer c) h)) in
         λ i. record { kind = e i .kind; a = e i .a; b = e i .b })
         (λ c h.
         let z = other (read-answer c) h in
-        let m = k .read c .coefficients-left ∙ kept (answer (readChecks c)) _ _ z in
-        let v = k .read c .vendor-left ∙ kept (answer (readChecks c)) _ _ z in
+        let m = k .read c refl .coefficients-left ∙ kept (answer (readChecks c)) _ _ z in
+        let v = k .read c refl .vendor-left ∙ kept (answer (readChecks c)) _ _ z in
         λ i. record { coefficients = m i; vendor = v i });
     run = run-is;
     frame = frame-is;
-    activation = answers activation-order (λ c. k .activation c .answered) (λ c h. k .activation c .level ∙ kept _ _ _ h) (λ c h. only _);
-    level = answers data-order (λ c. k .level c .answered) (λ c h. k .level c .level ∙ kept _ _ _ h) (λ c h. only _);
-    code = answers back-order (λ c. k .code c .answered) (λ c h. k .code c .code ∙ kept _ _ _ h) (λ c h. only _);
-    encode = answers (λ c. step-order (encoder (c .a) (c .b) (c .register)) (c .symbol)) (λ c. k .encode c .answered)
+    activation = answers (ordered .activation) (λ c. k .activation c refl .answered) (λ c h. k .activation c refl .level ∙ kept _ _ _ h) (λ c h. only _);
+    level = answers (ordered .level) (λ c. k .level c refl .answered) (λ c h. k .level c refl .level ∙ kept _ _ _ h) (λ c h. only _);
+    code = answers (ordered .code) (λ c. k .code c refl .answered) (λ c h. k .code c refl .code ∙ kept _ _ _ h) (λ c h. only _);
+    encode = answers (ordered .encode) (λ c. k .encode c refl .answered)
         (λ c h.
-        let y = k .encode c .code ∙ kept _ _ _ h in
-        let l = k .encode c .level ∙ kept _ _ _ h in
+        let y = k .encode c refl .code ∙ kept _ _ _ h in
+        let l = k .encode c refl .level ∙ kept _ _ _ h in
         λ i. record { code = y i; sixteenths = l i })
-        (λ c h. ap (λ (e : Encoder). e .register) (k .encode c .next ∙ kept _ _ _ h));
-    encode-run = answers (λ c. run-order (encoder (c .a) (c .b) (c .register)) (c .symbols) (c .codes)) (λ c. k .encode-run c .answered) (λ c h. only _)
+        (λ c h. ap (λ (e : Encoder). e .register) (k .encode c refl .next ∙ kept _ _ _ h));
+    encode-run = answers (ordered .encode-run) (λ c. k .encode-run c refl .answered) (λ c h. only _)
         (λ c h.
-        let n = k .encode-run c .next ∙ kept _ _ _ h in
-        let w = k .encode-run c .written ∙ kept _ _ _ h in
+        let n = k .encode-run c refl .next ∙ kept _ _ _ h in
+        let w = k .encode-run c refl .written ∙ kept _ _ _ h in
         λ i. record { register = n i .register; codes = w i });
-    precode = answers (λ c. precoder-order (c .coefficients) (c .history) (c .symbols) (c .room)) (λ c. k .precode c .answered) (λ c h. only _)
+    precode = answers (ordered .precode) (λ c. k .precode c refl .answered) (λ c h. only _)
         (λ c h.
-        let p = k .precode c .past ∙ kept _ _ _ h in
-        let w = k .precode c .written ∙ kept _ _ _ h in
+        let p = k .precode c refl .past ∙ kept _ _ _ h in
+        let w = k .precode c refl .written ∙ kept _ _ _ h in
         λ i. record { history = p i; room = w i });
-    decode = answers (λ c. precoder-order (c .coefficients) (c .history) (c .symbols) (c .room)) (λ c. k .decode c .answered) (λ c h. only _)
+    decode = answers (ordered .precode) (λ c. k .decode c refl .answered) (λ c h. only _)
         (λ c h.
-        let p = k .decode c .past ∙ kept _ _ _ h in
-        let w = k .decode c .written ∙ kept _ _ _ h in
+        let p = k .decode c refl .past ∙ kept _ _ _ h in
+        let w = k .decode c refl .written ∙ kept _ _ _ h in
         λ i. record { history = p i; room = w i });
-    shape = answers shaper-order (λ y. k .shape y .answered)
-        (λ y h. exact-unique _ _ (pos 0) (subst (Exactly (x .shape y .numbers)) (kept _ _ _ h) (k .shape y .value)) exact-zero) (λ y h. only _);
-    start = answers (λ c. start-in-order (c .end) (c .silence)) (λ c. ap (λ (r : Stepped). r .answer) (k .start c))
+    shape = answers (ordered .shape) (λ y. k .shape y refl .answered)
+        (λ y h. exact-unique _ _ (pos 0) (subst (Exactly (x .shape y .numbers)) (kept _ _ _ h) (k .shape y refl .value)) exact-zero) (λ y h. only _);
+    start = answers (ordered .start) (λ c. ap (λ (r : Stepped). r .answer) (k .start c refl))
         (λ c h.
-        let z = other (ap (λ (r : Stepped). r .answer) (k .start c)) h in
-        let p = ap (λ (r : Stepped). r .phase) (k .start c) ∙ kept _ _ _ z in
-        let a = ap (λ (r : Stepped). r .attempt) (k .start c) ∙ kept _ _ _ z in
+        let z = other (ap (λ (r : Stepped). r .answer) (k .start c refl)) h in
+        let p = ap (λ (r : Stepped). r .phase) (k .start c refl) ∙ kept _ _ _ z in
+        let a = ap (λ (r : Stepped). r .attempt) (k .start c refl) ∙ kept _ _ _ z in
         λ i. record { phase = p i; attempt = a i })
         (λ c h.
-        let z = other (ap (λ (r : Stepped). r .answer) (k .start c)) h in
-        ap (λ (r : Stepped). r .state) (k .start c) ∙ ap stateOf (kept _ _ _ z));
-    step = answers (λ c. step-in-order (stateIn (c .state)) (c .code)) (λ c. ap (λ (r : Stepped). r .answer) (k .step c))
+        let z = other (ap (λ (r : Stepped). r .answer) (k .start c refl)) h in
+        ap (λ (r : Stepped). r .state) (k .start c refl) ∙ ap stateOf (kept _ _ _ z));
+    step = answers (ordered .step) (λ c. ap (λ (r : Stepped). r .answer) (k .step c refl))
         (λ c h.
-        let z = other (ap (λ (r : Stepped). r .answer) (k .step c)) h in
-        let p = ap (λ (r : Stepped). r .phase) (k .step c) ∙ kept _ _ _ z in
-        let a = ap (λ (r : Stepped). r .attempt) (k .step c) ∙ kept _ _ _ z in
+        let z = other (ap (λ (r : Stepped). r .answer) (k .step c refl)) h in
+        let p = ap (λ (r : Stepped). r .phase) (k .step c refl) ∙ kept _ _ _ z in
+        let a = ap (λ (r : Stepped). r .attempt) (k .step c refl) ∙ kept _ _ _ z in
         λ i. record { phase = p i; attempt = a i })
         (λ c h.
-        let z = other (ap (λ (r : Stepped). r .answer) (k .step c)) h in
-        ap (λ (r : Stepped). r .state) (k .step c) ∙ ap stateOf (kept _ _ _ z));
-    run-codes = answers (λ c. state-in-order (stateIn (c .state))) codes-answer
+        let z = other (ap (λ (r : Stepped). r .answer) (k .step c refl)) h in
+        ap (λ (r : Stepped). r .state) (k .step c refl) ∙ ap stateOf (kept _ _ _ z));
+    run-codes = answers (ordered .run-codes) codes-answer
         (λ c h.
-        let e = k .run-codes c ∙ ap runFieldsOf (kept _ _ _ (other (codes-answer c) h)) in
-        λ i. record { opened = e i .opened; opened-at = e i .«opened_at»; ended = e i .ended; ended-at = e i .«ended_at» })
-        (λ c h. ap (λ (r : Run). r .state) (k .run-codes c ∙ ap runFieldsOf (kept _ _ _ (other (codes-answer c) h))));
+        let e = k .run-codes c refl ∙ ap runFieldsOf (kept _ _ _ (other (codes-answer c) h)) in
+        λ i. record { attempts = e i .attempts; opened-at = e i .«opened_at»; outcome = e i .outcome; ended-at = e i .«ended_at» })
+        (λ c h. ap (λ (r : Run). r .state) (k .run-codes c refl ∙ ap runFieldsOf (kept _ _ _ (other (codes-answer c) h))));
   }

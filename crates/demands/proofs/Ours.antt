@@ -12,8 +12,11 @@ use Rattle.octets.specs.Bits.{bitsOf, laid}
 use Rattle.layout.specs.Refusals.{checkRefusals}
 use Rattle.numbers.specs.Promises.{numbersOf, numberOctets}
 use Rattle.writer.specs.Promises.{frameOctets}
+use Rattle.checker.proofs.Laws.{checked}
 use Rattle.reader.specs.Promises.{foundOf, vendorOctets}
+use Rattle.host.proofs.FrameLaws.{frame-written}
 use Rattle.scrambler.specs.Ends.{tapOf}
+use Rattle.scrambler.specs.Promises.{given, clocked, around}
 use Rattle.recurrence.specs.Run.{runOf, afterOf}
 use Rattle.symbol.specs.Levels.{activationLevels, dataLevels, levelAt, placeIn, activationTests, dataTests, backTests}
 use Rattle.symbol.specs.Encoder.{codeOf, codesOf, x1, sentAfter, heldIn, registerOf, withRegister}
@@ -29,7 +32,7 @@ use Rattle.host.specs.Supervising.{stateIn, stateOf, runFieldsOf}
 use Rattle.demands.specs.Library.{none, Library}
 use Rattle.demands.specs.Contracts.{Keeps}
 use Rattle.demands.specs.One.{One, writeChecks, readChecks, runChecks, frameChecks, encodeChecks, encodeRunChecks, precodeChecks}
-use Rattle.demands.specs.Two.{Two, given, clocked, around}
+use Rattle.demands.specs.Two.{Two}
 use Rattle.demands.specs.Three.{Three, supervisor}
 use Rattle.demands.proofs.One.{one}
 use Rattle.demands.proofs.Two.{exact as exact-of}
@@ -41,11 +44,11 @@ pub demands : (x : Library) → Keeps x → One x × Two x × Three (supervisor 
 demands x k = (one x k, record { exact = exact-of x k; back = interwork x x (exact-of x k) (exact-of x k) }, three x k)
 
 -- the float that is y/131,072, and 0 with a refusal
-sample : ℤ → Float
+pub sample : ℤ → Float
 sample y = held (answer (shaperTests y)) (ofBits binary32 0) (div binary32 (ofInt binary32 y) (ofBits binary32 1207959552))
 
 -- what our functions compute, by the definitions that their contracts cite
-pub ours : Library
+unfoldable pub ours : Library
 ours = record {
   write = λ c. record { answer = answer (writeChecks c); numbers = none; memory = held (answer (writeChecks c)) (c .frame) (frameOctets (c .kind) (c .count) (numbersOf (c .coefficients)) (c .a) (c .b) (c .vendor)) };
   check = λ f. record { answer = answer (checkRefusals f); numbers = none; memory = none };
@@ -63,8 +66,8 @@ ours = record {
         answer = n;
         numbers = none;
         memory = record {
-          state = held n (c .state) (afterOf way (tapOf (c .end)) (c .state) (given c));
-          output = held n (c .output) (laid (c .output) 0 (runOf way (tapOf (c .end)) (c .state) (given c)));
+          state = held n (c .state) (afterOf way (tapOf (c .end)) (c .state) (given (c .input) (c .bits)));
+          output = held n (c .output) (laid (c .output) 0 (runOf way (tapOf (c .end)) (c .state) (given (c .input) (c .bits))));
         };
       };
   frame = λ way c.
@@ -73,8 +76,8 @@ ours = record {
         answer = n;
         numbers = none;
         memory = record {
-          state = held n (c .state) (afterOf way (tapOf (c .end)) (c .state) (clocked c));
-          output = held n (c .output) (around c (runOf way (tapOf (c .end)) (c .state) (clocked c)));
+          state = held n (c .state) (afterOf way (tapOf (c .end)) (c .state) (clocked (c .frame)));
+          output = held n (c .output) (around (c .frame) (runOf way (tapOf (c .end)) (c .state) (clocked (c .frame))));
         };
       };
   activation = λ b. record { answer = answer (activationTests b); numbers = held (answer (activationTests b)) (pos 0) (levelAt activationLevels b); memory = none };
@@ -118,7 +121,7 @@ ours = record {
   step = λ c. let r = stepOf (stateIn (c .state)) (c .code) in record { answer = r .answer; numbers = record { phase = r .phase; attempt = r .attempt }; memory = stateOf (r .state) };
   run-codes = λ c.
       let r = runFieldsOf (codesRun (stateIn (c .state)) (c .codes)) in
-      record { answer = r .answer; numbers = record { opened = r .opened; opened-at = r .«opened_at»; ended = r .ended; ended-at = r .«ended_at» }; memory = r .state };
+      record { answer = r .answer; numbers = record { attempts = r .attempts; opened-at = r .«opened_at»; outcome = r .outcome; ended-at = r .«ended_at» }; memory = r .state };
 }
 
 -- a state or the next, by its number
@@ -137,28 +140,28 @@ samples y = pick (answer (shaperTests y)) refl
 pub ours-keep : Keeps ours
 unfolding ours
 ours-keep = record {
-  write = λ c. record { answered = refl; left = refl };
-  check = λ f. refl;
-  read = λ c. record { found = refl; coefficients-left = refl; vendor-left = refl };
-  run = λ way c. record {
+  write = λ c h. frame-written refl refl;
+  check = λ f h. checked refl;
+  read = λ c h. record { found = refl; coefficients-left = refl; vendor-left = refl };
+  run = λ way c h. record {
     ran = record { answer = ours .run way c .answer; next = record { end = c .end; state = ours .run way c .memory .state } };
     crossed = refl;
     promise = record { answered = refl; next = refl; left = refl };
   };
-  frame = λ way c. record {
+  frame = λ way c h. record {
     ran = record { answer = ours .frame way c .answer; next = record { end = c .end; state = ours .frame way c .memory .state } };
     crossed = refl;
     promise = record { answered = refl; next = refl; left = refl };
   };
-  activation = λ b. record { answered = refl; level = refl };
-  level = λ b. record { answered = refl; level = refl };
-  code = λ l. record { answered = refl; code = refl };
-  encode = λ c. record { answered = refl; code = refl; level = refl; next = either-register (answer (encodeChecks c)) _ _ _ _ };
-  encode-run = λ c. record { answered = refl; written = refl; next = either-register (answer (encodeRunChecks c)) _ _ _ _ };
-  precode = λ c. record { answered = refl; written = refl; past = refl };
-  decode = λ c. record { answered = refl; written = refl; past = refl };
-  shape = λ y. record { answered = refl; value = samples y };
-  start = λ c. refl;
-  step = λ c. refl;
-  run-codes = λ c. refl;
+  activation = λ b h. record { answered = refl; level = refl };
+  level = λ b h. record { answered = refl; level = refl };
+  code = λ l h. record { answered = refl; code = refl };
+  encode = λ c h. record { answered = refl; code = refl; level = refl; next = either-register (answer (encodeChecks c)) _ _ _ _ };
+  encode-run = λ c h. record { answered = refl; written = refl; next = either-register (answer (encodeRunChecks c)) _ _ _ _ };
+  precode = λ c h. record { answered = refl; written = refl; past = refl };
+  decode = λ c h. record { answered = refl; written = refl; past = refl };
+  shape = λ y h. record { answered = refl; value = samples y };
+  start = λ c h. refl;
+  step = λ c h. refl;
+  run-codes = λ c h. refl;
 }

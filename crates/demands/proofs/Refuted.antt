@@ -1,79 +1,152 @@
--- No version that SCOPE rejects meets its demand. Assumes nothing.
-use mathlib.Core.Path.{_≡_, refl, sym, _∙_, subst}
+-- No supervisor that SCOPE rejects meets demand 3. Assumes nothing.
+use mathlib.Core.Path.{_≡_, refl, sym, ap, _∙_, subst}
 use mathlib.Core.Bool.{true, false, true≢false}
-use mathlib.Core.Logic.{_⊎_, inl, ⊎-elim}
-use mathlib.Core.List.{List, [], _∷_}
+use mathlib.Core.Logic.{_⊎_, inl, inr, ⊎-elim}
+use mathlib.Core.List.{List, [], _∷_, _++_}
 use Prim.Native.Nat.{ℕ, suc, _≤_}
 use native.Mathlib.Omega.{arith}
 use lib.Dec.{lit≤}
-use Rattle.startup.specs.Attempts.{at, count, ltu, need, shown, Uncut, StillOpen, fresh, told, OpensAt, opens}
-use Rattle.startup.specs.Three.{Make, Follows, phaseAt, replyTo}
+use lib.ListN.{length}
+use Rattle.supervisor.specs.Phases.{Hearing, Settling, Exception, inAttempt}
+use Rattle.startup.specs.Attempts.{at, count, ltuNeeds, ntuNeeds, need, shown, InTime, StillOpen, EndsInData, fresh, counted, OpensAt, opens}
+use Rattle.startup.specs.Stands.{Stands, trying}
+use Rattle.startup.specs.Scan.{Attempt, attempt, attempts, Listed}
+use Rattle.startup.specs.Make.{Make, Ran, phaseAt, replyTo, FirstShows, ranOver}
 use Rattle.startup.proofs.Counts.{in-order-le}
 use Rattle.startup.proofs.Fate.{open-now}
 use Rattle.startup.proofs.Simulates.{sound}
-use Rattle.demands.specs.Three.{Three}
-use Rattle.demands.specs.Wrong.{MovesOnce, NeverOpens, AllException, SameTicks, CountsCodes, GivesUp}
+use Rattle.startup.proofs.Stands.{stands-once, open-says}
+use Rattle.startup.proofs.Cases.{quiet, settles}
+use Rattle.startup.proofs.Agreement.{scan-agrees}
+use Rattle.demands.specs.Three.{Follows, Three}
+use Rattle.demands.specs.WrongSupervisors.{MovesOnce, NeverOpens, CallsException, SameTicks, CountsCodes, GivesUp, EndsTooLate, RejectedByThree}
 
--- ---- demand 3: the LTU, told by a 1, opens an attempt with a 2, whatever comes then
+-- ---- the LTU, told by a 1, opens an attempt with a 2, whatever comes then
 
-abbrev told-and-heard : List ℕ → List ℕ
+abbrev pub told-and-heard : List ℕ → List ℕ
 told-and-heard rest = 1 ∷ 2 ∷ rest
 
-opened : (rest : List ℕ) → OpensAt (ltu 2000) (told-and-heard rest) 2
-opened rest = opens {p = 1} (told {p = 0} fresh (lit≤ tt) refl refl refl) (record { since = lit≤ tt; lacking = refl; shows = refl }) refl
+pub opened : (rest : List ℕ) → OpensAt (ltuNeeds 2000) (told-and-heard rest) 2
+opened rest = opens {p = 1} (counted {p = 0} fresh (lit≤ tt) refl refl refl) (record { since = lit≤ tt; lacking = refl; shows = refl }) refl
 
--- and a code that is neither a 3 nor an 8 leaves it open
-still-open : (c : ℕ) → shown (need 0 (3 ∷ [])) (told-and-heard (c ∷ [])) 2 3 ≡ false → Uncut (told-and-heard (c ∷ [])) 2 3 → StillOpen (ltu 2000) (told-and-heard (c ∷ [])) 2 3
+-- it is open, and a code that is neither a 3 nor an 8 leaves it open
+now-open : (rest : List ℕ) → StillOpen (ltuNeeds 2000) (told-and-heard rest) 2 2
+now-open rest = open-now (ltuNeeds 2000) (sound false 2000 (lit≤ tt)) (told-and-heard rest) 2
+
+pub still-open : (c : ℕ) → shown (need Hearing 0 (3 ∷ [])) (told-and-heard (c ∷ [])) 2 3 ≡ false → InTime (told-and-heard (c ∷ [])) 2 3
+    → StillOpen (ltuNeeds 2000) (told-and-heard (c ∷ [])) 2 3
 still-open c f u =
     let l = told-and-heard (c ∷ []) in
     record {
       since = lit≤ tt;
-      uncut = u;
+      in-time = u;
       unshown = λ q h i.
-          let e : i .0 ≡ 2 = omega (arith, i .1 .since, in-order-le (ltu 2000 .others) l (suc (i .0)) q (i .2), h) in
-          true≢false (sym (subst (λ (p : ℕ). shown (need 0 (3 ∷ [])) l 2 (suc p) ≡ true) e (i .1 .shows)) ∙ f);
+          let e : i .0 ≡ 2 = omega (arith, i .1 .since, in-order-le (ltuNeeds 2000 .others) l (suc (i .0)) q (i .2), h) in
+          true≢false (sym (subst (λ (p : ℕ). shown (need Hearing 0 (3 ∷ [])) l 2 (suc p) ≡ true) e (i .1 .shows)) ∙ f);
     }
 
+-- ---- the NTU in the list of startup's cases ends in data mode
+
+abbrev good : List ℕ
+good = quiet ++ (5 ∷ 7 ∷ 9 ∷ 4 ∷ 7 ∷ [])
+
+good-ends : OpensAt (ntuNeeds 2000) good 301 × EndsInData (ntuNeeds 2000) good 301 2806
+good-ends =
+    let w = subst (Listed (ntuNeeds 2000) good (length good)) settles (scan-agrees 1 0 (lit≤ tt) (inl refl) good) .0 in
+    (w .opens, ⊎-elim (λ z. absurd (omega (arith, z .0))) (⊎-elim (λ z. z .2) (λ z. absurd (omega (arith, z .0)))) (w .fate))
+
 module _ {S : Type 0} (make : Make S) (demand : Three make) where
-  follows : (l : List ℕ) → Follows make (make .start 0 0) (ltu 2000) 4 l
-  follows l = demand 0 0 (lit≤ tt) (inl refl) l
+  abbrev s₀ : S
+  s₀ = make .start 0 0 .state
+
+  follows : (l : List ℕ) → Follows make s₀ (ltuNeeds 2000) Hearing l
+  follows l = demand 0 0 (lit≤ tt) (inl refl) .1 l
 
   -- at the place 1 the answer shows Hearing, and before it did not
-  shows : (rest : List ℕ) → (phaseAt make (make .start 0 0) (told-and-heard rest) 1 ≡ 4 → ⊥) × (replyTo make (make .start 0 0) (told-and-heard rest) 1 .phase ≡ 4)
+  shows : (rest : List ℕ) → (phaseAt make s₀ (told-and-heard rest) 1 ≡ Hearing → ⊥) × (replyTo make s₀ (told-and-heard rest) 1 .phase ≡ Hearing)
   shows rest = follows (told-and-heard rest) .opens 1 .0 (opened rest)
 
-  pub moves-once-refuted : MovesOnce make → ⊥
+  -- an 8 then is answered with Exception
+  moves-once-refuted : MovesOnce make → ⊥
   moves-once-refuted w =
-      let f = follows (told-and-heard []) in
-      shows [] .0 (sym (f .answered 0 (lit≤ tt) .1) ∙ sym (w (make .start 0 0) 1 2) ∙ shows [] .1)
+      let l = told-and-heard (8 ∷ []) in
+      let f = follows l in
+      let h : phaseAt make s₀ l 2 ≡ Hearing = sym (f .answered 1 (lit≤ tt) .1) ∙ shows (8 ∷ []) .1 in
+      let x : FirstShows make Exception s₀ l 2 2 = f .in-exception 2 2 (opened (8 ∷ [])) .1 (record { before = now-open (8 ∷ []); cut = inl refl }) in
+      let e : phaseAt make s₀ l 3 ≡ Exception = sym (f .answered 2 (lit≤ tt) .1) ∙ x .shows in
+      let stay = w .stays 0 0 (lit≤ tt) (inl refl) l 1 (λ q. shows (8 ∷ []) .0 (q ∙ h)) 3 (lit≤ tt) in
+      omega (arith, sym e ∙ stay ∙ h)
 
-  pub never-opens-refuted : NeverOpens make → ⊥
-  never-opens-refuted w = w _ _ .1 (shows [] .1)
+  never-opens-refuted : NeverOpens make → ⊥
+  never-opens-refuted w = w 0 0 (lit≤ tt) (inl refl) (told-and-heard []) 1 .1 (shows [] .1)
 
-  pub all-exception-refuted : AllException make → ⊥
-  all-exception-refuted w = omega (arith, sym (w _ _) ∙ shows [] .1)
+  calls-exception-refuted : CallsException make → ⊥
+  calls-exception-refuted w =
+      let f = demand 1 0 (lit≤ tt) (inl refl) .1 good in
+      w 1 0 (lit≤ tt) (inl refl) good 2806 (f .in-data 301 2806 (good-ends .0) .1 (good-ends .1) .shows)
 
-  -- the ticks that an answer to the code c then gives
-  first-ticks : (rest : List ℕ) → replyTo make (make .start 0 0) (told-and-heard rest) 1 .attempt ≡ 0
-  first-ticks rest = follows (told-and-heard rest) .ticks 2 1 (opened rest) (open-now (ltu 2000) (sound false 2000 (lit≤ tt)) (told-and-heard rest) 2) (lit≤ tt)
+  -- what the answer to the 2 shows, and what the answer to a code c after it does
+  first-ticks : (rest : List ℕ) → replyTo make s₀ (told-and-heard rest) 1 .attempt ≡ 0
+  first-ticks rest =
+      let l = told-and-heard rest in
+      open-says 0 0 (lit≤ tt) (inl refl) l 2 2 _ _ (opened rest) (now-open rest) (follows l .stands 1 (lit≤ tt)) .1
 
-  pub same-ticks-refuted : SameTicks make → ⊥
+  then : (c : ℕ) → c ≤ 8 → StillOpen (ltuNeeds 2000) (told-and-heard (c ∷ [])) 2 3
+      → (inAttempt (replyTo make s₀ (told-and-heard (c ∷ [])) 2 .phase) ≡ true)
+      × (replyTo make s₀ (told-and-heard (c ∷ [])) 2 .attempt ≡ count 0 (told-and-heard (c ∷ [])) 2 3)
+  then c h o = let l = told-and-heard (c ∷ []) in
+      open-says 0 0 (lit≤ tt) (inl refl) l 2 3 _ _ (opened (c ∷ [])) o (follows l .stands 2 h)
+
+  after-tick : StillOpen (ltuNeeds 2000) (told-and-heard (0 ∷ [])) 2 3
+  after-tick = still-open 0 refl (record { calm = refl; early = lit≤ tt })
+
+  after-4 : StillOpen (ltuNeeds 2000) (told-and-heard (4 ∷ [])) 2 3
+  after-4 = still-open 4 refl (record { calm = refl; early = lit≤ tt })
+
+  same-ticks-refuted : SameTicks make → ⊥
   same-ticks-refuted w =
       let l = told-and-heard (0 ∷ []) in
-      omega (arith, sym (w .1 _ _) ∙ first-ticks [], sym (w .1 _ _) ∙ follows l .ticks 2 2 (opened _) (still-open 0 refl (record { calm = refl; early = lit≤ tt })) (lit≤ tt))
+      let a = then 0 (lit≤ tt) after-tick in
+      omega (
+        arith,
+        sym (w .1 0 0 (lit≤ tt) (inl refl) l 1 (lit≤ tt) (ap inAttempt (shows (0 ∷ []) .1))) ∙ first-ticks (0 ∷ []),
+        sym (w .1 0 0 (lit≤ tt) (inl refl) l 2 (lit≤ tt) (a .0)) ∙ a .1,
+      )
 
-  pub counts-codes-refuted : CountsCodes make → ⊥
+  counts-codes-refuted : CountsCodes make → ⊥
   counts-codes-refuted w =
       let l = told-and-heard (4 ∷ []) in
-      omega (arith, first-ticks (4 ∷ []), sym (w _ 2 4) ∙ follows l .ticks 2 2 (opened _) (still-open 4 refl (record { calm = refl; early = lit≤ tt })) (lit≤ tt))
+      let a = then 4 (lit≤ tt) after-4 in
+      omega (
+        arith,
+        first-ticks (4 ∷ []),
+        sym (w 0 0 (lit≤ tt) (inl refl) l 1 (lit≤ tt) (lit≤ tt) (ap inAttempt (shows (4 ∷ []) .1)) (a .0)) ∙ a .1,
+      )
 
-  pub gives-up-refuted : GivesUp make → ⊥
-  gives-up-refuted w =
-      let l = told-and-heard (0 ∷ []) in
-      let e = follows l .in-exception 2 2 (opened _) .0 (record {
-        since = lit≤ tt;
-        shows = w _;
-        not-settling = λ q h i. absurd (omega arith);
-        not-exception = λ q h i. absurd (omega arith);
-      }) in
-      ⊎-elim (λ (z : at l 2 ≡ 8). omega (arith, z)) (λ (z : 15000 ≤ count 0 l 2 3). omega (arith, z)) (e .cut)
+  gives-up-refuted : GivesUp make → ⊥
+  gives-up-refuted (end, silence, h, t, l, m, p, o, x, c, e) =
+      let s = demand end silence h t .1 l .stands p (subst (λ (z : ℕ). z ≤ 8) (sym c) (lit≤ tt)) in
+      true≢false (sym (open-says end silence h t l m (suc p) _ _ o x s .0) ∙ ap inAttempt e)
+
+  ends-too-late-refuted : EndsTooLate make → ⊥
+  ends-too-late-refuted (end, silence, h, t, l, m, n, o, i, j, none) =
+      let w = demand end silence h t .1 l .ends m n o i j in
+      ⊎-elim (λ f. none (w .0) (f .since) (w .1) .0 (f .shows)) (λ f. none (w .0) (f .since) (w .1) .1 (f .shows)) (w .2)
+
+  run-answer : (s : S) (log : List Attempt) → ranOver s log .answer ≡ 0
+  run-answer s [] = refl
+  run-answer s (a ∷ log) = refl
+
+  pub rejected-by-three : RejectedByThree make
+  rejected-by-three = record {
+    refuses-starts = λ w. w 0 0 (demand 0 0 (lit≤ tt) (inl refl) .0 .answer);
+    refuses-steps = λ w. w s₀ 0 (follows (0 ∷ []) .answered 0 (lit≤ tt) .0);
+    refuses-lists = λ w. let r = follows [] .run in w s₀ [] (ap (λ (z : Ran S). z .answer) (r .2) ∙ run-answer _ (r .0));
+    moves-once = moves-once-refuted;
+    never-opens = never-opens-refuted;
+    calls-exception = calls-exception-refuted;
+    same-ticks = same-ticks-refuted;
+    counts-codes = counts-codes-refuted;
+    gives-up = gives-up-refuted;
+    ends-too-late = ends-too-late-refuted;
+  }

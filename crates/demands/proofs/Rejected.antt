@@ -1,4 +1,4 @@
--- No library that SCOPE rejects meets demands 1 and 2. Assumes nothing.
+-- No library that SCOPE rejects meets demand 2. Assumes nothing.
 use mathlib.Core.Path.{_≡_, refl, sym, ap, _∙_}
 use mathlib.Core.Bool.{not}
 use mathlib.Core.List.{List, [], _∷_, reverse}
@@ -6,7 +6,7 @@ use Prim.Native.Nat.{ℕ, zero, suc}
 use native.Mathlib.Omega.{arith}
 use borrow.Author.Tests.{eq-eqb}
 use lib.Dec.{lit≤}
-use lib.IntN.{pos}
+use lib.IntN.{ℤ, pos}
 use lib.ListN.{length, drop, getD, replicate}
 use Rattle.answer.specs.Answer.{answer}
 use Rattle.answer.proofs.Laws.{passed}
@@ -14,7 +14,7 @@ use Rattle.octets.specs.Bits.{digitsOf, valueOf, bitsOf, octetsOf, laid}
 use Rattle.octets.specs.Signed.{signedOf, twosOf, numberBits, numbersIn}
 use Rattle.octets.proofs.Digits.{take-bits}
 use Rattle.octets.proofs.Laws.{bits-bits, octets-length}
-use Rattle.layout.specs.Places.{wordA, wordB}
+use Rattle.layout.specs.Places.{aField, bField}
 use Rattle.layout.specs.Frame.{trainingSync, used, trainingBits, finalBits, fieldOf}
 use Rattle.layout.specs.Refusals.{writeRefusals, bitRefusals, checkRefusals}
 use Rattle.layout.proofs.Laws.{used-length, training-length}
@@ -22,19 +22,21 @@ use Rattle.layout.proofs.Fields.{a-field, b-field}
 use Rattle.layout.proofs.RoundTrip.{training-laid, final-laid, final-answers}
 use Rattle.numbers.specs.Promises.{numbersOf, numberOctets}
 use Rattle.recurrence.specs.Run.{Way, scramble, descramble, runOf}
+use Rattle.scrambler.specs.Promises.{given, around}
 use Rattle.recurrence.proofs.Exactly.{scrambles-run, descrambles-run}
 use Rattle.ranges.specs.Ranges.{every}
 use Rattle.symbol.specs.Levels.{placeIn}
-use Rattle.symbol.specs.Encoder.{symbolsIn}
-use Rattle.host.specs.declared.supervising.Supervisor.{Supervisor}
+use Rattle.symbol.specs.Encoder.{symbolsIn, onesLeft, sentAfter, codesOf}
 use Rattle.precoder.specs.Precoder.{exactSum}
 use Rattle.precoder.specs.Runs.{outputsOf}
 use Rattle.precoder.proofs.Back.{sent-unique, outputs-sent}
-use Rattle.demands.specs.Library.{Outcome, None, WriteCall, ReadCall, Fields, Rooms, RunCall, FrameCall, Line, EncodeCall, EncodeRunCall, PrecodeCall, StartCall, StepCall, CodesCall, Signal, Library}
-use Rattle.demands.specs.One.{One, writeChecks, frameChecks, precodeChecks}
+use Rattle.demands.specs.Library.{Outcome, None, none, WriteCall, ReadCall, Fields, Rooms, RunCall, FrameCall, Line, EncodeCall, EncodeRunCall, Symbol}
+use Rattle.demands.specs.Library.{Codes, PrecodeCall, Signal, Library}
+use Rattle.demands.specs.One.{writeChecks, frameChecks, encodeRunChecks, precodeChecks}
 use Rattle.demands.specs.Two.{Right, Octets, done, Two}
 use Rattle.demands.proofs.Fit.{many}
-use Rattle.demands.specs.Wrong.{NoneRefuses, OneFrame, WriterIdle, ReaderIdle, ScramblerIdle, PrecoderIdle, CopiesTheRest, TurnsA, TurnsB}
+use Rattle.demands.specs.WrongLibraries.{OneFrame, FrameUnwritten, CoefficientsUnwritten, VendorUnwritten, RunUnwritten, WholeUnwritten, CodesUnwritten}
+use Rattle.demands.specs.WrongLibraries.{PrecodedUnwritten, DecodedUnwritten, CopiesTheRest, TurnsA, TurnsB, RejectedByTwo}
 
 -- ---- calls to which no check applies
 
@@ -82,14 +84,15 @@ six-ones = record { end = 0; state = 0; input = 255 ∷ []; bits = 6; output = 0
 abbrev ones : List ℕ
 ones = 1 ∷ 1 ∷ 1 ∷ 1 ∷ 1 ∷ 1 ∷ []
 
-abbrev empty-frame : FrameCall
-empty-frame = record { end = 0; state = 0; frame = zeros 529; output = zeros 529 }
+-- a frame of zeros, over a room that begins with a one
+abbrev over-one : FrameCall
+over-one = record { end = 0; state = 0; frame = zeros 529; output = 1 ∷ zeros 528 }
 
-frame-right : Right (frameChecks empty-frame)
+over-right : Right (frameChecks over-one)
 unfolding bitsOf digitsOf valueOf
-frame-right = refl
+over-right = refl
 
--- a final frame, and a card that is ready
+-- a final frame
 abbrev frame-written : List ℕ
 frame-written = octetsOf 529 (finalBits (zeros 16))
 
@@ -98,8 +101,13 @@ check-right =
     passed 1 (bitRefusals (bitsOf frame-written)) (ap not (eq-eqb _ _ (octets-length 529 (finalBits (zeros 16)))))
     ∙ ap (λ (b : List ℕ). answer (bitRefusals b)) (final-laid (zeros 16) refl) ∙ final-answers (zeros 16) refl .0
 
-abbrev ready : Supervisor
-ready = record { end = 0; phase = 0; ticks = 0; attempt = 0; silence = 2000; converged = 0; seen = 0 }
+-- X3 alone, over a code of 0
+abbrev one-code : EncodeRunCall
+one-code = record { a = 0; b = 0; register = 0; symbols = 1 ∷ []; codes = 0 ∷ [] }
+
+one-code-right : Right (encodeRunChecks one-code)
+unfolding symbolsIn
+one-code-right = refl
 
 -- one symbol, x = 1, with no coefficient and no past
 abbrev one-symbol : PrecodeCall
@@ -108,6 +116,10 @@ one-symbol = record { coefficients = zeros 720; history = zeros 720; symbols = 1
 symbol-right : Right (precodeChecks one-symbol)
 unfolding numbersOf numbersIn signedOf bitsOf digitsOf valueOf every
 symbol-right = refl
+
+symbol-small : Octets (1 ∷ 0 ∷ 0 ∷ 0 ∷ [])
+symbol-small zero = lit≤ tt
+symbol-small (suc i) = zeros-small 3 i
 
 module _ (x : Library) (two : Two x) where
   -- what a final frame gives when it is read
@@ -123,7 +135,7 @@ module _ (x : Library) (two : Two x) where
       let e = two .exact .frames .final (final v f) refl (final-right v f l m) in
       (ap (λ (r : Outcome None (List ℕ)). r .answer) e, ap (λ (r : Outcome None (List ℕ)). r .memory) e)
 
-  pub one-frame-refuted : OneFrame x → ⊥
+  one-frame-refuted : OneFrame x → ⊥
   one-frame-refuted w =
       let z = written (zeros 16) (zeros 529) refl refl in
       let u = written one-first (zeros 529) refl refl in
@@ -133,43 +145,60 @@ module _ (x : Library) (two : Two x) where
       ∙ ap (λ (f : List ℕ). x .read (record { frame = f; coefficients = zeros 720; vendor = zeros 16 }) .memory .vendor) same
       ∙ final-read one-first (zeros 529) (zeros 720) (zeros 16) refl refl one-small refl refl .1)
 
-  pub writer-idle-refuted : WriterIdle x → ⊥
-  writer-idle-refuted w =
-      differ 528
-      (sym (w (final (zeros 16) (zeros 529))) ∙ written (zeros 16) (zeros 529) refl refl .1
-      ∙ sym (written (zeros 16) (1 ∷ zeros 528) refl refl .1) ∙ w (final (zeros 16) (1 ∷ zeros 528)))
+  frame-refuted : FrameUnwritten x → ⊥
+  frame-refuted w =
+      let z = written (zeros 16) (zeros 529) refl refl in
+      let u = written (zeros 16) (1 ∷ zeros 528) refl refl in
+      differ 528 (sym (w (final (zeros 16) (zeros 529)) (z .0)) ∙ z .1 ∙ sym (u .1) ∙ w (final (zeros 16) (1 ∷ zeros 528)) (u .0))
 
-  pub reader-idle-refuted : ReaderIdle x → ⊥
-  reader-idle-refuted w =
-      differ 15 (sym (final-read (zeros 16) (zeros 529) (zeros 720) one-first refl refl (zeros-small 16) refl refl .1) ∙ w _)
+  vendor-refuted : VendorUnwritten x → ⊥
+  vendor-refuted w =
+      let r = final-read (zeros 16) (zeros 529) (zeros 720) one-first refl refl (zeros-small 16) refl refl in
+      differ 15 (sym (r .1) ∙ w _ (r .0))
 
   -- a training frame with A = 1 and B = 1 is read so, and its words' bits are 1 and twenty zeros
-  trained : ReadCall
-  trained = record { frame = x .write training .memory; coefficients = zeros 720; vendor = zeros 16 }
+  trained : List ℕ → ReadCall
+  trained room = record { frame = x .write training .memory; coefficients = room; vendor = zeros 16 }
 
-  read-trained : x .read trained ≡ done (record { kind = 0; a = 1; b = 1 }) (record { coefficients = numberOctets (used 128 (numbersOf (zeros 720))); vendor = zeros 16 })
+  read-trained : (room : List ℕ) → length room ≡ 720
+      → x .read (trained room) ≡ done (record { kind = 0; a = 1; b = 1 })
+      (record { coefficients = numberOctets (used 128 (numbersOf (zeros 720))); vendor = zeros 16 })
   unfolding trained
-  read-trained = two .back .training training (zeros 720) (zeros 16) refl training-right (zeros-small 16) refl refl
+  read-trained room l = two .back .training training room (zeros 16) refl training-right (zeros-small 16) l refl
 
-  words-are : (fieldOf wordA (bitsOf (trained .frame)) ≡ 1 ∷ zeros 20) × (fieldOf wordB (bitsOf (trained .frame)) ≡ 1 ∷ zeros 20)
-  unfolding trained trainingBits digitsOf
+  first-octet : getD (numberOctets (used 128 (numbersOf (zeros 720)))) 0 0 ≡ 0
+  unfolding numbersOf numbersIn signedOf bitsOf digitsOf valueOf numberOctets numberBits twosOf octetsOf
+  first-octet = refl
+
+  coefficients-refuted : CoefficientsUnwritten x → ⊥
+  unfolding trained
+  coefficients-refuted w =
+      let room : List ℕ = 1 ∷ zeros 719 in
+      let r = read-trained room refl in
+      let e = sym (w (trained room) (ap (λ (o : Outcome Fields Rooms). o .answer) r)) ∙ ap (λ (o : Outcome Fields Rooms). o .memory .coefficients) r in
+      omega (arith, ap (λ (l : List ℕ). getD l 0 0) e ∙ first-octet)
+
+  words-are : (fieldOf aField (bitsOf (x .write training .memory)) ≡ 1 ∷ zeros 20) × (fieldOf bField (bitsOf (x .write training .memory)) ≡ 1 ∷ zeros 20)
+  unfolding trainingBits digitsOf
   words-are =
       let cs = numbersOf (zeros 720) in
       let U = used-length 128 cs (lit≤ tt) (many (zeros 720) refl) in
       let e = ap (λ (o : Outcome None (List ℕ)). bitsOf (o .memory)) (two .exact .frames .training training refl training-right)
       ∙ training-laid 128 cs 1 1 (zeros 16) (lit≤ tt) (many (zeros 720) refl) refl in (
-        ap (fieldOf wordA) e ∙ a-field (used 128 cs) 1 1 (zeros 16) (zeros 67) U refl refl trainingSync training-length,
-        ap (fieldOf wordB) e ∙ b-field (used 128 cs) 1 1 (zeros 16) (zeros 67) U refl refl trainingSync training-length,
+        ap (fieldOf aField) e ∙ a-field (used 128 cs) 1 1 (zeros 16) (zeros 67) U refl refl trainingSync training-length,
+        ap (fieldOf bField) e ∙ b-field (used 128 cs) 1 1 (zeros 16) (zeros 67) U refl refl trainingSync training-length,
       )
 
   -- last bit first they would be 1,048,576
-  pub turned-refuted : (TurnsA x → ⊥) × (TurnsB x → ⊥)
-  unfolding valueOf
+  turned-refuted : (TurnsA x → ⊥) × (TurnsB x → ⊥)
+  unfolding trained valueOf
   turned-refuted =
-      let r = ap (λ (o : Outcome Fields Rooms). o .answer) read-trained in
-      let k = ap (λ (o : Outcome Fields Rooms). o .numbers .kind) read-trained in (
-        λ w. omega (arith, sym (ap (λ (o : Outcome Fields Rooms). o .numbers .a) read-trained) ∙ w trained r k ∙ ap (λ (l : List ℕ). valueOf (reverse l)) (words-are .0)),
-        λ w. omega (arith, sym (ap (λ (o : Outcome Fields Rooms). o .numbers .b) read-trained) ∙ w trained r k ∙ ap (λ (l : List ℕ). valueOf (reverse l)) (words-are .1)),
+      let c = trained (zeros 720) in
+      let t = read-trained (zeros 720) refl in
+      let r = ap (λ (o : Outcome Fields Rooms). o .answer) t in
+      let k = ap (λ (o : Outcome Fields Rooms). o .numbers .kind) t in (
+        λ w. omega (arith, sym (ap (λ (o : Outcome Fields Rooms). o .numbers .a) t) ∙ w c r k ∙ ap (λ (l : List ℕ). valueOf (reverse l)) (words-are .0)),
+        λ w. omega (arith, sym (ap (λ (o : Outcome Fields Rooms). o .numbers .b) t) ∙ w c r k ∙ ap (λ (l : List ℕ). valueOf (reverse l)) (words-are .1)),
       )
 
   -- five ones and a zero come out, scrambled and descrambled
@@ -184,12 +213,38 @@ module _ (x : Library) (two : Two x) where
       let s = descrambles-run 5 (lit≤ tt) (lit≤ tt) 0 ones (w .0) (take-bits 6 (bitsOf (255 ∷ [])) (bits-bits (255 ∷ []))) (w .1) in
       (ap (λ (r : Outcome None Line). r .answer) (w .2), ap (λ (r : Outcome None Line). r .memory .output) (w .2) ∙ ap (laid (0 ∷ []) 0) s)
 
-  pub scrambler-idle-refuted : (way : Way) → ScramblerIdle x way → ⊥
-  scrambler-idle-refuted way w = omega (arith, ap (λ (l : List ℕ). getD l 0 0) (sym (w six-ones) ∙ scrambled way .1))
+  run-refuted : (way : Way) → RunUnwritten way x → ⊥
+  run-refuted way w = omega (arith, ap (λ (l : List ℕ). getD l 0 0) (sym (w six-ones (scrambled way .0)) ∙ scrambled way .1))
 
-  pub copies-refuted : CopiesTheRest x → ⊥
+  copies-refuted : CopiesTheRest x → ⊥
   unfolding bitsOf digitsOf
-  copies-refuted w = omega (arith, sym (ap (λ (l : List ℕ). getD (bitsOf l) 5 0) (scrambled scramble .1)) ∙ w six-ones 5 (lit≤ tt) (lit≤ tt))
+  copies-refuted w =
+      omega (arith, sym (ap (λ (l : List ℕ). getD (given l 6) 5 0) (scrambled scramble .1)) ∙ w .rest six-ones 5 (scrambled scramble .0) (lit≤ tt) (lit≤ tt))
+
+  -- of a frame of zeros the first octet, which is sync, comes out as it went in
+  sync-out : (s : List ℕ) → getD (around (zeros 529) s) 0 0 ≡ 0
+  unfolding octetsOf bitsOf digitsOf valueOf
+  sync-out s = refl
+
+  framed : (way : Way) → (x .frame way over-one .answer ≡ 0) × (getD (x .frame way over-one .memory .output) 0 0 ≡ 0)
+  framed scramble =
+      let w = two .exact .scrambling .frame-scrambled over-one over-right in
+      (ap (λ (r : Outcome None Line). r .answer) (w .2), ap (λ (r : Outcome None Line). getD (r .memory .output) 0 0) (w .2) ∙ sync-out (w .0))
+  framed descramble =
+      let w = two .exact .scrambling .frame-descrambled over-one over-right in
+      (ap (λ (r : Outcome None Line). r .answer) (w .2), ap (λ (r : Outcome None Line). getD (r .memory .output) 0 0) (w .2) ∙ sync-out (w .0))
+
+  whole-refuted : (way : Way) → WholeUnwritten way x → ⊥
+  whole-refuted way w = omega (arith, sym (ap (λ (l : List ℕ). getD l 0 0) (w over-one (framed way .0))) ∙ framed way .1)
+
+  encoded : x .encode-run one-code ≡ done none (record { register = 0; codes = 8 ∷ [] })
+  unfolding codesOf sentAfter onesLeft digitsOf valueOf
+  encoded = two .exact .symbols .encode-run one-code one-code-right
+
+  codes-refuted : CodesUnwritten x → ⊥
+  codes-refuted w =
+      let e = sym (w one-code (ap (λ (r : Outcome None Codes). r .answer) encoded)) ∙ ap (λ (r : Outcome None Codes). r .memory .codes) encoded in
+      omega (arith, ap (λ (l : List ℕ). getD l 0 0) e)
 
   precoded : (x .precode one-symbol .answer ≡ 0) × (x .precode one-symbol .memory .room ≡ 1 ∷ 0 ∷ 0 ∷ 0 ∷ [])
   unfolding numbersOf numbersIn signedOf bitsOf digitsOf valueOf numberOctets numberBits twosOf octetsOf outputsOf exactSum
@@ -199,26 +254,45 @@ module _ (x : Library) (two : Two x) where
       let s = sent-unique cs cs (pos 1 ∷ []) (w .0) (outputsOf cs cs (pos 1 ∷ [])) (w .1) (outputs-sent cs cs (pos 1 ∷ [])) in
       (ap (λ (r : Outcome None Signal). r .answer) (w .2), ap (λ (r : Outcome None Signal). r .memory .room) (w .2) ∙ ap numberOctets s)
 
-  pub precoder-idle-refuted : PrecoderIdle x → ⊥
-  precoder-idle-refuted w = omega (arith, ap (λ (l : List ℕ). getD l 0 0) (sym (w one-symbol) ∙ precoded .1))
+  precoded-refuted : PrecodedUnwritten x → ⊥
+  precoded-refuted w = omega (arith, ap (λ (l : List ℕ). getD l 0 0) (sym (w one-symbol (precoded .0)) ∙ precoded .1))
 
-  pub none-refuses : One x → NoneRefuses x
+  decoded : x .decode (record { coefficients = zeros 720; history = zeros 720; symbols = x .precode one-symbol .memory .room; room = zeros 4 })
+      ≡ done none (record { history = x .precode one-symbol .memory .history; room = 1 ∷ 0 ∷ 0 ∷ 0 ∷ [] })
+  decoded = two .back .precoded one-symbol (zeros 4) symbol-right symbol-small refl
+
+  decoded-refuted : DecodedUnwritten x → ⊥
+  decoded-refuted w =
+      let e = sym (w _ (ap (λ (r : Outcome None Signal). r .answer) decoded)) ∙ ap (λ (r : Outcome None Signal). r .memory .room) decoded in
+      omega (arith, ap (λ (l : List ℕ). getD l 0 0) e)
+
+  pub rejected-by-two : RejectedByTwo x
   unfolding placeIn symbolsIn
-  none-refuses one = record {
-    write = λ w. w (final (zeros 16) (zeros 529)) (written (zeros 16) (zeros 529) refl refl .0);
-    check = λ w. w frame-written (one .check .first frame-written ∙ check-right);
-    read = λ w. w _ (final-read (zeros 16) (zeros 529) (zeros 720) (zeros 16) refl refl (zeros-small 16) refl refl .0);
-    run = λ way w. w six-ones (scrambled way .0);
-    frame = λ way w. w empty-frame (one .frame way .first empty-frame ∙ frame-right);
-    activation = λ w. w 0 (one .activation .first 0);
-    level = λ w. w 0 (one .level .first 0);
-    code = λ w. w (pos 1) (one .code .first (pos 1));
-    encode = λ w. let c : EncodeCall = record { a = 0; b = 0; register = 0; symbol = 0 } in w c (one .encode .first c);
-    encode-run = λ w. let c : EncodeRunCall = record { a = 0; b = 0; register = 0; symbols = []; codes = [] } in w c (one .encode-run .first c);
-    precode = λ w. w one-symbol (precoded .0);
-    decode = λ w. w one-symbol (one .decode .first one-symbol ∙ symbol-right);
-    shape = λ w. w (pos 0) (one .shape .first (pos 0));
-    start = λ w. let c : StartCall = record { end = 0; silence = 0 } in w c (one .start .first c);
-    step = λ w. let c : StepCall = record { state = ready; code = 0 } in w c (one .step .first c);
-    run-codes = λ w. let c : CodesCall = record { state = ready; codes = [] } in w c (one .run-codes .first c);
+  rejected-by-two = record {
+    refuses-writing = λ w. w (final (zeros 16) (zeros 529)) (written (zeros 16) (zeros 529) refl refl .0);
+    refuses-checking = λ w. w frame-written (ap (λ (o : Outcome None None). o .answer) (two .exact .frames .checked frame-written check-right));
+    refuses-reading = λ w. w _ (final-read (zeros 16) (zeros 529) (zeros 720) (zeros 16) refl refl (zeros-small 16) refl refl .0);
+    refuses-runs = λ way w. w six-ones (scrambled way .0);
+    refuses-frames = λ way w. w over-one (framed way .0);
+    refuses-activation = λ w. w 0 (ap (λ (o : Outcome ℤ None). o .answer) (two .exact .symbols .activation 0 refl));
+    refuses-levels = λ w. w 0 (ap (λ (o : Outcome ℤ None). o .answer) (two .exact .symbols .level 0 refl));
+    refuses-codes = λ w. w _ (ap (λ (o : Outcome ℕ None). o .answer) (two .exact .symbols .code 0 (lit≤ tt)));
+    refuses-encoding = λ w. let c : EncodeCall = record { a = 0; b = 0; register = 0; symbol = 0 } in
+        w c (ap (λ (o : Outcome Symbol ℕ). o .answer) (two .exact .symbols .encode c refl));
+    refuses-encoder-runs = λ w. w one-code (ap (λ (r : Outcome None Codes). r .answer) encoded);
+    refuses-precoding = λ w. w one-symbol (precoded .0);
+    refuses-decoding = λ w. w _ (ap (λ (r : Outcome None Signal). r .answer) decoded);
+    refuses-shaping = λ w. w (pos 0) (two .exact .precoding .shaped (pos 0) refl .0);
+    one-frame = one-frame-refuted;
+    frame-unwritten = frame-refuted;
+    coefficients-unwritten = coefficients-refuted;
+    vendor-unwritten = vendor-refuted;
+    run-unwritten = run-refuted;
+    whole-unwritten = whole-refuted;
+    codes-unwritten = codes-refuted;
+    precoded-unwritten = precoded-refuted;
+    decoded-unwritten = decoded-refuted;
+    copies-the-rest = copies-refuted;
+    turns-a = turned-refuted .0;
+    turns-b = turned-refuted .1;
   }

@@ -1,5 +1,9 @@
--- A library keeps the contracts of ours: what it gives for a call is what the `ensures` of the exported function promises, by the predicate cited there.
--- The prover shows it of ours for all that C can hand in; of lists and numbers that C cannot, ours is taken to give what the same definitions do.
+-- A library keeps the contracts of ours: what it gives for a call is what the `ensures` of the exported function promises, by the predicate cited
+-- there and argument by argument (crates/host/src; tests/contracts holds the two together). The prover shows it of ours for every call that C can
+-- make, `KeepsFor fromC`. The demands speak of all numbers and lists, `Keeps`. The step between is a theorem, `widened`: a library that keeps the
+-- contracts for what C can hand in does there what a library does that keeps them for every call. So C sees no more and no less than the demands.
+use mathlib.Core.Path.{_≡_}
+use mathlib.Core.Bool.{true}
 use mathlib.Core.List.{List}
 use Prim.Native.Nat.{ℕ}
 use lib.IntN.{ℤ}
@@ -10,32 +14,109 @@ use Rattle.host.specs.Frames.{FrameWritten, FrameRead}
 use Rattle.host.specs.Scrambling.{ScrambledRun, ScrambledFrame}
 use Rattle.host.specs.Symbols.{ActivationLevelGiven, DataLevelGiven, CodeGiven, SymbolEncoded, SymbolsEncoded, SampleShaped}
 use Rattle.host.specs.Supervising.{Started, StateStepped, CodesRun}
-use Rattle.demands.specs.Library.{Library, WriteCall, ReadCall, RunCall, FrameCall, EncodeCall, EncodeRunCall, PrecodeCall, StartCall, StepCall, CodesCall}
+use Rattle.demands.specs.Library.{Library, WriteCall, ReadCall, RunCall, FrameCall, EncodeCall, EncodeRunCall, PrecodeCall, StartCall, StepCall}
+use Rattle.demands.specs.Library.{CodesCall}
+use Rattle.demands.specs.FromC.{Calls, fromC, everyCall}
 
--- each function keeps the contract of the exported one
-pub record Keeps (x : Library) : Type 0 where
-  pub write : (c : WriteCall) → FrameWritten (c .kind) (c .count) (c .coefficients) (c .a) (c .b) (c .vendor) (c .frame) (x .write c .answer) (x .write c .memory)
-  pub check : (frame : List ℕ) → Checked frame (x .check frame .answer)
-  pub read : (c : ReadCall) → FrameRead (c .frame) (c .coefficients) (c .vendor)
+-- What no demand speaks of, since a start is a constant and a bit a run of one: their own contracts say all of it.
+-- outside: sdsl_scrambler_start, sdsl_scramble_bit, sdsl_descramble_bit, sdsl_encoder_start, sdsl_history_start
+
+-- each function keeps the contract of the exported one, for the calls that are meant. Above each field the exported function with its arguments;
+-- where a call's field has another name, argument = field
+pub record KeepsFor (calls : Calls) (x : Library) : Type 0 where
+  -- sdsl_frame_write(kind, count, coefficients, a, b, vendor, frame)
+  pub write : (c : WriteCall) → calls .write c ≡ true → FrameWritten (c .kind) (c .count) (c .coefficients) (c .a) (c .b) (c .vendor) (c .frame)
+      (x .write c .answer) (x .write c .memory)
+  -- sdsl_frame_check(frame)
+  pub check : (frame : List ℕ) → calls .check frame ≡ true → Checked frame (x .check frame .answer)
+  -- sdsl_frame_read(frame, coefficients, vendor)
+  pub read : (c : ReadCall) → calls .read c ≡ true → FrameRead (c .frame) (c .coefficients) (c .vendor)
       (record { answer = x .read c .answer; kind = x .read c .numbers .kind; a = x .read c .numbers .a; b = x .read c .numbers .b })
       (x .read c .memory .coefficients) (x .read c .memory .vendor)
-  pub run : (way : Way) (c : RunCall) → ScrambledRun way (c .end) (c .state) (c .input) (c .bits) (c .output)
+  -- sdsl_scramble(end, state, input, bits, output), sdsl_descramble(end, state, input, bits, output)
+  pub run : (way : Way) (c : RunCall) → calls .run c ≡ true → ScrambledRun way (c .end) (c .state) (c .input) (c .bits) (c .output)
       (record { answer = x .run way c .answer; state = x .run way c .memory .state }) (x .run way c .memory .output)
-  pub frame : (way : Way) (c : FrameCall) → ScrambledFrame way (c .end) (c .state) (c .frame) (c .output)
+  -- sdsl_scramble_frame(end, state, frame, output), sdsl_descramble_frame(end, state, frame, output)
+  pub frame : (way : Way) (c : FrameCall) → calls .frame c ≡ true → ScrambledFrame way (c .end) (c .state) (c .frame) (c .output)
       (record { answer = x .frame way c .answer; state = x .frame way c .memory .state }) (x .frame way c .memory .output)
-  pub activation : (bit : ℕ) → ActivationLevelGiven bit (record { answer = x .activation bit .answer; sixteenths = x .activation bit .numbers })
-  pub level : (code : ℕ) → DataLevelGiven code (record { answer = x .level code .answer; sixteenths = x .level code .numbers })
-  pub code : (level : ℤ) → CodeGiven level (record { answer = x .code level .answer; code = x .code level .numbers })
-  pub encode : (c : EncodeCall) → SymbolEncoded (c .a) (c .b) (c .register) (c .symbol)
-      (record { answer = x .encode c .answer; code = x .encode c .numbers .code; sixteenths = x .encode c .numbers .sixteenths; register = x .encode c .memory })
-  pub encode-run : (c : EncodeRunCall) → SymbolsEncoded (c .a) (c .b) (c .register) (c .symbols) (c .codes)
+  -- sdsl_activation_level(bit)
+  pub activation : (bit : ℕ) → calls .activation bit ≡ true → ActivationLevelGiven bit
+      (record { answer = x .activation bit .answer; sixteenths = x .activation bit .numbers })
+  -- sdsl_data_level(code)
+  pub level : (code : ℕ) → calls .level code ≡ true → DataLevelGiven code
+      (record { answer = x .level code .answer; sixteenths = x .level code .numbers })
+  -- sdsl_level_code(sixteenths)
+  pub code : (sixteenths : ℤ) → calls .code sixteenths ≡ true → CodeGiven sixteenths
+      (record { answer = x .code sixteenths .answer; code = x .code sixteenths .numbers })
+  -- sdsl_encode(a, b, register, symbol)
+  pub encode : (c : EncodeCall) → calls .encode c ≡ true → SymbolEncoded (c .a) (c .b) (c .register) (c .symbol)
+      (record {
+        answer = x .encode c .answer;
+        code = x .encode c .numbers .code;
+        sixteenths = x .encode c .numbers .sixteenths;
+        register = x .encode c .memory;
+      })
+  -- sdsl_encode_run(a, b, register, symbols, codes)
+  pub encode-run : (c : EncodeRunCall) → calls .encode-run c ≡ true → SymbolsEncoded (c .a) (c .b) (c .register) (c .symbols) (c .codes)
       (record { answer = x .encode-run c .answer; register = x .encode-run c .memory .register }) (x .encode-run c .memory .codes)
-  pub precode : (c : PrecodeCall) → PrecodesRun (c .coefficients) (c .history) (c .symbols) (c .room) (x .precode c .answer) (x .precode c .memory .history) (x .precode c .memory .room)
-  pub decode : (c : PrecodeCall) → DecodesRun (c .coefficients) (c .history) (c .symbols) (c .room) (x .decode c .answer) (x .decode c .memory .history) (x .decode c .memory .room)
-  pub shape : (y : ℤ) → SampleShaped y (record { answer = x .shape y .answer; value = x .shape y .numbers })
-  pub start : (c : StartCall) → Started (c .end) (c .silence)
-      (record { answer = x .start c .answer; phase = x .start c .numbers .phase; attempt = x .start c .numbers .attempt; state = x .start c .memory })
-  pub step : (c : StepCall) → StateStepped (c .state) (c .code)
-      (record { answer = x .step c .answer; phase = x .step c .numbers .phase; attempt = x .step c .numbers .attempt; state = x .step c .memory })
-  pub run-codes : (c : CodesCall) → CodesRun (c .state) (c .codes)
-      (record { answer = x .run-codes c .answer; opened = x .run-codes c .numbers .opened; «opened_at» = x .run-codes c .numbers .opened-at; ended = x .run-codes c .numbers .ended; «ended_at» = x .run-codes c .numbers .ended-at; state = x .run-codes c .memory })
+  -- sdsl_precode(coefficients, history, xs = symbols, ys = room)
+  pub precode : (c : PrecodeCall) → calls .precode c ≡ true → PrecodesRun (c .coefficients) (c .history) (c .symbols) (c .room)
+      (x .precode c .answer) (x .precode c .memory .history) (x .precode c .memory .room)
+  -- sdsl_unprecode(coefficients, history, ys = symbols, xs = room)
+  pub decode : (c : PrecodeCall) → calls .decode c ≡ true → DecodesRun (c .coefficients) (c .history) (c .symbols) (c .room)
+      (x .decode c .answer) (x .decode c .memory .history) (x .decode c .memory .room)
+  -- sdsl_shaper(y)
+  pub shape : (y : ℤ) → calls .shape y ≡ true → SampleShaped y (record { answer = x .shape y .answer; value = x .shape y .numbers })
+  -- sdsl_start(end, silence)
+  pub start : (c : StartCall) → calls .start c ≡ true → Started (c .end) (c .silence)
+      (record {
+        answer = x .start c .answer;
+        phase = x .start c .numbers .phase;
+        attempt = x .start c .numbers .attempt;
+        state = x .start c .memory;
+      })
+  -- sdsl_step(state, code)
+  pub step : (c : StepCall) → calls .step c ≡ true → StateStepped (c .state) (c .code)
+      (record {
+        answer = x .step c .answer;
+        phase = x .step c .numbers .phase;
+        attempt = x .step c .numbers .attempt;
+        state = x .step c .memory;
+      })
+  -- sdsl_run_codes(state, codes)
+  pub run-codes : (c : CodesCall) → calls .run-codes c ≡ true → CodesRun (c .state) (c .codes)
+      (record {
+        answer = x .run-codes c .answer;
+        attempts = x .run-codes c .numbers .attempts;
+        «opened_at» = x .run-codes c .numbers .opened-at;
+        outcome = x .run-codes c .numbers .outcome;
+        «ended_at» = x .run-codes c .numbers .ended-at;
+        state = x .run-codes c .memory;
+      })
+
+-- for every call
+abbrev pub Keeps : Library → Type 0
+Keeps x = KeepsFor everyCall x
+
+-- two libraries give the same for the calls that are meant
+pub record SameFor (calls : Calls) (x y : Library) : Type 0 where
+  pub write : (c : WriteCall) → calls .write c ≡ true → x .write c ≡ y .write c
+  pub check : (frame : List ℕ) → calls .check frame ≡ true → x .check frame ≡ y .check frame
+  pub read : (c : ReadCall) → calls .read c ≡ true → x .read c ≡ y .read c
+  pub run : (way : Way) (c : RunCall) → calls .run c ≡ true → x .run way c ≡ y .run way c
+  pub frame : (way : Way) (c : FrameCall) → calls .frame c ≡ true → x .frame way c ≡ y .frame way c
+  pub activation : (bit : ℕ) → calls .activation bit ≡ true → x .activation bit ≡ y .activation bit
+  pub level : (code : ℕ) → calls .level code ≡ true → x .level code ≡ y .level code
+  pub code : (sixteenths : ℤ) → calls .code sixteenths ≡ true → x .code sixteenths ≡ y .code sixteenths
+  pub encode : (c : EncodeCall) → calls .encode c ≡ true → x .encode c ≡ y .encode c
+  pub encode-run : (c : EncodeRunCall) → calls .encode-run c ≡ true → x .encode-run c ≡ y .encode-run c
+  pub precode : (c : PrecodeCall) → calls .precode c ≡ true → x .precode c ≡ y .precode c
+  pub decode : (c : PrecodeCall) → calls .decode c ≡ true → x .decode c ≡ y .decode c
+  pub shape : (y′ : ℤ) → calls .shape y′ ≡ true → x .shape y′ ≡ y .shape y′
+  pub start : (c : StartCall) → calls .start c ≡ true → x .start c ≡ y .start c
+  pub step : (c : StepCall) → calls .step c ≡ true → x .step c ≡ y .step c
+  pub run-codes : (c : CodesCall) → calls .run-codes c ≡ true → x .run-codes c ≡ y .run-codes c
+
+-- the step from what C can hand in to every call (theorem `widened`)
+abbrev pub Widens : Library → Type 0
+Widens x = KeepsFor fromC x → (y : Library) × Keeps y × SameFor fromC x y

@@ -1,7 +1,10 @@
 pub mod Library
+pub mod FromC
 pub mod Contracts
 pub mod One
 pub mod Two
 pub mod Three
-pub mod Wrong
+pub mod WrongLibraries
+pub mod WrongSupervisors
+pub mod NoStrawMan
 pub mod Follow

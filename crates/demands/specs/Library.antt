@@ -89,7 +89,7 @@ pub record Codes : Type 0 where
   pub register : ℕ
   pub codes : List ℕ
 
--- sdsl_precode and sdsl_decode: octets of coefficients, of the history, of what goes in, and room for what comes out
+-- sdsl_precode and sdsl_unprecode: octets of coefficients, of the history, of what goes in, and room for what comes out
 pub record PrecodeCall : Type 0 where
   pub coefficients : List ℕ
   pub history : List ℕ
@@ -123,9 +123,9 @@ pub record CodesCall : Type 0 where
 
 -- how many attempts opened; where the last one did, what became of it and where
 pub record Attempts : Type 0 where
-  pub opened : ℕ
+  pub attempts : ℕ
   pub opened-at : ℕ
-  pub ended : ℕ
+  pub outcome : ℕ
   pub ended-at : ℕ
 
 -- the functions of sdsl.h

@@ -15,33 +15,28 @@ use Rattle.symbol.specs.Levels.{activationTests, dataTests, backTests}
 use Rattle.symbol.specs.Encoder.{stepTests, runTests}
 use Rattle.samples.specs.Shaper.{shaperTests}
 use Rattle.precoder.specs.Runs.{runTests as precoderTests}
-use Rattle.supervisor.specs.Step.{startRefusals, stepRefusals, stateRefusals}
-use Rattle.host.specs.declared.supervising.Supervisor.{Supervisor}
+use Rattle.supervisor.specs.Step.{startRefusals, stepRefusals, stateRefusals, none as noState}
 use Rattle.host.specs.Frames.{frameReadRefusals}
 use Rattle.host.specs.Symbols.{encoder}
-use Rattle.host.specs.Supervising.{stateIn}
-use Rattle.demands.specs.Library.{Outcome, none, WriteCall, ReadCall, RunCall, FrameCall, EncodeCall, EncodeRunCall, PrecodeCall, Library}
+use Rattle.host.specs.Supervising.{stateIn, stateOf}
+use Rattle.demands.specs.Library.{Outcome, none, WriteCall, ReadCall, RunCall, FrameCall, EncodeCall, EncodeRunCall, PrecodeCall, StartCall, StepCall}
+use Rattle.demands.specs.Library.{CodesCall, Library}
 
 -- a function answers by SCOPE's table: by these checks, what its memory holds before, and nothing in its other numbers
 pub record Answers {C N M : Type 0} (f : C → Outcome N M) (checks : C → List Refusal) (before : C → M) (nothing : N) : Type 0 where
   -- the number is one of the table
   pub in-table : (c : C) → f c .answer ≤ 8
-  -- "Checks run in the order of these numbers,
-  pub in-order : (c : C) → inOrder 1 (checks c) ≡ true
-  -- and the first that applies is answered. None is given otherwise.
+  -- "Checks run in the order of these numbers (`Ordered`), and the first that applies is answered. None is given otherwise.
   pub first : (c : C) → f c .answer ≡ answer (checks c)
   -- With any but 0 every other number returned is 0,
   pub no-numbers : (c : C) → (f c .answer ≡ 0 → ⊥) → f c .numbers ≡ nothing
   -- a state comes back equal, and all lent memory holds what it held."
   pub unchanged : (c : C) → (f c .answer ≡ 0 → ⊥) → f c .memory ≡ before c
 
--- no state: what a refused start gives, and every later step refuses
-abbrev pub noState : Supervisor
-noState = record { end = 0; phase = 0; ticks = 0; attempt = 0; silence = 0; converged = 0; seen = 0 }
-
 -- the checks of writing, with the coefficients as 720 octets
 abbrev pub writeChecks : WriteCall → List Refusal
-writeChecks c = wrongLength (c .coefficients) 720 ∷ writeRefusals (c .kind) (c .count) (numbersOf (c .coefficients)) (c .a) (c .b) (c .vendor) (c .frame)
+writeChecks c =
+    wrongLength (c .coefficients) 720 ∷ writeRefusals (c .kind) (c .count) (numbersOf (c .coefficients)) (c .a) (c .b) (c .vendor) (c .frame)
 
 -- of reading
 abbrev pub readChecks : ReadCall → List Refusal
@@ -67,6 +62,40 @@ encodeRunChecks c = runTests (encoder (c .a) (c .b) (c .register)) (c .symbols) 
 abbrev pub precodeChecks : PrecodeCall → List Refusal
 precodeChecks c = precoderTests (c .coefficients) (c .history) (c .symbols) (c .room)
 
+-- of a start
+abbrev pub startChecks : StartCall → List Refusal
+startChecks c = startRefusals (c .end) (c .silence)
+
+-- a step
+abbrev pub stepChecks : StepCall → List Refusal
+stepChecks c = stepRefusals (stateIn (c .state)) (c .code)
+
+-- and a run of codes
+abbrev pub codesChecks : CodesCall → List Refusal
+codesChecks c = stateRefusals (stateIn (c .state))
+
+-- the numbers of a list of checks never fall, whatever is handed in
+abbrev pub InTheirOrder : {C : Type 0} → (C → List Refusal) → Type 0
+InTheirOrder {C} checks = (c : C) → inOrder 1 (checks c) ≡ true
+
+-- "Checks run in the order of these numbers": so it is of each function's list of checks (theorem `ordered`)
+pub record Ordered : Type 0 where
+  pub write : InTheirOrder writeChecks
+  pub check : InTheirOrder checkRefusals
+  pub read : InTheirOrder readChecks
+  pub run : InTheirOrder runChecks
+  pub frame : InTheirOrder frameChecks
+  pub activation : InTheirOrder activationTests
+  pub level : InTheirOrder dataTests
+  pub code : InTheirOrder backTests
+  pub encode : InTheirOrder encodeChecks
+  pub encode-run : InTheirOrder encodeRunChecks
+  pub precode : InTheirOrder precodeChecks
+  pub shape : InTheirOrder shaperTests
+  pub start : InTheirOrder startChecks
+  pub step : InTheirOrder stepChecks
+  pub run-codes : InTheirOrder codesChecks
+
 -- THE DEMAND, function by function: its checks, what its memory holds before, and the numbers that a refusal gives
 pub record One (x : Library) : Type 0 where
   pub write : Answers (x .write) writeChecks (λ c. c .frame) none
@@ -82,6 +111,6 @@ pub record One (x : Library) : Type 0 where
   pub precode : Answers (x .precode) precodeChecks (λ c. record { history = c .history; room = c .room }) none
   pub decode : Answers (x .decode) precodeChecks (λ c. record { history = c .history; room = c .room }) none
   pub shape : Answers (x .shape) shaperTests (λ c. none) (ofBits binary32 0)
-  pub start : Answers (x .start) (λ c. startRefusals (c .end) (c .silence)) (λ c. noState) (record { phase = 0; attempt = 0 })
-  pub step : Answers (x .step) (λ c. stepRefusals (stateIn (c .state)) (c .code)) (λ c. c .state) (record { phase = 0; attempt = 0 })
-  pub run-codes : Answers (x .run-codes) (λ c. stateRefusals (stateIn (c .state))) (λ c. c .state) (record { opened = 0; opened-at = 0; ended = 0; ended-at = 0 })
+  pub start : Answers (x .start) startChecks (λ c. stateOf noState) (record { phase = 0; attempt = 0 })
+  pub step : Answers (x .step) stepChecks (λ c. c .state) (record { phase = 0; attempt = 0 })
+  pub run-codes : Answers (x .run-codes) codesChecks (λ c. c .state) (record { attempts = 0; opened-at = 0; outcome = 0; ended-at = 0 })

@@ -17,7 +17,7 @@ use Rattle.octets.specs.Bits.{valueOf, part}
 use Rattle.octets.proofs.Digits.{Bits, take-bits, drop-bits}
 use Rattle.remainder.specs.Division.{polynomial, Multiple, generator}
 use Rattle.remainder.proofs.Errors.{polynomial-lt, sum-multiple, short, generator-degree, generator-odd}
-use Rattle.layout.specs.Places.{sync, check, pad}
+use Rattle.layout.specs.Places.{syncField, checkField, padField}
 use Rattle.layout.specs.Frame.{trainingSync, finalSync, fieldOf, messageOf, checkOf}
 use Rattle.layout.specs.Refusals.{bitRefusals, hasSync}
 use Rattle.layout.proofs.RoundTrip.{sound}
@@ -42,7 +42,7 @@ module _ (B C : List ℕ) (l : length B ≡ 4232) (m : length C ≡ 4232) (h : B
   E-sum = between-polynomial B C same h k
 
   -- where both have right check bits, what lies between them is a multiple of the generator
-  both-right : Covered B C → polynomial (fieldOf check B) ≡ checkOf (messageOf B) → polynomial (fieldOf check C) ≡ checkOf (messageOf C)
+  both-right : Covered B C → polynomial (fieldOf checkField B) ≡ checkOf (messageOf B) → polynomial (fieldOf checkField C) ≡ checkOf (messageOf C)
       → Multiple generator (polynomial E)
   both-right w p q =
       let x = polynomial (part 14 4213 B) in
@@ -93,14 +93,14 @@ module _ (B C : List ℕ) (l : length B ≡ 4232) (m : length C ≡ 4232) (h : B
   detected f z =
       let s = sound B z in
       let w = covered f in
-      let first : fieldOf sync C ≡ fieldOf sync B = sym (before 14 4213 B C same w) in
-      let last : fieldOf pad C ≡ fieldOf pad B = ap (take 5) (sym (behind 14 4213 B C same w)) in
+      let first : fieldOf syncField C ≡ fieldOf syncField B = sym (before 14 4213 B C same w) in
+      let last : fieldOf padField C ≡ fieldOf padField B = ap (take 5) (sym (behind 14 4213 B C same w)) in
       let known : (hasSync trainingSync C || hasSync finalSync C) ≡ true =
       ap (λ (x : List ℕ). eqb (valueOf x) (valueOf trainingSync) || eqb (valueOf x) (valueOf finalSync)) first ∙ s .known in
       passed 5 (drop 1 (bitRefusals C)) (ap not known)
       ∙ passed 6 (drop 2 (bitRefusals C)) (ap not (eq-eqb _ _ (ap valueOf last ∙ s .clear)))
-      ∙ refused 7 (drop 3 (bitRefusals C)) (ap not (wrong (eqb (polynomial (fieldOf check C)) (checkOf (messageOf C))) refl))
+      ∙ refused 7 (drop 3 (bitRefusals C)) (ap not (wrong (eqb (polynomial (fieldOf checkField C)) (checkOf (messageOf C))) refl))
     where
-      wrong : (t : Bool) → eqb (polynomial (fieldOf check C)) (checkOf (messageOf C)) ≡ t → t ≡ false
+      wrong : (t : Bool) → eqb (polynomial (fieldOf checkField C)) (checkOf (messageOf C)) ≡ t → t ≡ false
       wrong true e = absurd (seen f (both-right (covered f) (sound B z .checked) (eqb-true _ _ e)))
       wrong false e = refl

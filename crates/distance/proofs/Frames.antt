@@ -30,14 +30,14 @@ module _ (frame frame′ : List ℕ) (l : length frame′ ≡ 529)
     (f : Few (bitsOf frame) (bitsOf frame′) ⊎ Burst (bitsOf frame) (bitsOf frame′)) (c : Checked frame 0) where
   bits-answer : answer (bitRefusals (bitsOf frame′)) ≡ 7
   bits-answer =
-      let x = none 0 (not (eqb (length frame) 529)) (bitRefusals (bitsOf frame)) (sym c) in
+      let x = none 0 (not (eqb (length frame) 529)) (bitRefusals (bitsOf frame)) (sym (c .answered)) in
       let B = bitsOf frame in
       let C = bitsOf frame′ in
       let long : (s : List ℕ) → length s ≡ 529 → length (bitsOf s) ≡ 4232 = λ s e. bits-length s ∙ ap (λ (n : ℕ). 8 * n) e in
       detected B C (long frame (eqb-true _ _ (not-false _ (x .0)))) (long frame′ l) (bits-bits frame) (bits-bits frame′) f (x .1)
 
   pub changed-checked : (r : ℕ) → Checked frame′ r → r ≡ 7
-  changed-checked r g = g ∙ passed 1 (bitRefusals (bitsOf frame′)) (ap not (eq-eqb _ _ l)) ∙ bits-answer
+  changed-checked r g = g .answered ∙ passed 1 (bitRefusals (bitsOf frame′)) (ap not (eq-eqb _ _ l)) ∙ bits-answer
 
   pub changed-read : (room room′ : List ℤ) (octets octets′ : List ℕ) (r : Found) → length room ≡ 180 → length octets ≡ 16
       → Read frame′ room octets r room′ octets′ → r ≡ foundOf 7 (bitsOf frame′)

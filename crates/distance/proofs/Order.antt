@@ -14,11 +14,11 @@ use lib.Pow.{pow-add, pow-lt, pow-mono}
 use Rattle.octets.specs.Bits.{valueOf}
 use Rattle.octets.proofs.Digits.{cons-bits, zeros-bits}
 use Rattle.octets.proofs.Complement.{twice}
-use Rattle.octets.proofs.Xor.{xor-cancel}
+use Rattle.octets.proofs.Xor.{xor-cancel, back}
 use Rattle.remainder.specs.Division.{polynomial, Remainder, Multiple, generator}
 use Rattle.remainder.specs.Register.{stepOf, registerOf}
 use Rattle.remainder.proofs.Division.{small-multiple, computed}
-use Rattle.remainder.proofs.Errors.{polynomial-cons, twice-same, unshifted, generator-degree, generator-odd}
+use Rattle.remainder.proofs.Errors.{polynomial-cons, unshifted, generator-degree, generator-odd}
 use Rattle.ranges.proofs.Laws.{both}
 
 -- the register, given zeros from r on, is 1 at none of n times
@@ -70,7 +70,7 @@ no-pair n h l m = pick (decLt n 16)
           quotient = m .quotient;
           divided =
               ap (λ (x : ℕ). x * 2 ^ 16) (power-bits j) ∙ sym (pow-add 2 j 16) ∙ ap (λ (x : ℕ). 2 ^ x) (sym e)
-              ∙ sym (twice-same (2 ^ n) 1) ∙ ap (λ (x : ℕ). bitXor x 1) (m .product);
+              ∙ sym (back (2 ^ n) 1) ∙ ap (λ (x : ℕ). bitXor x 1) (m .product);
           below = lit< tt;
         } in
         never-is 16 generator 4216 j (stepOf 16 generator 0 1) tried (omega arith)

@@ -6,7 +6,7 @@ use mathlib.Core.List.{List, [], _∷_}
 use Prim.Native.Nat.{ℕ, _+_, _-_, _≤_, _<_}
 use lib.Dec.{eqb}
 use lib.ListN.{getD}
-use Rattle.layout.specs.Places.{placeOf, coefficients, pad}
+use Rattle.layout.specs.Places.{placeOf, coefficientsField, padField}
 
 -- the number of places at which two lists of one length differ
 unfoldable pub distance : List ℕ → List ℕ → ℕ
@@ -20,13 +20,13 @@ Within at n bs cs = (i : ℕ) → (i < at) ⊎ (at + n ≤ i) → getD bs i 0 �
 
 -- the bits of two frames differ nowhere but in bits 15 to 4,227: message and check bits
 abbrev pub Covered : List ℕ → List ℕ → Type 0
-Covered bs cs = Within (placeOf coefficients) (placeOf pad - placeOf coefficients) bs cs
+Covered bs cs = Within (placeOf coefficientsField) (placeOf padField - placeOf coefficientsField) bs cs
 
--- up to so many wrong bits are seen
+-- up to this many wrong bits are always seen
 abbrev pub most : ℕ
 most = 3
 
--- and any number of them within so many in a row
+-- and any number of them that stand within this many in a row
 abbrev pub longest : ℕ
 longest = 16
 
@@ -36,7 +36,7 @@ pub record Few (bs cs : List ℕ) : Type 0 where
   pub few : distance bs cs ≤ most
   pub covered : Covered bs cs
 
--- a burst of up to 16: some of those bits differ, and all that do stand within 16 in a row
+-- a burst of up to 16: some of those bits differ, and all that differ stand within 16 in a row
 pub record Burst (bs cs : List ℕ) : Type 0 where
   pub some : 1 ≤ distance bs cs
   pub start : ℕ

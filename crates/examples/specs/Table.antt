@@ -58,7 +58,7 @@ levels (c ∷ cs) = levelAt dataLevels c ∷ levels cs
 unfoldable pub places : List ℕ → List ℤ
 places cs = whole cs ++ whole (map (λ (c : ℕ). 4211 + c) cs)
 
--- what exponents stand in a polynomial of degree below 16, the highest first: of D^15 the bit is c1
+-- the exponents of a polynomial of degree below 16, the highest first; c1 is the bit of D^15
 unfoldable pub exponents : List ℕ → List ℕ
 exponents [] = []
 exponents (c ∷ cs) = (16 - c) ∷ exponents cs
@@ -97,7 +97,7 @@ furthest = replicate 180 (negℤ (pos 131072))
 abbrev pub minusEighth : Float
 minusEighth = fin true 1 (negℤ (pos 3))
 
--- the thirteen examples, in their order; of an example with several parts a row each
+-- the thirteen examples, in their order; an example with several parts has a row for each
 unfoldable pub table : List Row
 table =
     row 1 training (whole (159 ∷ 53 ∷ []))

@@ -11,7 +11,7 @@ unfoldable pub firstOf : List ℕ → List ℕ
 firstOf [] = []
 firstOf (n ∷ ns) = decimal n
 
--- a form from an octet on, which is a mark or not: a mark stands for the next number
+-- a form from its octet o on, which is a mark or not; the next number is put for a mark
 unfoldable pub formedBy : Bool → ℕ → (List ℕ → List ℕ) → List ℕ → List ℕ
 formedBy true o rest ns = firstOf ns ++ rest (drop 1 ns)
 formedBy false o rest ns = o ∷ rest ns
@@ -21,7 +21,7 @@ unfoldable pub formed : List ℕ → List ℕ → List ℕ
 formed [] ns = []
 formed (o ∷ os) ns = formedBy (eqb o 35) o (formed os) ns
 
--- a row of a table from an octet on, which is a newline or not
+-- row n of a table from its octet o on, which is a newline or not
 unfoldable pub rowBy : Bool → ℕ → (ℕ → List ℕ) → ℕ → List ℕ
 rowBy true o rest zero = []
 rowBy true o rest (suc n) = rest n

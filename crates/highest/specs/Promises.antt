@@ -1,4 +1,4 @@
--- What counting them promises.
+-- What the crate's function promises.
 use mathlib.Core.Path.{_≡_}
 use mathlib.Core.List.{List}
 use Prim.Native.Nat.{ℕ}

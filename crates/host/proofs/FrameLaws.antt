@@ -1,29 +1,50 @@
--- From reader's promise to the exported one. Assumes nothing.
+-- From the promises of writer and reader to the exported ones. Assumes nothing.
 use mathlib.Core.Path.{_≡_, refl, sym, ap, _∙_, subst}
-use mathlib.Core.Bool.{Bool, true, false, cond}
-use mathlib.Core.List.{List}
+use mathlib.Core.Bool.{Bool, true, false, cond, not}
+use mathlib.Core.List.{List, _∷_}
 use Prim.Native.Nat.{ℕ, zero, suc}
 use native.Mathlib.Omega.{arith}
 use borrow.Author.Tests.{eq-eqb}
+use lib.Dec.{eqb}
 use lib.IntN.{ℤ}
 use lib.ListN.{length}
-use Rattle.answer.specs.Answer.{answer, held}
-use Rattle.answer.proofs.Laws.{kept, given}
+use Rattle.answer.specs.Answer.{wrongLength, answer, held}
+use Rattle.answer.proofs.Laws.{none, kept, given}
 use Rattle.octets.specs.Bits.{valueOf, bitsOf}
 use Rattle.octets.proofs.Numbers.{numbers-length}
-use Rattle.layout.specs.Places.{coefficients, wordA, wordB}
+use Rattle.layout.specs.Places.{coefficientsField, aField, bField}
 use Rattle.layout.specs.Frame.{trainingSync, fieldOf, coefficientsOf}
-use Rattle.layout.specs.Refusals.{hasSync, readRefusals}
-use Rattle.numbers.specs.Promises.{numberOctets, NumbersPut}
+use Rattle.layout.specs.Refusals.{hasSync, writeRefusals, readRefusals}
+use Rattle.numbers.specs.Promises.{numbersOf, numberOctets, NumbersPut}
 use Rattle.numbers.proofs.Laws.{put-whole}
+use Rattle.writer.specs.Promises.{frameOctets}
+use Rattle.writer.proofs.Promise.{written}
 use Rattle.reader.specs.declared.Found.{Found}
 use Rattle.reader.specs.Promises.{foundOf, coefficientsLeft, vendorOctets, Read}
-use Rattle.host.specs.Frames.{frameReadRefusals, fieldsOf, coefficientOctets, FrameRead}
+use Rattle.host.specs.Frames.{FrameWritten, frameReadRefusals, fieldsOf, coefficientOctets, FrameRead}
+
+-- ---- writing
+
+-- the answer and the octets are the whole promise
+pub frame-written : {kind count : ℕ} {os : List ℕ} {a b : ℕ} {vendor frame : List ℕ} {r : ℕ} {exit : List ℕ}
+    → r ≡ answer (wrongLength os 720 ∷ writeRefusals kind count (numbersOf os) a b vendor frame)
+    → exit ≡ held r frame (frameOctets kind count (numbersOf os) a b vendor) → FrameWritten kind count os a b vendor frame r exit
+frame-written {kind} {count} {os} {a} {b} {vendor} {frame} {r} e f =
+    record {
+      answered = e;
+      left = f;
+      check-right = λ z.
+          let R = writeRefusals kind count (numbersOf os) a b vendor frame in
+          let none-refuses = z ∙ sym (none 0 (not (eqb (length os) 720)) R (sym e ∙ z) .1) in
+          written {kind = kind} {count = count} {cs = numbersOf os} {a = a} {b = b} none-refuses f .check-right z;
+    }
+
+-- ---- reading
 
 -- what is found where the test says training or not
 abbrev by : Bool → List ℕ → Found
 by t B =
-    cond t (record { answer = 0; kind = 0; a = valueOf (fieldOf wordA B); b = valueOf (fieldOf wordB B) }) (record { answer = 0; kind = 1; a = 0; b = 0 })
+    cond t (record { answer = 0; kind = 0; a = valueOf (fieldOf aField B); b = valueOf (fieldOf bField B) }) (record { answer = 0; kind = 1; a = 0; b = 0 })
 
 by-answer : (t : Bool) (B : List ℕ) → by t B .answer ≡ 0
 by-answer true B = refl
@@ -86,7 +107,9 @@ module _ (frame os vendor : List ℕ) (cs cs′ : List ℤ) (vendor′ : List �
         let t : hasSync trainingSync B ≡ true = by-training (hasSync trainingSync B) B (sym (ap (λ (x : Found). x .kind) found-is) ∙ k) in
         let c : cs′ ≡ coefficientsOf B =
         p .coefficients-left ∙ given A cs (coefficientsLeft B cs) zero-answer ∙ ap (λ (b : Bool). cond b (coefficientsOf B) cs) t in
-        out os′ (subst (λ (zs : List ℤ). NumbersPut os zs os′) c e ∙ put-whole os l (coefficientsOf B) (numbers-length 22 180 (fieldOf coefficients B)) ∙ sym (left-is true t))
+        let put = subst (λ (zs : List ℤ). NumbersPut os zs os′) c e in
+        let filled = put-whole os l (coefficientsOf B) (numbers-length 22 180 (fieldOf coefficientsField B)) in
+        out os′ (put ∙ filled ∙ sym (left-is true t))
 
     pub final-out : (f .kind ≡ 0 → ⊥) → FrameRead frame os vendor (fieldsOf f) os vendor′
     final-out k =

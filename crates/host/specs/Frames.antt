@@ -6,17 +6,18 @@ use Prim.Native.Nat.{ℕ}
 use Rattle.answer.specs.Answer.{Refusal, wrongLength, answer, held}
 use Rattle.octets.specs.Bits.{bitsOf}
 use Rattle.layout.specs.Frame.{trainingSync, coefficientsOf}
-use Rattle.layout.specs.Refusals.{hasSync, writeRefusals, bitRefusals}
+use Rattle.layout.specs.Refusals.{hasSync, RightCheck, writeRefusals, bitRefusals}
 use Rattle.numbers.specs.Promises.{numbersOf, numberOctets}
 use Rattle.writer.specs.Promises.{frameOctets}
 use Rattle.reader.specs.declared.Found.{Found}
 use Rattle.reader.specs.Promises.{foundOf, vendorOctets}
 use Rattle.host.specs.declared.frames.FrameFields.{FrameFields}
 
--- sdsl_frame_write: the answer, and the frame written, or as it was
+-- sdsl_frame_write: the answer, and the frame written, or as it was; the check bits of what was written are the remainder of its message
 pub record FrameWritten (kind count : ℕ) (os : List ℕ) (a b : ℕ) (vendor frame : List ℕ) (r : ℕ) (exit : List ℕ) : Type 0 where
   pub answered : r ≡ answer (wrongLength os 720 ∷ writeRefusals kind count (numbersOf os) a b vendor frame)
   pub left : exit ≡ held r frame (frameOctets kind count (numbersOf os) a b vendor)
+  pub check-right : r ≡ 0 → RightCheck (bitsOf exit)
 
 -- reading refuses a wrong length before anything else
 abbrev pub frameReadRefusals : List ℕ → List ℕ → List ℕ → List Refusal

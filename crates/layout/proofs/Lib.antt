@@ -4,3 +4,4 @@ pub mod Fields
 pub mod Order
 pub mod RoundTrip
 pub mod OneBit
+pub mod Check

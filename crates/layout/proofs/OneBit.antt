@@ -19,7 +19,7 @@ use Rattle.remainder.specs.Errors.{flipped}
 use Rattle.remainder.proofs.Division.{exists}
 use Rattle.remainder.proofs.Errors.{divisible, one-flip, generator-degree, generator-odd}
 use Rattle.ranges.proofs.Laws.{both}
-use Rattle.layout.specs.Places.{sync, check, pad}
+use Rattle.layout.specs.Places.{syncField, checkField, padField}
 use Rattle.layout.specs.Frame.{trainingSync, finalSync, fieldOf, messageOf, checkOf}
 use Rattle.layout.specs.Refusals.{bitRefusals, hasSync}
 use Rattle.layout.proofs.RoundTrip.{Sound, sound, field-length, field-bits, training-sync, final-sync, zeros-are}
@@ -66,10 +66,10 @@ either false t e = inr e
 
 module _ (B : List ℕ) (l : length B ≡ 4232) (h : Bits B) where
   -- where the check bits are right, message and check bits are a multiple of the generator
-  pub whole : polynomial (fieldOf check B) ≡ checkOf (messageOf B) → Multiple generator (polynomial (part 14 4213 B))
+  pub whole : polynomial (fieldOf checkField B) ≡ checkOf (messageOf B) → Multiple generator (polynomial (part 14 4213 B))
   whole k =
       let m = messageOf B in
-      let c = fieldOf check B in
+      let c = fieldOf checkField B in
       let e : part 14 4213 B ≡ m ++ c = take-add 4197 16 (drop 14 B) ∙ ap (λ (x : List ℕ). m ++ take 16 x) (drop-drop 4197 14 B) in
       let d = exists 16 generator (lit≤ tt) generator-degree m (field-bits B l h 14 4197) in
       subst (λ (x : List ℕ). Multiple generator (polynomial x)) (sym e)
@@ -94,10 +94,10 @@ module _ (B : List ℕ) (i : ℕ) (l : length B ≡ 4232) (h : Bits B) (s : Soun
   in-sync k = pick (either _ _ (s .known)) (either _ _ (s′ .known))
     where
       -- the sync field, changed
-      now : (w : List ℕ) → fieldOf sync B ≡ w → fieldOf sync (flipped B i) ≡ flipped w i
+      now : (w : List ℕ) → fieldOf syncField B ≡ w → fieldOf syncField (flipped B i) ≡ flipped w i
       now w e = ap (λ (j : ℕ). part 0 14 (flipped B j)) (sym (zero-add i)) ∙ part-flipped B 0 14 i k ∙ ap (λ (x : List ℕ). flipped x i) e
 
-      clash : (w x : List ℕ) → apart-at w x 14 ≡ true → fieldOf sync B ≡ w → valueOf (fieldOf sync (flipped B i)) ≡ valueOf x → ⊥
+      clash : (w x : List ℕ) → apart-at w x 14 ≡ true → fieldOf syncField B ≡ w → valueOf (fieldOf syncField (flipped B i)) ≡ valueOf x → ⊥
       clash w x a e f = apart-is w x 14 i a k (sym (ap valueOf (now w e)) ∙ f)
 
       pick : (hasSync trainingSync B ≡ true) ⊎ (hasSync finalSync B ≡ true)
@@ -119,8 +119,8 @@ module _ (B : List ℕ) (i : ℕ) (l : length B ≡ 4232) (h : Bits B) (s : Soun
   in-pad k m =
       let j = i - 4227 in
       let e : i ≡ 4227 + j = omega arith in
-      let f : part 4227 5 (flipped B i) ≡ flipped (fieldOf pad B) j = ap (λ (n : ℕ). part 4227 5 (flipped B n)) e ∙ part-flipped B 4227 5 j (omega arith) in
-      let z : fieldOf pad B ≡ replicate 5 0 = zeros-are B l h 4227 5 (lit≤ tt) (s .clear) in
+      let f : part 4227 5 (flipped B i) ≡ flipped (fieldOf padField B) j = ap (λ (n : ℕ). part 4227 5 (flipped B n)) e ∙ part-flipped B 4227 5 j (omega arith) in
+      let z : fieldOf padField B ≡ replicate 5 0 = zeros-are B l h 4227 5 (lit≤ tt) (s .clear) in
       let z′ : part 4227 5 (flipped B i) ≡ replicate 5 0 = zeros-are (flipped B i) l′ h′ 4227 5 (lit≤ tt) (s′ .clear) in
       let g : getD (replicate {A = ℕ} 5 0) j 0 ≡ 0 = getD-replicate 5 j zero zero (omega arith) in
       let one : getD (flipped (replicate 5 0) j) j 0 ≡ 1 = getD-set-same (replicate 5 0) j (1 - getD (replicate 5 0) j 0) 0 (omega arith) ∙ ap (λ (n : ℕ). 1 - n) g in

@@ -5,12 +5,12 @@ use Prim.Native.Nat.{ℕ, zero, suc, _+_, _≤_, _<_, zero-le}
 use native.Mathlib.Nat.{le-of-suc-le-suc, not-suc-le-zero}
 use native.Mathlib.Omega.{arith}
 use lib.ListN.{getD, take}
-use Rattle.layout.specs.Places.{widths, total, placeOf, sync, coefficients, wordA, wordB, vendor, reserved, check, pad}
+use Rattle.layout.specs.Places.{widths, total, frameLength, placeOf, syncField, coefficientsField, aField, bField, vendorField, reservedField, checkField, padField}
 
--- the first bit of each field, counted from 1, and the 4,227 bits of a frame without its pad
-pub table : (placeOf sync + 1 ≡ 1) × (placeOf coefficients + 1 ≡ 15) × (placeOf wordA + 1 ≡ 3975) × (placeOf wordB + 1 ≡ 3996)
-    × (placeOf vendor + 1 ≡ 4017) × (placeOf reserved + 1 ≡ 4145) × (placeOf check + 1 ≡ 4212) × (placeOf pad ≡ 4227)
-table = (refl, refl, refl, refl, refl, refl, refl, refl)
+-- the first bit of each field, counted from 1, the 4,227 bits of a frame without its pad, and its 529 octets
+pub table : (placeOf syncField + 1 ≡ 1) × (placeOf coefficientsField + 1 ≡ 15) × (placeOf aField + 1 ≡ 3975) × (placeOf bField + 1 ≡ 3996)
+    × (placeOf vendorField + 1 ≡ 4017) × (placeOf reservedField + 1 ≡ 4145) × (placeOf checkField + 1 ≡ 4212) × (placeOf padField ≡ 4227) × (frameLength ≡ 529)
+table = (refl, refl, refl, refl, refl, refl, refl, refl, refl)
 
 total-next : (ws : List ℕ) (k : ℕ) → total (take (suc k) ws) ≡ total (take k ws) + getD ws k 0
 total-next [] zero = refl

@@ -22,7 +22,7 @@ use Rattle.octets.proofs.Numbers.{numbers-length, numbers-back, numbers-again}
 use Rattle.remainder.specs.Division.{polynomial, checkBits, generator}
 use Rattle.remainder.proofs.Division.{exists}
 use Rattle.remainder.proofs.Errors.{check-value, generator-degree}
-use Rattle.layout.specs.Places.{sync, coefficients, wordA, wordB, vendor, reserved, check, pad}
+use Rattle.layout.specs.Places.{syncField, coefficientsField, aField, bField, vendorField, reservedField, checkField, padField}
 use Rattle.layout.specs.Frame.{trainingSync, finalSync, coefficientBits, used, message, checkOf, frameBits, trainingBits, finalBits, fieldOf, messageOf, coefficientsOf}
 use Rattle.ranges.specs.Ranges.{isCoefficient, every}
 use Rattle.ranges.proofs.Laws.{mag-at}
@@ -42,15 +42,15 @@ module _ (word m : List ℕ) (s : length word ≡ 14) (l : length m ≡ 4197) (b
   check-lt : checkOf m < 2 ^ 16
   check-lt = exists 16 generator (lit≤ tt) generator-degree m bm .below
 
-  pub check-right : polynomial (fieldOf check F) ≡ checkOf (messageOf F)
+  pub check-right : polynomial (fieldOf checkField F) ≡ checkOf (messageOf F)
   check-right = ap polynomial (check-field word m s l) ∙ check-value 16 (checkOf m) check-lt ∙ sym (ap checkOf (message-field word m s l))
 
-  pub pad-clear : valueOf (fieldOf pad F) ≡ 0
+  pub pad-clear : valueOf (fieldOf padField F) ≡ 0
   unfolding valueOf
   pad-clear = ap valueOf (pad-field word m s l)
 
   -- what is answered turns on the sync word and the reserved bits alone
-  pub answer-is : (hasSync trainingSync F || hasSync finalSync F) ≡ true → answer (bitRefusals F) ≡ answer (refuse 8 (hasSync trainingSync F && not (eqb (valueOf (fieldOf reserved F)) 0)) ∷ [])
+  pub answer-is : (hasSync trainingSync F || hasSync finalSync F) ≡ true → answer (bitRefusals F) ≡ answer (refuse 8 (hasSync trainingSync F && not (eqb (valueOf (fieldOf reservedField F)) 0)) ∷ [])
   answer-is k = simp k (simp (eq-eqb _ _ pad-clear, eq-eqb _ _ check-right))
 
 final-other : eqb (valueOf finalSync) (valueOf trainingSync) ≡ false
@@ -76,7 +76,7 @@ module _ (m : List ℕ) (l : length m ≡ 4197) (bm : Bits m) where
       (answer-is finalSync m final-length l final-bits bm k ∙ simp t, t)
 
   -- a training frame answers 0 where its reserved bits are zero
-  pub training-clear : valueOf (fieldOf reserved (frameBits trainingSync m)) ≡ 0
+  pub training-clear : valueOf (fieldOf reservedField (frameBits trainingSync m)) ≡ 0
       → (answer (bitRefusals (frameBits trainingSync m)) ≡ 0) × (hasSync trainingSync (frameBits trainingSync m) ≡ true)
   training-clear z =
       let F = frameBits trainingSync m in
@@ -120,15 +120,19 @@ module _ (count : ℕ) (cs : List ℤ) (a b : ℕ) (v : List ℕ) (n : count ≤
       training-clear M M-length M-bits
       (ap valueOf (reserved-field U a b v (replicate 67 0) U-length lv refl trainingSync training-length) ∙ zeros-value 67)
 
-  pub a-back : a ≤ 2097151 → valueOf (fieldOf wordA T) ≡ a
-  unfolding trainingBits
-  a-back h = ap valueOf (a-field U a b v (replicate 67 0) U-length lv refl trainingSync training-length) ∙ value-digits 21 a ∙ mod-eq-of-lt (omega arith)
+  -- a field that holds a word's digits gives the word back
+  word-back : (k w : ℕ) → fieldOf k T ≡ digitsOf 21 w → w ≤ 2097151 → valueOf (fieldOf k T) ≡ w
+  word-back k w e h = ap valueOf e ∙ value-digits 21 w ∙ mod-eq-of-lt (omega arith)
 
-  pub b-back : b ≤ 2097151 → valueOf (fieldOf wordB T) ≡ b
+  pub a-back : a ≤ 2097151 → valueOf (fieldOf aField T) ≡ a
   unfolding trainingBits
-  b-back h = ap valueOf (b-field U a b v (replicate 67 0) U-length lv refl trainingSync training-length) ∙ value-digits 21 b ∙ mod-eq-of-lt (omega arith)
+  a-back = word-back aField a (a-field U a b v (replicate 67 0) U-length lv refl trainingSync training-length)
 
-  pub vendor-back : Octets v → octetsOf 16 (fieldOf vendor T) ≡ v
+  pub b-back : b ≤ 2097151 → valueOf (fieldOf bField T) ≡ b
+  unfolding trainingBits
+  b-back = word-back bField b (b-field U a b v (replicate 67 0) U-length lv refl trainingSync training-length)
+
+  pub vendor-back : Octets v → octetsOf 16 (fieldOf vendorField T) ≡ v
   unfolding trainingBits
   vendor-back h =
       ap (octetsOf 16) (vendor-field U a b v (replicate 67 0) U-length lv refl trainingSync training-length)
@@ -163,7 +167,7 @@ module _ (v : List ℕ) (lv : length v ≡ 16) where
   unfolding finalBits
   final-answers = final-free N N-length N-bits
 
-  pub final-vendor : Octets v → octetsOf 16 (fieldOf vendor (finalBits v)) ≡ v
+  pub final-vendor : Octets v → octetsOf 16 (fieldOf vendorField (finalBits v)) ≡ v
   unfolding finalBits
   final-vendor h =
       ap (octetsOf 16) (vendor-field Z 0 0 v (replicate 67 0) (length-replicate 180 (pos 0)) lv refl finalSync final-length)
@@ -174,9 +178,9 @@ module _ (v : List ℕ) (lv : length v ≡ 16) where
 -- what an answer of 0 says of a frame's bits
 pub record Sound (B : List ℕ) : Type 0 where
   pub known : (hasSync trainingSync B || hasSync finalSync B) ≡ true
-  pub clear : valueOf (fieldOf pad B) ≡ 0
-  pub checked : polynomial (fieldOf check B) ≡ checkOf (messageOf B)
-  pub unreserved : hasSync trainingSync B ≡ true → valueOf (fieldOf reserved B) ≡ 0
+  pub clear : valueOf (fieldOf padField B) ≡ 0
+  pub checked : polynomial (fieldOf checkField B) ≡ checkOf (messageOf B)
+  pub unreserved : hasSync trainingSync B ≡ true → valueOf (fieldOf reservedField B) ≡ 0
 
 pub sound : (B : List ℕ) → answer (bitRefusals B) ≡ 0 → Sound B
 sound B e =
@@ -188,7 +192,7 @@ sound B e =
       known = not-false _ (five .0);
       clear = eqb-true _ _ (not-false _ (six .0));
       checked = eqb-true _ _ (not-false _ (seven .0));
-      unreserved = λ t. eqb-true _ _ (not-false _ (sym (ap (λ (b : Bool). b && not (eqb (valueOf (fieldOf reserved B)) 0)) t) ∙ eight .0));
+      unreserved = λ t. eqb-true _ _ (not-false _ (sym (ap (λ (b : Bool). b && not (eqb (valueOf (fieldOf reservedField B)) 0)) t) ∙ eight .0));
     }
 
 module _ (B : List ℕ) (l : length B ≡ 4232) (h : Bits B) where
@@ -199,38 +203,38 @@ module _ (B : List ℕ) (l : length B ≡ 4232) (h : Bits B) where
   field-bits at n = take-bits n (drop at B) (drop-bits at B h)
 
   -- the frame is its parts, one behind the other
-  parts : B ≡ fieldOf sync B ++ (messageOf B ++ (fieldOf check B ++ fieldOf pad B))
+  parts : B ≡ fieldOf syncField B ++ (messageOf B ++ (fieldOf checkField B ++ fieldOf padField B))
   parts =
       sym (take-all 4232 B (omega arith)) ∙ take-add 14 4218 B
       ∙ ap (λ (x : List ℕ). take 14 B ++ x)
       (take-add 4197 21 (drop 14 B)
       ∙ ap (λ (x : List ℕ). messageOf B ++ x)
-      (ap (take 21) (lib.Seq.drop-drop 4197 14 B) ∙ take-add 16 5 (drop 4211 B) ∙ ap (λ (x : List ℕ). fieldOf check B ++ take 5 x) (lib.Seq.drop-drop 16 4211 B)))
+      (ap (take 21) (lib.Seq.drop-drop 4197 14 B) ∙ take-add 16 5 (drop 4211 B) ∙ ap (λ (x : List ℕ). fieldOf checkField B ++ take 5 x) (lib.Seq.drop-drop 16 4211 B)))
 
-  message-parts : messageOf B ≡ fieldOf coefficients B ++ (fieldOf wordA B ++ (fieldOf wordB B ++ (fieldOf vendor B ++ fieldOf reserved B)))
+  message-parts : messageOf B ≡ fieldOf coefficientsField B ++ (fieldOf aField B ++ (fieldOf bField B ++ (fieldOf vendorField B ++ fieldOf reservedField B)))
   message-parts =
       take-add 3960 237 (drop 14 B)
-      ∙ ap (λ (x : List ℕ). fieldOf coefficients B ++ x)
+      ∙ ap (λ (x : List ℕ). fieldOf coefficientsField B ++ x)
       (ap (take 237) (lib.Seq.drop-drop 3960 14 B) ∙ take-add 21 216 (drop 3974 B)
-      ∙ ap (λ (x : List ℕ). fieldOf wordA B ++ x)
+      ∙ ap (λ (x : List ℕ). fieldOf aField B ++ x)
       (ap (take 216) (lib.Seq.drop-drop 21 3974 B) ∙ take-add 21 195 (drop 3995 B)
-      ∙ ap (λ (x : List ℕ). fieldOf wordB B ++ x)
+      ∙ ap (λ (x : List ℕ). fieldOf bField B ++ x)
       (ap (take 195) (lib.Seq.drop-drop 21 3995 B) ∙ take-add 128 67 (drop 4016 B)
-      ∙ ap (λ (x : List ℕ). fieldOf vendor B ++ take 67 x) (lib.Seq.drop-drop 128 4016 B))))
+      ∙ ap (λ (x : List ℕ). fieldOf vendorField B ++ take 67 x) (lib.Seq.drop-drop 128 4016 B))))
 
   -- a field is the digits of its value
   field-digits : (at n : ℕ) → at + n ≤ 4232 → digitsOf n (valueOf (part at n B)) ≡ part at n B
   field-digits at n k = ap (λ (i : ℕ). digitsOf i (valueOf (part at n B))) (sym (field-length at n k)) ∙ digits-value (part at n B) (field-bits at n)
 
   -- the message is that of its own fields
-  pub message-is : messageOf B ≡ message (coefficientsOf B) (valueOf (fieldOf wordA B)) (valueOf (fieldOf wordB B)) (octetsOf 16 (fieldOf vendor B)) (fieldOf reserved B)
+  pub message-is : messageOf B ≡ message (coefficientsOf B) (valueOf (fieldOf aField B)) (valueOf (fieldOf bField B)) (octetsOf 16 (fieldOf vendorField B)) (fieldOf reservedField B)
   unfolding message
   message-is =
       message-parts
-      ∙ ap₂ _++_ (sym (numbers-again 22 (lit≤ tt) 180 (fieldOf coefficients B) (field-length 14 3960 (lit≤ tt)) (field-bits 14 3960)))
+      ∙ ap₂ _++_ (sym (numbers-again 22 (lit≤ tt) 180 (fieldOf coefficientsField B) (field-length 14 3960 (lit≤ tt)) (field-bits 14 3960)))
       (ap₂ _++_ (sym (field-digits 3974 21 (lit≤ tt)))
       (ap₂ _++_ (sym (field-digits 3995 21 (lit≤ tt)))
-      (ap (λ (x : List ℕ). x ++ fieldOf reserved B) (sym (bits-octets 16 (fieldOf vendor B) (field-length 4016 128 (lit≤ tt)) (field-bits 4016 128))))))
+      (ap (λ (x : List ℕ). x ++ fieldOf reservedField B) (sym (bits-octets 16 (fieldOf vendorField B) (field-length 4016 128 (lit≤ tt)) (field-bits 4016 128))))))
 
   -- a field of value 0 is zeros
   pub zeros-are : (at n : ℕ) → at + n ≤ 4232 → valueOf (part at n B) ≡ 0 → part at n B ≡ replicate n 0
@@ -238,30 +242,30 @@ module _ (B : List ℕ) (l : length B ≡ 4232) (h : Bits B) where
       value-one (part at n B) (replicate n 0) (field-bits at n) (zeros-bits n) (field-length at n k ∙ sym (length-replicate n zero)) (e ∙ sym (zeros-value n))
 
   -- where the check bits are right and the pad is clear, the frame is sync and message, written
-  pub frame-is : Sound B → B ≡ frameBits (fieldOf sync B) (messageOf B)
+  pub frame-is : Sound B → B ≡ frameBits (fieldOf syncField B) (messageOf B)
   unfolding frameBits
   frame-is s =
-      let K = fieldOf check B in
+      let K = fieldOf checkField B in
       let k : K ≡ checkBits 16 (checkOf (messageOf B)) =
       sym (reverse-reverse K) ∙ ap reverse (sym (digits-value (reverse K) (reverse-bits K (field-bits 4211 16))) ∙ ap₂ digitsOf (length-reverse K ∙ field-length 4211 16 (lit≤ tt)) (s .checked)) in
-      parts ∙ ap₂ (λ (x y : List ℕ). fieldOf sync B ++ (messageOf B ++ (x ++ y))) k (zeros-are 4227 5 (lit≤ tt) (s .clear))
+      parts ∙ ap₂ (λ (x y : List ℕ). fieldOf syncField B ++ (messageOf B ++ (x ++ y))) k (zeros-are 4227 5 (lit≤ tt) (s .clear))
 
   -- the sync word of a training frame
-  pub training-sync : hasSync trainingSync B ≡ true → fieldOf sync B ≡ trainingSync
-  training-sync t = value-one (fieldOf sync B) trainingSync (field-bits 0 14) training-bits (field-length 0 14 (lit≤ tt) ∙ sym training-length) (eqb-true _ _ t)
+  pub training-sync : hasSync trainingSync B ≡ true → fieldOf syncField B ≡ trainingSync
+  training-sync t = value-one (fieldOf syncField B) trainingSync (field-bits 0 14) training-bits (field-length 0 14 (lit≤ tt) ∙ sym training-length) (eqb-true _ _ t)
 
-  pub final-sync : hasSync finalSync B ≡ true → fieldOf sync B ≡ finalSync
-  final-sync t = value-one (fieldOf sync B) finalSync (field-bits 0 14) final-bits (field-length 0 14 (lit≤ tt) ∙ sym final-length) (eqb-true _ _ t)
+  pub final-sync : hasSync finalSync B ≡ true → fieldOf syncField B ≡ finalSync
+  final-sync t = value-one (fieldOf syncField B) finalSync (field-bits 0 14) final-bits (field-length 0 14 (lit≤ tt) ∙ sym final-length) (eqb-true _ _ t)
 
   -- a training frame that answers 0 is what writing its fields with count 180 gives
   pub training-again : Sound B → hasSync trainingSync B ≡ true
-      → B ≡ trainingBits 180 (coefficientsOf B) (valueOf (fieldOf wordA B)) (valueOf (fieldOf wordB B)) (octetsOf 16 (fieldOf vendor B))
+      → B ≡ trainingBits 180 (coefficientsOf B) (valueOf (fieldOf aField B)) (valueOf (fieldOf bField B)) (octetsOf 16 (fieldOf vendorField B))
   unfolding trainingBits
   training-again s t =
       let cs = coefficientsOf B in
-      let all : used 180 cs ≡ cs = mathlib.Core.List.append-nil (take 180 cs) ∙ take-all 180 cs (omega (arith, numbers-length 22 180 (fieldOf coefficients B))) in
+      let all : used 180 cs ≡ cs = mathlib.Core.List.append-nil (take 180 cs) ∙ take-all 180 cs (omega (arith, numbers-length 22 180 (fieldOf coefficientsField B))) in
       frame-is s
       ∙ ap₂ frameBits (training-sync t)
       (message-is
-      ∙ ap₂ (λ (c : List ℤ) (r : List ℕ). message c (valueOf (fieldOf wordA B)) (valueOf (fieldOf wordB B)) (octetsOf 16 (fieldOf vendor B)) r) (sym all)
+      ∙ ap₂ (λ (c : List ℤ) (r : List ℕ). message c (valueOf (fieldOf aField B)) (valueOf (fieldOf bField B)) (octetsOf 16 (fieldOf vendorField B)) r) (sym all)
       (zeros-are 4144 67 (lit≤ tt) (s .unreserved t)))

@@ -1,13 +1,10 @@
 // The activation frame's measures (SCOPE, "The activation frame"). What they mean is in specs/; a field's place follows from the
 // widths before it.
 
-// A frame's octets.
-pub const FRAME_OCTETS: usize = 529;
+// The coefficients, and the bits of one.
+pub const COEFFICIENTS: usize = ranges::COEFFICIENTS;
 
-// Coefficients in a frame, the bits of one, as a width and from place to place, and those of all.
-pub const COEFFICIENTS: usize = 180;
-
-pub const COEFFICIENT_BITS: u32 = 22;
+pub const COEFFICIENT_BITS: u32 = ranges::COEFFICIENT_BITS;
 
 // The places from one coefficient to the next, and the bits of all of them.
 pub const COEFFICIENT_STEP: usize = COEFFICIENT_BITS as usize;
@@ -17,9 +14,9 @@ pub const ALL_COEFFICIENT_BITS: u32 = COEFFICIENTS as u32 * COEFFICIENT_BITS;
 // The bits of sync, of A or B, of vendor data, of the reserved field, of the check bits and of the pad.
 pub const SYNC_BITS: u32 = 14;
 
-pub const WORD_BITS: u32 = 21;
+pub const WORD_BITS: u32 = ranges::WORD_BITS;
 
-pub const VENDOR_BITS: u32 = 128;
+pub const VENDOR_BITS: u32 = 8 * VENDOR_OCTETS as u32;
 
 pub const RESERVED_BITS: u32 = 67;
 
@@ -44,6 +41,9 @@ pub const RESERVED_AT: usize = VENDOR_AT + VENDOR_BITS as usize;
 pub const CHECK_AT: usize = RESERVED_AT + RESERVED_BITS as usize;
 
 pub const PAD_AT: usize = CHECK_AT + CHECK_BITS as usize;
+
+// A frame's octets.
+pub const FRAME_OCTETS: usize = (PAD_AT + PAD_BITS as usize) / 8;
 
 // The bits under the check bits: 15 to 4211 of the paper.
 pub const MESSAGE_BITS: u32 = ALL_COEFFICIENT_BITS + 2 * WORD_BITS + VENDOR_BITS + RESERVED_BITS;

@@ -1,17 +1,17 @@
 -- The listing fits a room of 4,096 octets, so that nothing is cut there. Assumes nothing.
 use mathlib.Core.Path.{_≡_}
-use mathlib.Core.Bool.{Bool, true, false, cond, _&&_}
+use mathlib.Core.Bool.{Bool, true, false, cond}
 use mathlib.Core.List.{List, [], _∷_}
 use Prim.Native.Nat.{ℕ, zero, suc, _+_, _*_, _^_, _≤_, _<_}
 use Prim.Native.String.{String}
 use native.Mathlib.Omega.{arith}
-use borrow.Author.Tests.{leb-true}
-use lib.Dec.{leb, lit<, lit≤}
+use lib.Dec.{lit<, lit≤}
 use lib.IntN.{ℤ, pos, negsuc}
 use lib.ListN.{length, getD, take, drop, length-append}
 use lib.Seq.{length-take-le}
 use lib.Signed.{mag}
-use Rattle.answer.specs.Answer.{Refusal, answer, inOrder}
+use Rattle.answer.specs.Answer.{answer}
+use Rattle.answer.proofs.Order.{answer-within}
 use Rattle.octets.specs.Bits.{valueOf, bitsOf}
 use Rattle.octets.specs.Signed.{numbersIn}
 use Rattle.octets.proofs.Digits.{Bits, take-bits, drop-bits, value-part}
@@ -19,7 +19,7 @@ use Rattle.octets.proofs.Laws.{bits-bits, octets-length}
 use Rattle.octets.proofs.Complement.{signed-range}
 use Rattle.octets.proofs.Numbers.{numbers-length}
 use Rattle.remainder.specs.Division.{polynomial}
-use Rattle.layout.specs.Places.{coefficients, wordA, wordB, vendor, check}
+use Rattle.layout.specs.Places.{coefficientsField, aField, bField, vendorField, checkField}
 use Rattle.layout.specs.Frame.{trainingSync, fieldOf, coefficientsOf}
 use Rattle.layout.specs.Refusals.{hasSync, checkRefusals}
 use Rattle.layout.proofs.Order.{check-order}
@@ -30,7 +30,6 @@ use Rattle.highest.specs.Highest.{highest}
 use Rattle.listing.specs.Listing.{numberLine, coefficientLine, coefficientLines, vendorLine, checkLine, trainingText, finalText, listed, listing}
 use Rattle.ascii.proofs.Room.{told-whole}
 use Rattle.listing.specs.Promises.{Listed}
-use Rattle.ranges.proofs.Laws.{both}
 use Rattle.highest.proofs.Laws.{highest-within}
 
 -- every number of a list has 22 bits
@@ -95,22 +94,9 @@ final-length : (vendor : List ℕ) (c : ℕ) → length vendor ≡ 16 → length
 unfolding finalText
 final-length vendor c lv = simp length-append (omega (arith, vendor-length vendor lv, check-length c))
 
--- checks in the order of their numbers answer 8 at most
-answer-small : (low : ℕ) (ts : List Refusal) → inOrder low ts ≡ true → answer ts ≤ 8
-unfolding inOrder
-answer-small low [] e = lit≤ tt
-answer-small low (t ∷ ts) e =
-    let p = both (leb low (t .number)) (leb (t .number) 8 && inOrder (t .number) ts) e .1 in
-    let q = both (leb (t .number) 8) (inOrder (t .number) ts) p in
-    pick (t .applies) (leb-true (t .number) 8 (q .0)) (answer-small (t .number) ts (q .1))
-  where
-    pick : (b : Bool) → t .number ≤ 8 → answer ts ≤ 8 → cond b (t .number) (answer ts) ≤ 8
-    pick true h l = h
-    pick false h l = l
-
 pub fits : (octets : List ℕ) → length (listing octets) ≤ 4096
 unfolding listing listed
-fits octets = go (answer (checkRefusals octets)) (answer-small 1 (checkRefusals octets) (check-order octets))
+fits octets = go (answer (checkRefusals octets)) (answer-within 1 (checkRefusals octets) (check-order octets))
   where
     B : List ℕ
     B = bitsOf octets
@@ -118,12 +104,12 @@ fits octets = go (answer (checkRefusals octets)) (answer-small 1 (checkRefusals 
     from : (at : ℕ) → Bits (drop at B)
     from at = drop-bits at B (bits-bits octets)
 
-    text-length : (t : Bool) → length (cond t (trainingText (coefficientsOf B) (valueOf (fieldOf wordA B)) (valueOf (fieldOf wordB B)) (vendorOctets B) (polynomial (fieldOf check B))) (finalText (vendorOctets B) (polynomial (fieldOf check B)))) ≤ 4096
+    text-length : (t : Bool) → length (cond t (trainingText (coefficientsOf B) (valueOf (fieldOf aField B)) (valueOf (fieldOf bField B)) (vendorOctets B) (polynomial (fieldOf checkField B))) (finalText (vendorOctets B) (polynomial (fieldOf checkField B)))) ≤ 4096
     text-length true =
-        training-length (coefficientsOf B) (valueOf (fieldOf wordA B)) (valueOf (fieldOf wordB B)) (vendorOctets B) (polynomial (fieldOf check B))
-        (numbers-length 22 180 (fieldOf coefficients B)) (numbers-small 180 (fieldOf coefficients B) (take-bits 3960 (drop 14 B) (from 14)))
-        (value-part 21 (drop 3974 B) (from 3974)) (value-part 21 (drop 3995 B) (from 3995)) (octets-length 16 (fieldOf vendor B))
-    text-length false = final-length (vendorOctets B) (polynomial (fieldOf check B)) (octets-length 16 (fieldOf vendor B))
+        training-length (coefficientsOf B) (valueOf (fieldOf aField B)) (valueOf (fieldOf bField B)) (vendorOctets B) (polynomial (fieldOf checkField B))
+        (numbers-length 22 180 (fieldOf coefficientsField B)) (numbers-small 180 (fieldOf coefficientsField B) (take-bits 3960 (drop 14 B) (from 14)))
+        (value-part 21 (drop 3974 B) (from 3974)) (value-part 21 (drop 3995 B) (from 3995)) (octets-length 16 (fieldOf vendorField B))
+    text-length false = final-length (vendorOctets B) (polynomial (fieldOf checkField B)) (octets-length 16 (fieldOf vendorField B))
 
     go : (n : ℕ) → n ≤ 8 → length (listed n B) ≤ 4096
     go zero h = text-length (hasSync trainingSync B)

@@ -13,7 +13,7 @@ use Rattle.answer.specs.Answer.{answer}
 use Rattle.octets.specs.Bits.{digitsOf, valueOf, bitsOf}
 use Rattle.octets.proofs.Digits.{turned-lt}
 use Rattle.remainder.specs.Division.{polynomial}
-use Rattle.layout.specs.Places.{wordA, wordB, check}
+use Rattle.layout.specs.Places.{aField, bField, checkField}
 use Rattle.layout.specs.Frame.{trainingSync, fieldOf, coefficientsOf}
 use Rattle.layout.specs.Refusals.{hasSync, checkRefusals}
 use Rattle.reader.specs.declared.Found.{Found}
@@ -72,7 +72,7 @@ module _ (f : List ℕ) (cs : List ℤ) (v : List ℕ) (lc : length cs ≡ 180) 
 
   -- a training frame's numbers and a final one's
   abbrev T : Found
-  T = record { answer = 0; kind = 0; a = valueOf (fieldOf wordA B); b = valueOf (fieldOf wordB B) }
+  T = record { answer = 0; kind = 0; a = valueOf (fieldOf aField B); b = valueOf (fieldOf bField B) }
 
   abbrev F : Found
   F = record { answer = 0; kind = 1; a = 0; b = 0 }
@@ -96,12 +96,12 @@ module _ (f : List ℕ) (cs : List ℤ) (v : List ℕ) (lc : length cs ≡ 180) 
     unfolding listing
     listing-is = ap (λ (n : ℕ). listed n B) (sym (none-applies f cs v lc lv r cs′ v′ d z))
 
-    module _ (c : ℕ) (e : c ≡ polynomial (fieldOf check B)) where
+    module _ (c : ℕ) (e : c ≡ polynomial (fieldOf checkField B)) where
       abbrev training : List ℕ
-      training = trainingText (coefficientsOf B) (T .a) (T .b) (vendorOctets B) (polynomial (fieldOf check B))
+      training = trainingText (coefficientsOf B) (T .a) (T .b) (vendorOctets B) (polynomial (fieldOf checkField B))
 
       abbrev final : List ℕ
-      final = finalText (vendorOctets B) (polynomial (fieldOf check B))
+      final = finalText (vendorOctets B) (polynomial (fieldOf checkField B))
 
       pub training-text : r .kind ≡ 0 → trainingText cs′ (r .a) (r .b) v′ c ≡ listing f
       unfolding listed

@@ -8,7 +8,7 @@ use lib.ListN.{take}
 use Rattle.answer.specs.Answer.{answer}
 use Rattle.octets.specs.Bits.{valueOf, bitsOf}
 use Rattle.remainder.specs.Division.{polynomial}
-use Rattle.layout.specs.Places.{wordA, wordB, check}
+use Rattle.layout.specs.Places.{aField, bField, checkField}
 use Rattle.layout.specs.Frame.{trainingSync, fieldOf, coefficientsOf}
 use Rattle.layout.specs.Refusals.{hasSync, checkRefusals}
 use Rattle.reader.specs.Promises.{vendorOctets}
@@ -51,8 +51,8 @@ unfoldable pub listed : ℕ → List ℕ → List ℕ
 listed (suc n) bits = numberLine "refused " (suc n)
 listed zero bits =
     cond (hasSync trainingSync bits)
-    (trainingText (coefficientsOf bits) (valueOf (fieldOf wordA bits)) (valueOf (fieldOf wordB bits)) (vendorOctets bits) (polynomial (fieldOf check bits)))
-    (finalText (vendorOctets bits) (polynomial (fieldOf check bits)))
+    (trainingText (coefficientsOf bits) (valueOf (fieldOf aField bits)) (valueOf (fieldOf bField bits)) (vendorOctets bits) (polynomial (fieldOf checkField bits)))
+    (finalText (vendorOctets bits) (polynomial (fieldOf checkField bits)))
 
 -- what the lister prints for the octets that it reads: fewer or more than 529 octets is "refused 1", as a frame's check answers
 unfoldable pub listing : List ℕ → List ℕ

@@ -16,19 +16,19 @@ line n c t = record { answer = n; code = c; times = t }
 abbrev pub isDigit : ℕ → Bool
 isDigit o = leb 48 o && leb o 57
 
--- whether each of these is
+-- whether all octets of a list are
 unfoldable pub digits : List ℕ → Bool
 digits [] = true
 digits (o ∷ os) = isDigit o && digits os
 
--- behind `0*`: digits that read as 1 to 1,000,000,000 are so many ticks. Other digits, and none, are 4, and what is no digit is 2
+-- behind `0*`: digits that read as 1 to 1,000,000,000 are that many ticks; other digits, or none at all, are 4; what is no digit is 2
 unfoldable pub counted : List ℕ → Line
 counted ds =
     cond (digits ds)
     (cond (leb 1 (reading 10 0 ds) && leb (reading 10 0 ds) 1000000000) (line 0 0 (reading 10 0 ds)) (line 4 0 0))
     (line 2 0 0)
 
--- a character alone: one of the codes 0 to 8, and else 2
+-- a character alone: one of the codes 0 to 8, else 2
 abbrev pub oneCode : ℕ → Line
 oneCode o = cond (leb 48 o && leb o 56) (line 0 (o - 48) 1) (line 2 0 0)
 

@@ -19,7 +19,7 @@ impl Line {
     // The most ticks that a line may count.
     pub const MOST: u32 = 1000000000;
 
-    // What a line says, which may end with a carriage return.
+    // What a line says; it may end with a carriage return.
     pub fn read(line: &[u8]) -> Line
         ensures { λ r. ⌜ r ≡ lineOf (now (line .entry)) ⌝ }
     {
@@ -35,7 +35,7 @@ impl Line {
         }
     }
 
-    // Such a line.
+    // What a line says, from its three numbers.
     fn with(answer: u32, code: u32, times: u32) -> Line
         ensures { λ r. ⌜ r ≡ lineWith answer code times ⌝ }
     {

@@ -5,6 +5,11 @@ ghost use Prim.Native.Nat.{_<_};
 ghost use Rattle.octets.specs.Signed.{signedOf, twosOf};
 ghost use Rattle.numbers.specs.Promises.{NumberRead, NumberPut, NumbersRead, NumbersPut};
 
+// The octets of a number, and of as many as there are coefficients and remembered outputs: 720.
+pub const NUMBER_OCTETS: usize = 4;
+
+pub const COEFFICIENT_OCTETS: usize = NUMBER_OCTETS * ranges::COEFFICIENTS;
+
 // An octet as a wider number.
 fn wide(octet: u8) -> u32
     ensures { λ r. ⌜ (r ≡ octet) × (r < 256) ⌝ }
@@ -37,10 +42,10 @@ fn to_unsigned(z: i32) -> u32
 pub fn number(octets: &[u8], k: usize) -> i32
     ensures { λ r. ⌜ NumberRead (now (octets .entry)) k r ⌝ }
 {
-    if octets.len() / 4 <= k {
+    if octets.len() / NUMBER_OCTETS <= k {
         return 0;
     }
-    let at = 4 * k;
+    let at = NUMBER_OCTETS * k;
     let low = wide(octets[at]) + wide(octets[at + 1]) * 256;
     let high = wide(octets[at + 2]) * 65_536 + wide(octets[at + 3]) * 16_777_216;
     to_signed(low + high)
@@ -50,10 +55,10 @@ pub fn number(octets: &[u8], k: usize) -> i32
 pub fn put_number(octets: &mut [u8], k: usize, z: i32)
     ensures { λ r. ⌜ NumberPut (now (octets .entry)) k z (now (octets .exit)) ⌝ }
 {
-    if octets.len() / 4 <= k {
+    if octets.len() / NUMBER_OCTETS <= k {
         return;
     }
-    let at = 4 * k;
+    let at = NUMBER_OCTETS * k;
     let n = to_unsigned(z);
     octets[at] = (n % 256) as u8;
     octets[at + 1] = (n / 256 % 256) as u8;
@@ -62,12 +67,12 @@ pub fn put_number(octets: &mut [u8], k: usize, z: i32)
 }
 
 // The first 180 numbers of octets, as many as there are coefficients and remembered outputs; where there are fewer they are 0.
-pub fn numbers(octets: &[u8]) -> [i32; 180]
+pub fn numbers(octets: &[u8]) -> [i32; ranges::COEFFICIENTS]
     ensures { λ r. ⌜ NumbersRead (now (octets .entry)) r ⌝ }
 {
-    let mut into = [0i32; 180];
+    let mut into = [0i32; ranges::COEFFICIENTS];
     let mut k = 0;
-    while k < 180 {
+    while k < ranges::COEFFICIENTS {
         into[k] = number(octets, k);
         k += 1;
     }
@@ -80,7 +85,7 @@ pub fn put_numbers(octets: &mut [u8], numbers: &[i32])
 {
     let mut k = 0;
     while k < numbers.len() {
-        if octets.len() / 4 <= k {
+        if octets.len() / NUMBER_OCTETS <= k {
             return;
         }
         let z = numbers[k];

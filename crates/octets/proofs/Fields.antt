@@ -7,22 +7,14 @@ use native.Mathlib.Nat.{mod-eq-of-lt}
 use native.Mathlib.Omega.{arith}
 use lib.IntN.{ℤ}
 use lib.ListN.{length, getD, take, drop, set, length-take, length-drop}
-use lib.Seq.{sets, sets-eq, length-take-le, take-at, drop-at, drop-append-add, drop-append-le, take-append-le, take-take, drop-drop, getD-take, getD-drop, getD-set-other, ext-getD}
+use lib.Seq.{sets, sets-eq, length-take-le, take-at, drop-at, drop-append-add, drop-append-le, take-append-le, take-take, drop-drop, getD-take, getD-drop, ext-getD}
 use lib.Signed.{mag}
 use Rattle.octets.specs.Bits.{digitsOf, valueOf, bitsOf, bitOf, part, laid}
 use Rattle.octets.specs.Signed.{signedOf, twosOf}
 use Rattle.octets.proofs.Digits.{Bits, digits-length, digits-bits, value-digits}
-use Rattle.octets.proofs.Laws.{bits-length, laid-bits, laid-length}
+use Rattle.octets.proofs.Laws.{bits-length, laid-bits, laid-length, sets-other}
 use Rattle.octets.proofs.Words.{drop-take}
 use Rattle.octets.proofs.Complement.{twos-lt, signed-twos}
-
--- outside the places that are set, a list stays
-pub sets-other : (l : List ℕ) (at : ℕ) (bs : List ℕ) (i : ℕ) → (i < at) ⊎ (at + length bs ≤ i) → getD (sets l at bs) i 0 ≡ getD l i 0
-sets-other l at [] i h = refl
-sets-other l at (b ∷ bs) i (inl h) =
-    sets-other (set l at b) (suc at) bs i (inl (omega arith)) ∙ getD-set-other l at i b 0 (omega arith)
-sets-other l at (b ∷ bs) i (inr h) =
-    sets-other (set l at b) (suc at) bs i (inr (omega arith)) ∙ getD-set-other l at i b 0 (omega arith)
 
 -- two lists of one length that agree at the places of a part have the same part
 pub part-same : (l m : List ℕ) (at n : ℕ) → length l ≡ length m → ((i : ℕ) → at ≤ i → i < at + n → getD l i 0 ≡ getD m i 0)

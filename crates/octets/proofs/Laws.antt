@@ -2,6 +2,7 @@
 use mathlib.Core.Path.{_≡_, refl, sym, ap, ap₂, _∙_}
 use mathlib.Core.List.{List, [], _∷_, _++_, append-nil}
 use mathlib.Core.Bool.{true, false}
+use mathlib.Core.Logic.{_⊎_, inl, inr}
 use Prim.Native.Nat.{ℕ, zero, suc, _+_, _-_, _*_, _/_, _%_, _^_, _≤_, _<_, zero-le, suc-le-suc, min}
 use native.Mathlib.Nat.{le-of-suc-le-suc, not-suc-le-zero, mod-lt, zero-add, suc-add, add-zero, add-suc, suc-mul}
 use native.Mathlib.Numerals.{add-one}
@@ -12,9 +13,9 @@ use lib.Dec.{ltb}
 use lib.Pow.{pow-pos, shl-exact}
 use lib.Bits.{bitAnd, bitXor, differ, and-mask, xor-lt}
 use lib.ListN.{length, getD, take, drop, set, length-append, List·getD-append, List·getD-eq-default, length-set, length-take, length-drop, take-append-drop, drop-of-length-le}
-use lib.Seq.{getD-append-add, set-append-left, set-out, getD-drop, getD-take, length-take-le, sets, length-sets, sets-eq, take-at, drop-at, take-suc, take-all}
+use lib.Seq.{getD-append-add, set-append-left, set-out, getD-set-other, getD-drop, getD-take, length-take-le, sets, length-sets, sets-eq, take-at, drop-at, take-suc, take-all}
 use Rattle.octets.specs.Bits.{digitsOf, valueOf, bitsOf, octetsOf, bitOf, part, laid}
-use Rattle.octets.proofs.Digits.{Bits, append-bits, take-bits, drop-bits, digits-length, digits-bits, digits-at, flip, digits-value, value-digits, value-next, value-grows}
+use Rattle.octets.proofs.Digits.{Bits, append-bits, take-bits, drop-bits, digits-length, digits-bits, digits-at, flip, digits-value, value-digits, value-part, value-next, value-grows}
 
 -- every element of s is an octet
 abbrev pub Octets : List ℕ → Type 0
@@ -142,6 +143,10 @@ held-out s at k e = ltb-false (holder s at k) (length s) (has-bit s at k ∙ e)
 pub part-bits : (s : List ℕ) (at n k : ℕ) → Bits (take k (part at n (bitsOf s)))
 part-bits s at n k = take-bits k (part at n (bitsOf s)) (take-bits n (drop at (bitsOf s)) (drop-bits at (bitsOf s) (bits-bits s)))
 
+-- so its value is small
+pub part-lt : (s : List ℕ) (at n : ℕ) → valueOf (part at n (bitsOf s)) < 2 ^ n
+part-lt s at n = value-part n (drop at (bitsOf s)) (drop-bits at (bitsOf s) (bits-bits s))
+
 -- ---- octets of bits, and bits of octets
 
 pub octets-length : (n : ℕ) (bs : List ℕ) → length (octetsOf n bs) ≡ n
@@ -190,6 +195,14 @@ sets-append l at [] ys = ap (λ (n : ℕ). sets l n ys) (sym (add-zero at))
 sets-append l at (x ∷ xs) ys =
     sets-append (set l at x) (suc at) xs ys
     ∙ ap (λ (n : ℕ). sets (sets (set l at x) (suc at) xs) n ys) (suc-add at (length xs) ∙ sym (add-suc at (length xs)))
+
+-- outside the places that are set, a list stays
+pub sets-other : (l : List ℕ) (at : ℕ) (bs : List ℕ) (i : ℕ) → (i < at) ⊎ (at + length bs ≤ i) → getD (sets l at bs) i 0 ≡ getD l i 0
+sets-other l at [] i h = refl
+sets-other l at (b ∷ bs) i (inl h) =
+    sets-other (set l at b) (suc at) bs i (inl (omega arith)) ∙ getD-set-other l at i b 0 (omega arith)
+sets-other l at (b ∷ bs) i (inr h) =
+    sets-other (set l at b) (suc at) bs i (inr (omega arith)) ∙ getD-set-other l at i b 0 (omega arith)
 
 pub laid-length : (s : List ℕ) (at : ℕ) (bs : List ℕ) → length (laid s at bs) ≡ length s
 unfolding laid

@@ -3,7 +3,7 @@ use mathlib.Core.Path.{_≡_, sym, _∙_}
 use mathlib.Core.Bool.{Bool}
 use mathlib.Core.List.{List}
 use Prim.Native.Nat.{ℕ}
-use Rattle.octets.specs.Promises.{BitRead, BitPut, HasBit, Copied, Cleared, IsClear}
+use Rattle.octets.specs.Promises.{BitRead, BitPut, HasBit, WordRead, WordPut, BitsRead, BitsPut, Copied, Cleared, IsClear}
 
 -- two that are equal to a third
 pub both : {A : Type 0} {x y z : A} → x ≡ z → y ≡ z → x ≡ y
@@ -17,6 +17,18 @@ put-bit-one s at k b t t′ p q = both p q
 
 pub has-one : (s : List ℕ) (at k : ℕ) (r r′ : Bool) → HasBit s at k r → HasBit s at k r′ → r ≡ r′
 has-one s at k r r′ p q = both p q
+
+pub word-one : (s : List ℕ) (i r r′ : ℕ) → WordRead s i r → WordRead s i r′ → r ≡ r′
+word-one s i r r′ p q = both p q
+
+pub put-word-one : (s : List ℕ) (i v : ℕ) (t t′ : List ℕ) → WordPut s i v t → WordPut s i v t′ → t ≡ t′
+put-word-one s i v t t′ p q = both p q
+
+pub bits-one : (s : List ℕ) (at k n r r′ : ℕ) → BitsRead s at k n r → BitsRead s at k n r′ → r ≡ r′
+bits-one s at k n r r′ p q = both p q
+
+pub put-bits-one : (s : List ℕ) (at k n v : ℕ) (t t′ : List ℕ) → BitsPut s at k n v t → BitsPut s at k n v t′ → t ≡ t′
+put-bits-one s at k n v t t′ p q = both p q
 
 pub copy-one : (s : List ℕ) (at : ℕ) (source : List ℕ) (from n : ℕ) (t t′ : List ℕ) → Copied s at source from n t → Copied s at source from n t′ → t ≡ t′
 copy-one s at source from n t t′ p q = both p q

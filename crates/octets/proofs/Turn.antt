@@ -58,7 +58,7 @@ turn-xor (suc k) a b =
     ∙ sym (xor-block 1 (turnOf k a) (turnOf k b) (p % 2) (q % 2) (bit p) (bit q))
     ∙ sym (ap₂ bitXor (turn-more k a) (turn-more k b))
 
-turn-zero : (k : ℕ) → turnOf k 0 ≡ 0
+pub turn-zero : (k : ℕ) → turnOf k 0 ≡ 0
 unfolding digitsOf valueOf
 turn-zero zero = refl
 turn-zero (suc k) = turn-more k 0 ∙ ap₂ (λ (x y : ℕ). x * 2 + y % 2) (turn-zero k) (zero-div k)

@@ -1,21 +1,22 @@
 -- Many bits at once: octets as one number, digits in parts, and a field put into them. Assumes nothing.
 use mathlib.Core.Path.{_≡_, refl, sym, ap, ap₂, _∙_, subst}
 use mathlib.Core.Bool.{false}
+use mathlib.Core.Logic.{inr}
 use mathlib.Core.List.{List, [], _∷_, _++_, append-assoc, append-nil}
 use Prim.Native.Nat.{ℕ, zero, suc, _+_, _-_, _*_, _/_, _%_, _^_, _≤_, _<_, zero-le, suc-le-suc}
-use native.Mathlib.Nat.{div-one, zero-add, suc-add, mod-lt}
-use native.Mathlib.Decide.{decLe}
+use native.Mathlib.Nat.{div-one, zero-add, suc-add, add-zero, mod-lt, mod-one, mod-eq-of-lt, div-eq-of-lt, pow-suc}
+use native.Mathlib.Decide.{decLe, decLt}
 use native.Mathlib.Omega.{arith}
-use lib.Arith.{digits-lt}
-use borrow.Author.Tests.{le-leb, lt-leb}
-use lib.Dec.{lit≤, leb}
+use lib.Arith.{digits-lt, digits-div, digits-mod, mod-mul}
+use borrow.Author.Tests.{lt-ltb, le-ltb}
+use lib.Dec.{lit≤, ltb}
 use lib.Pow.{high, low, pow-pos, pow-mono, pow-add, shl-exact, shr-lt}
 use lib.Bits.{bitAnd, bitOr, and-mask, or-shifted}
-use lib.ListN.{length, getD, take, drop, set, length-append, length-drop, take-append-drop}
-use lib.Seq.{length-take-le, take-nil, take-at, drop-at, take-take, drop-drop, take-add, take-append-le, drop-append-le, drop-cons, sets, length-sets, sets-eq}
+use lib.ListN.{length, getD, take, drop, set, length-append, length-drop, take-append-drop, drop-of-length-le, List·getD-eq-default}
+use lib.Seq.{length-take-le, take-nil, take-at, drop-at, take-take, drop-drop, take-add, take-append-le, drop-append-le, drop-cons, getD-take, getD-drop, set-out, set-getD, sets, length-sets, sets-eq}
 use Rattle.octets.specs.Bits.{digitsOf, valueOf, bitsOf, octetsOf, part, laid}
-use Rattle.octets.proofs.Digits.{Bits, take-bits, drop-bits, digits-length, digits-bits, digits-take, digits-mod-pow, digits-value, shr-suc, value-digits, value-part}
-use Rattle.octets.proofs.Laws.{Octets, bits-length, bits-bits, octets-are, octets-length, bits-octets, sets-below, sets-append}
+use Rattle.octets.proofs.Digits.{Bits, take-bits, drop-bits, digits-length, digits-bits, digits-at, digits-take, digits-mod-pow, digits-value, shr-suc, value-append, value-digits, value-part}
+use Rattle.octets.proofs.Laws.{Octets, bits-length, bits-bits, octets-are, octets-bits, octets-length, bits-octets, laid-next, sets-below, sets-append, sets-other}
 
 -- ---- digits in parts
 
@@ -167,84 +168,157 @@ drop-take zero k l = ap (λ (n : ℕ). take n l) (zero-add k)
 drop-take (suc i) k [] = ap (λ (n : ℕ). drop (suc i) (take n [])) (suc-add i k) ∙ sym (take-nil k)
 drop-take (suc i) k (x ∷ l) = ap (λ (n : ℕ). drop (suc i) (take n (x ∷ l))) (suc-add i k) ∙ drop-take i k l
 
--- what is there already
-sets-own : (l : List ℕ) (i n : ℕ) → i + n ≤ length l → sets l i (part i n l) ≡ l
-sets-own l i n h =
-    let e : length (part i n l) ≡ n = length-take-le n (drop i l) (omega (arith, length-drop i l)) in
-    sets-eq (part i n l) l i (omega arith)
-    ∙ ap₂ (λ (x : List ℕ) (k : ℕ). x ++ drop (i + k) l) (sym (take-add i n l)) e
-    ∙ take-append-drop (i + n) l
+-- ---- the value of a part, by the value of the whole
 
-module _ (B : List ℕ) (at n : ℕ) (h : n ≤ 32) where
-  -- the first bit of the eight octets, and how far behind it the place lies
-  abbrev first : ℕ
-  first = 8 * (at / 8)
+value-drop : (r : ℕ) (l : List ℕ) → Bits l → valueOf (drop r l) ≡ valueOf l / 2 ^ r
+unfolding valueOf
+value-drop zero l h = sym (div-one (valueOf l))
+value-drop (suc r) [] h = sym (div-eq-of-lt (pow-pos (suc r)))
+value-drop (suc r) (x ∷ l) h =
+    value-drop r l (λ i. h (suc i)) ∙ ap (λ (n : ℕ). n / 2 ^ r) (sym (digits-div (valueOf l) (h 0))) ∙ shr-suc (valueOf l * 2 + x) r
 
-  abbrev inner : ℕ
-  inner = at % 8
+value-take : (n : ℕ) (l : List ℕ) → Bits l → valueOf (take n l) ≡ valueOf l % 2 ^ n
+unfolding valueOf
+value-take zero l h = sym (mod-one (valueOf l))
+value-take (suc n) [] h = sym (mod-eq-of-lt (pow-pos (suc n)))
+value-take (suc n) (x ∷ l) h =
+    let v = valueOf l in
+    let lt : x < 2 = h 0 in
+    let e : (v * 2 + x) % 2 ^ suc n ≡ (v * 2 + x) / 2 % 2 ^ n * 2 + (v * 2 + x) % 2 =
+    ap (λ (y : ℕ). (v * 2 + x) % y) (pow-suc 2 n) ∙ mod-mul (v * 2 + x) (pow-pos n) (suc-le-suc zero-le) in
+    ap (λ (y : ℕ). y * 2 + x) (value-take n l (λ i. h (suc i))) ∙ sym (e ∙ ap₂ (λ (p q : ℕ). p % 2 ^ n * 2 + q) (digits-div v lt) (digits-mod v lt))
 
-  here : first + inner ≡ at
-  here = omega arith
+value-at : (l : List ℕ) (j : ℕ) → Bits l → valueOf l / 2 ^ j % 2 ≡ getD l j 0
+unfolding valueOf
+value-at l j h =
+    ap (λ (x : ℕ). x % 2) (sym (value-drop j l h)) ∙ first (drop j l) (drop-bits j l h) ∙ getD-drop j l 0 0 ∙ ap (λ (k : ℕ). getD l k 0) (add-zero j)
+  where
+    first : (m : List ℕ) → Bits m → valueOf m % 2 ≡ getD m 0 0
+    first [] k = refl
+    first (x ∷ m) k = digits-mod (valueOf m) (k 0)
 
-  -- of the 64 bits those from k on
-  rest-of : (k : ℕ) → k ≤ 64 → drop k (part first 64 B) ≡ part (first + k) (64 - k) B
-  rest-of k l =
-      let e : 64 ≡ k + (64 - k) = omega arith in
-      ap (λ (m : ℕ). drop k (take m (drop first B))) e ∙ drop-take k (64 - k) (drop first B) ∙ ap (take (64 - k)) (drop-drop k first B)
+-- ---- bits read and put, by what stands in the eight octets that hold them. What lies past the end reads 0 and is not written
 
-  pub field-in : (x : ℕ) → digitsOf 64 x ≡ part first 64 B → x / 2 ^ inner % 2 ^ n ≡ valueOf (part at n B)
-  field-in x e =
-      let r = inner in
+-- elements that are there already
+sets-own : (l : List ℕ) (at : ℕ) (bs : List ℕ) → ((i : ℕ) → i < length bs → at + i < length l → getD bs i 0 ≡ getD l (at + i) 0) → sets l at bs ≡ l
+sets-own l at [] h = refl
+sets-own l at (b ∷ bs) h =
+    ap (λ (m : List ℕ). sets m (suc at) bs) one ∙ sets-own l (suc at) bs (λ i p q. h (suc i) (suc-le-suc p) (omega arith) ∙ ap (λ (k : ℕ). getD l k 0) (omega arith))
+  where
+    one : set l at b ≡ l
+    one = pick (decLe (length l) at)
+      where
+        pick : Dec (length l ≤ at) → set l at b ≡ l
+        pick (yes p) = set-out l at b p
+        pick (no p) =
+            ap (set l at) (h 0 (suc-le-suc zero-le) (omega arith) ∙ ap (λ (k : ℕ). getD l k 0) (add-zero at)) ∙ set-getD l at 0
+
+module _ (B : List ℕ) (ok : Bits B) (first r n at : ℕ) (e : first + r ≡ at) (h : r + n ≤ 64) where
+  abbrev eight-bits : List ℕ
+  eight-bits = part first 64 B
+
+  eight-ok : Bits eight-bits
+  eight-ok = take-bits 64 (drop first B) (drop-bits first B ok)
+
+  pub bits-in : valueOf eight-bits / 2 ^ r % 2 ^ n ≡ valueOf (part at n B)
+  bits-in =
       let q : 64 ≡ r + (64 - r) = omega arith in
-      sym (value-digits n (x / 2 ^ r))
+      ap (λ (x : ℕ). x % 2 ^ n) (sym (value-drop r eight-bits eight-ok))
+      ∙ sym (value-take n (drop r eight-bits) (drop-bits r eight-bits eight-ok))
       ∙ ap valueOf
-      (sym (digits-take n (64 - r) (x / 2 ^ r) (omega arith))
-      ∙ ap (take n) (sym (digits-drop r (64 - r) 64 x q) ∙ ap (drop r) e ∙ rest-of r (omega arith))
-      ∙ take-take n (64 - r) (drop (first + r) B) (omega arith)
-      ∙ ap (λ (k : ℕ). part k n B) here)
+      (ap (λ (k : ℕ). take n (drop r (take k (drop first B)))) q ∙ ap (take n) (drop-take r (64 - r) (drop first B))
+      ∙ take-take n (64 - r) (drop r (drop first B)) (omega arith) ∙ ap (take n) (drop-drop r first B ∙ ap (λ (k : ℕ). drop k B) e))
 
-  field-put : (v : ℕ) → first + 64 ≤ length B
-      → sets B first (take inner (part first 64 B) ++ digitsOf n v ++ drop (inner + n) (part first 64 B)) ≡ sets B at (digitsOf n v)
-  field-put v l =
-      let r = inner in
-      let D = part first 64 B in
-      let P = part first r B in
+  -- a digit of the eight octets' number is the bit at its place
+  eight-at : (j : ℕ) → j < 64 → getD (digitsOf 64 (valueOf eight-bits)) j 0 ≡ getD B (first + j) 0
+  eight-at j k = digits-at 64 (valueOf eight-bits) j k ∙ value-at eight-bits j eight-ok ∙ getD-take 64 (drop first B) j 0 k ∙ getD-drop first B j 0
+
+  pub bits-put : (v : ℕ)
+      → sets B first (take r (digitsOf 64 (valueOf eight-bits)) ++ digitsOf n v ++ drop (r + n) (digitsOf 64 (valueOf eight-bits))) ≡ sets B at (digitsOf n v)
+  bits-put v =
+      let D = digitsOf 64 (valueOf eight-bits) in
+      let P = take r D in
       let ds = digitsOf n v in
+      let Q = drop (r + n) D in
       let C = sets B at ds in
+      let lD : length D ≡ 64 = digits-length 64 (valueOf eight-bits) in
       let ld : length ds ≡ n = digits-length n v in
-      let lP : length P ≡ r = length-take-le r (drop first B) (omega (arith, length-drop first B)) in
-      let lC : length C ≡ length B = length-sets B at ds in
-      let fit : at + length ds ≤ length B = omega (arith, here) in
-      let m = 64 - (r + n) in
-      let start : sets B first (P ++ ds) ≡ C =
-      sets-append B first P ds ∙ ap₂ (λ (x : List ℕ) (k : ℕ). sets x k ds) (sets-own B first r (omega arith)) (ap (λ (k : ℕ). first + k) lP ∙ here) in
-      let place : first + length (P ++ ds) ≡ at + n = ap (λ (k : ℕ). first + k) (length-append P ds) ∙ omega (arith, here) in
-      let same : drop (at + n) C ≡ drop (at + n) B =
-      ap (drop (at + n)) (sets-eq ds B at fit ∙ ap (λ (k : ℕ). take at B ++ ds ++ drop (at + k) B) ld)
-      ∙ drop-at (take at B ++ ds) (drop (at + n) B) (at + n) (length-append (take at B) ds ∙ omega (arith, length-take-le at B (omega arith))) in
-      let Q : drop (r + n) D ≡ part (at + n) m C =
-      rest-of (r + n) (omega arith) ∙ ap (λ (k : ℕ). part k m B) (behind r n here) ∙ ap (take m) (sym same) in
-      ap (λ (x : List ℕ). sets B first (x ++ ds ++ drop (r + n) D)) (take-take r 64 (drop first B) (omega arith))
-      ∙ sets-append B first (P ++ ds) (drop (r + n) D)
-      ∙ ap₂ (λ (x : List ℕ) (k : ℕ). sets x k (drop (r + n) D)) start place
-      ∙ ap (sets C (at + n)) Q
-      ∙ sets-own C (at + n) m (omega (arith, here))
-    where
-      behind : (r n : ℕ) → first + r ≡ at → first + (r + n) ≡ at + n
-      behind r n e = omega arith
+      let lP : length P ≡ r = length-take-le r D (omega arith) in
+      let lQ : length Q ≡ 64 - (r + n) = length-drop (r + n) D ∙ ap (λ (k : ℕ). k - (r + n)) lD in
+      let place : first + length (P ++ ds) ≡ at + n = ap (λ (k : ℕ). first + k) (length-append P ds) ∙ omega arith in
+      sets-append B first (P ++ ds) Q
+      ∙ ap₂ (λ (x : List ℕ) (k : ℕ). sets x k Q)
+      (sets-append B first P ds
+      ∙ ap₂ (λ (x : List ℕ) (k : ℕ). sets x k ds)
+      (sets-own B first P (λ i p q. let lt : i < r = omega arith in getD-take r D i 0 lt ∙ eight-at i (omega arith)))
+      (ap (λ (k : ℕ). first + k) lP ∙ e))
+      place
+      ∙ sets-own C (at + n) Q
+      (λ i p q.
+      let lt : r + n + i < 64 = omega arith in
+      let f : first + (r + n + i) ≡ at + n + i = omega arith in
+      getD-drop (r + n) D i 0 ∙ eight-at (r + n + i) lt ∙ ap (λ (k : ℕ). getD B k 0) f ∙ sym (sets-other B at ds (at + n + i) (inr (omega arith))))
 
--- the eight octets that hold a field, with the field replaced, are the field laid
-pub field-laid : (s : List ℕ) (at n v y : ℕ) → n ≤ 32 → Octets s → at / 8 + 8 ≤ length s
-    → digitsOf 64 y ≡ take (at % 8) (part (8 * (at / 8)) 64 (bitsOf s)) ++ digitsOf n v ++ drop (at % 8 + n) (part (8 * (at / 8)) 64 (bitsOf s))
-    → sets s (at / 8) (octetsOf 8 (digitsOf 64 y)) ≡ laid s at (digitsOf n v)
+-- the eight octets from an octet on, with bits replaced, are those bits laid
+pub bits-laid : (s : List ℕ) (i r n at v y : ℕ) → 8 * i + r ≡ at → r + n ≤ 64
+    → digitsOf 64 y
+    ≡ take r (digitsOf 64 (valueOf (part (8 * i) 64 (bitsOf s)))) ++ digitsOf n v ++ drop (r + n) (digitsOf 64 (valueOf (part (8 * i) 64 (bitsOf s))))
+    → laid s (8 * i) (digitsOf 64 y) ≡ laid s at (digitsOf n v)
 unfolding laid
-field-laid s at n v y h o l e =
-    octets-laid s (digitsOf 64 y) (at / 8) 8 o (digits-bits 64 y) (digits-length 64 y) l
-    ∙ ap (octetsOf (length s)) (ap (sets (bitsOf s) (8 * (at / 8))) e ∙ field-put (bitsOf s) at n h v (omega (arith, bits-length s)))
+bits-laid s i r n at v y e h f =
+    ap (octetsOf (length s)) (ap (sets (bitsOf s) (8 * i)) f ∙ bits-put (bitsOf s) (bits-bits s) (8 * i) r n at e h v)
+
+-- ---- octets one by one: past the end an octet reads 0 and is not written
+
+part-none : (s : List ℕ) (at n : ℕ) → 8 * length s ≤ at → part at n (bitsOf s) ≡ []
+part-none s at n h = ap (take n) (drop-of-length-le (bitsOf s) {i = at} (omega (arith, bits-length s))) ∙ take-nil n
+
+-- one octet more, before those that were read
+pub value-octet : (s : List ℕ) (j m : ℕ) → Octets s
+    → valueOf (part (8 * (j + 1)) m (bitsOf s)) * 2 ^ 8 + getD s j 0 ≡ valueOf (part (8 * j) (m + 8) (bitsOf s))
+unfolding valueOf
+value-octet s j m o = pick (decLe (length s) j)
+  where
+    pick : Dec (length s ≤ j) → valueOf (part (8 * (j + 1)) m (bitsOf s)) * 2 ^ 8 + getD s j 0 ≡ valueOf (part (8 * j) (m + 8) (bitsOf s))
+    pick (yes p) =
+        ap₂ (λ (l : List ℕ) (x : ℕ). valueOf l * 2 ^ 8 + x) (part-none s (8 * (j + 1)) m (omega arith)) (List·getD-eq-default s 0 p)
+        ∙ sym (ap valueOf (part-none s (8 * j) (m + 8) (omega arith)))
+    pick (no p) =
+        let lt : j < length s = omega arith in
+        let e : 8 * j + 8 ≡ 8 * (j + 1) = omega arith in
+        let f : 8 + m ≡ m + 8 = omega arith in
+        let d : digitsOf 8 (getD s j 0) ≡ part (8 * j) 8 (bitsOf s) = octet-digits s j lt in
+        let P = part (8 * (j + 1)) m (bitsOf s) in
+        sym (ap valueOf (sym (part-more (bitsOf s) (8 * j) 8 m (m + 8) f) ∙ ap₂ (λ (x : List ℕ) (k : ℕ). x ++ part k m (bitsOf s)) (sym d) e)
+        ∙ value-append (digitsOf 8 (getD s j 0)) P
+        ∙ ap₂ (λ (k x : ℕ). valueOf P * 2 ^ k + x) (digits-length 8 (getD s j 0)) (value-digits 8 (getD s j 0) ∙ mod-eq-of-lt (o j)))
+
+-- bits laid past the end
+pub laid-past : (s : List ℕ) (at : ℕ) (bs : List ℕ) → Octets s → 8 * length s ≤ at → s ≡ laid s at bs
+unfolding laid
+laid-past s at bs o h = sym (octets-bits s o) ∙ ap (octetsOf (length s)) (sym (sets-own (bitsOf s) at bs (λ i p q. absurd (omega (arith, bits-length s)))))
+
+-- one octet written
+pub octet-laid : (s : List ℕ) (j v : ℕ) → Octets s → j < length s → set s j (bitAnd v 255) ≡ laid s (8 * j) (digitsOf 8 v)
+octet-laid s j v o h =
+    sym (ap (sets s j) (one-octet v)) ∙ octets-laid s (digitsOf 8 v) j 1 o (digits-bits 8 v) (digits-length 8 v) (omega arith)
+
+-- eight octets written
+pub word-laid : (s : List ℕ) (i v : ℕ) → Octets s → i + 8 ≤ length s → sets s i (octetsOf 8 (digitsOf 64 v)) ≡ laid s (8 * i) (digitsOf 64 v)
+word-laid s i v o h = octets-laid s (digitsOf 64 v) i 8 o (digits-bits 64 v) (digits-length 64 v) h
+
+-- the digits laid so far, and eight more
+pub octet-more : (s₀ : List ℕ) (i v k : ℕ) {rest : ℕ} {s t : List ℕ} → rest ≡ v / 2 ^ (8 * k) → s ≡ laid s₀ (8 * i) (digitsOf (8 * k) v)
+    → t ≡ laid s (8 * (i + k)) (digitsOf 8 rest) → t ≡ laid s₀ (8 * i) (digitsOf (8 * (k + 1)) v)
+octet-more s₀ i v k {rest} e f g =
+    let p : 8 * i + length (digitsOf (8 * k) v) ≡ 8 * (i + k) = ap (λ (n : ℕ). 8 * i + n) (digits-length (8 * k) v) ∙ omega arith in
+    laid-next s₀ (8 * i) (digitsOf (8 * k) v) (digitsOf 8 rest) (8 * (i + k)) (digits-bits (8 * k) v) p f g
+    ∙ ap (laid s₀ (8 * i))
+    (ap (λ (x : ℕ). digitsOf (8 * k) v ++ digitsOf 8 x) e ∙ sym (digits-cut (8 * k) 8 (8 * (k + 1)) v (omega arith)))
 
 -- ---- the digits of a number with a field of them replaced, as the code does it
 
-module _ (x r n v : ℕ) (hr : r < 8) (hn : n ≤ 32) (hx : x < 2 ^ 64) where
+module _ (x r n v : ℕ) (hr : r < 8) (hn : n ≤ 56) (hx : x < 2 ^ 64) where
   abbrev lower : ℕ
   lower = bitOr (v % 2 ^ n * 2 ^ r % 2 ^ 64) (x % 2 ^ r)
 
@@ -272,19 +346,19 @@ module _ (x r n v : ℕ) (hr : r < 8) (hn : n ≤ 32) (hx : x < 2 ^ 64) where
       ∙ ap₂ (λ (a b : List ℕ). a ++ b) (digits-mod-pow r x ∙ sym (digits-take r 64 x (omega arith))) (digits-mod-pow n v))
       (sym (digits-drop k (64 - k) 64 x q))
 
--- ---- whether there are eight octets from octet i on, as the code asks it
+-- ---- whether there is an octet k places behind octet i, as the code asks it
 
-pub eight-not : (i n : ℕ) → n < i → false ≡ leb (i + 8) n
-eight-not i n h = sym (lt-leb (i + 8) n (omega arith))
+pub octet-not : (i k n : ℕ) → n ≤ i → false ≡ ltb (i + k) n
+octet-not i k n h = sym (le-ltb (i + k) n (omega arith))
 
-pub eight-there : (i n : ℕ) → i ≤ n → leb 8 (n - i) ≡ leb (i + 8) n
-eight-there i n h = pick (decLe 8 (n - i))
+pub octet-there : (i k n : ℕ) → i < n → ltb k (n - i) ≡ ltb (i + k) n
+octet-there i k n h = pick (decLt k (n - i))
   where
-    pick : Dec (8 ≤ n - i) → leb 8 (n - i) ≡ leb (i + 8) n
-    pick (yes l) = le-leb 8 (n - i) l ∙ sym (le-leb (i + 8) n (omega arith))
-    pick (no l) = lt-leb 8 (n - i) (omega arith) ∙ sym (lt-leb (i + 8) n (omega arith))
+    pick : Dec (k < n - i) → ltb k (n - i) ≡ ltb (i + k) n
+    pick (yes l) = lt-ltb k (n - i) l ∙ sym (lt-ltb (i + k) n (omega arith))
+    pick (no l) = le-ltb k (n - i) (omega arith) ∙ sym (le-ltb (i + k) n (omega arith))
 
 -- ---- a power of two, as the code shifts it
 
-pub size-is : (n : ℕ) → n ≤ 32 → 1 * 2 ^ n % 2 ^ 64 ≡ 2 ^ n
+pub size-is : (n : ℕ) → n ≤ 63 → 1 * 2 ^ n % 2 ^ 64 ≡ 2 ^ n
 size-is n h = omega (arith, pow-mono h)

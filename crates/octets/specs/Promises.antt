@@ -2,10 +2,10 @@
 use mathlib.Core.Path.{_≡_}
 use mathlib.Core.Bool.{Bool}
 use mathlib.Core.List.{List, [], _∷_}
-use Prim.Native.Nat.{ℕ, _+_, _%_}
+use Prim.Native.Nat.{ℕ, _+_, _*_, _%_, min}
 use lib.Dec.{eqb, ltb}
 use lib.ListN.{length, replicate}
-use Rattle.octets.specs.Bits.{valueOf, bitsOf, bitOf, part, laid}
+use Rattle.octets.specs.Bits.{digitsOf, valueOf, bitsOf, bitOf, part, laid}
 
 -- bit
 abbrev pub BitRead : List ℕ → ℕ → ℕ → ℕ → Type 0
@@ -18,6 +18,22 @@ BitPut s at k b exit = exit ≡ laid s (at + k) (b % 2 ∷ [])
 -- has
 abbrev pub HasBit : List ℕ → ℕ → ℕ → Bool → Type 0
 HasBit s at k r = r ≡ ltb (at + k) (length (bitsOf s))
+
+-- word
+abbrev pub WordRead : List ℕ → ℕ → ℕ → Type 0
+WordRead s i r = r ≡ valueOf (part (8 * i) 64 (bitsOf s))
+
+-- put_word
+abbrev pub WordPut : List ℕ → ℕ → ℕ → List ℕ → Type 0
+WordPut s i v exit = exit ≡ laid s (8 * i) (digitsOf 64 v)
+
+-- bits
+abbrev pub BitsRead : List ℕ → ℕ → ℕ → ℕ → ℕ → Type 0
+BitsRead s at k n r = r ≡ valueOf (part (at + k) (min n 56) (bitsOf s))
+
+-- put_bits
+abbrev pub BitsPut : List ℕ → ℕ → ℕ → ℕ → ℕ → List ℕ → Type 0
+BitsPut s at k n v exit = exit ≡ laid s (at + k) (digitsOf (min n 56) v)
 
 -- copy
 abbrev pub Copied : List ℕ → ℕ → List ℕ → ℕ → ℕ → List ℕ → Type 0

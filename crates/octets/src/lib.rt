@@ -1,6 +1,13 @@
 // Bits in octets (SCOPE, "The activation frame"): bit n of the paper stands at place n - 1, with weight 2 to the power
 // (n-1) mod 8 in octet (n-1)/8. Every function takes every input: what lies past the end reads 0 and is not written.
-ghost use Rattle.octets.specs.Promises.{BitRead, BitPut, HasBit, Copied, Cleared, IsClear};
+ghost use mathlib.Core.Path.{_≡_};
+ghost use mathlib.Core.List.{_++_};
+ghost use Prim.Native.Nat.{_+_, _-_, _*_, _^_, _<_, _≤_, min};
+ghost use lib.Dec.{ltb};
+ghost use lib.ListN.{length, getD, take, drop};
+ghost use lib.Seq.{sets};
+ghost use Rattle.octets.specs.Bits.{digitsOf, bitsOf, octetsOf, part, laid};
+ghost use Rattle.octets.specs.Promises.{BitRead, BitPut, HasBit, WordRead, WordPut, BitsRead, BitsPut, Copied, Cleared, IsClear};
 
 // Whether there is a bit k places behind place `at`.
 pub fn has(s: &[u8], at: usize, k: u32) -> bool
@@ -31,6 +38,192 @@ pub fn put_bit(s: &mut [u8], at: usize, k: u32, b: u8)
         let o = s[octet];
         s[octet] = o ^ ((((o >> (j % 8)) & 1) ^ (b % 2)) << (j % 8));
     }
+}
+
+// Whether there is an octet k places behind octet i.
+fn has_octet(s: &[u8], i: usize, k: usize) -> bool
+    ensures { λ r. ⌜ r ≡ ltb (i + k) (length (now (s .entry))) ⌝ }
+{
+    if s.len() <= i {
+        return false;
+    }
+    k < s.len() - i
+}
+
+// At how many octets eight octets begin. A loop asks this once.
+fn starts(s: &[u8]) -> usize
+    ensures { λ r. ⌜ r ≡ length (now (s .entry)) - 7 ⌝ }
+{
+    if s.len() < 7 { 0 } else { s.len() - 7 }
+}
+
+// The two octets from octet i on as one number, the first lowest.
+fn two(s: &[u8], i: usize) -> u64
+    requires { ⌜ i + 2 ≤ length (now s) ⌝ }
+    ensures { λ r. ⌜ (r < 2 ^ 16) × (digitsOf 16 r ≡ part (8 * i) 16 (bitsOf (now (s .entry)))) ⌝ }
+{
+    let low = s[i] as u64;
+    let high = s[i + 1] as u64;
+    (high << 8) | low
+}
+
+// The four octets from octet i on.
+fn four(s: &[u8], i: usize) -> u64
+    requires { ⌜ i + 4 ≤ length (now s) ⌝ }
+    ensures { λ r. ⌜ (r < 2 ^ 32) × (digitsOf 32 r ≡ part (8 * i) 32 (bitsOf (now (s .entry)))) ⌝ }
+{
+    let low = two(s, i);
+    let high = two(s, i + 2);
+    (high << 16) | low
+}
+
+// The eight octets from octet i on.
+fn eight(s: &[u8], i: usize) -> u64
+    requires { ⌜ i + 8 ≤ length (now s) ⌝ }
+    ensures { λ r. ⌜ (r < 2 ^ 64) × (digitsOf 64 r ≡ part (8 * i) 64 (bitsOf (now (s .entry)))) ⌝ }
+{
+    let low = four(s, i);
+    let high = four(s, i + 4);
+    (high << 32) | low
+}
+
+// The two octets from octet i on become the two low ones of v.
+fn put_two(s: &mut [u8], i: usize, v: u64)
+    requires { ⌜ i + 2 ≤ length (now s) ⌝ }
+    ensures { λ r. ⌜ now (s .exit) ≡ sets (now (s .entry)) i (octetsOf 2 (digitsOf 16 v)) ⌝ }
+{
+    s[i] = (v & 0xff) as u8;
+    s[i + 1] = ((v >> 8) & 0xff) as u8;
+}
+
+// The four octets from octet i on become the four low ones of v.
+fn put_four(s: &mut [u8], i: usize, v: u64)
+    requires { ⌜ i + 4 ≤ length (now s) ⌝ }
+    ensures { λ r. ⌜ now (s .exit) ≡ sets (now (s .entry)) i (octetsOf 4 (digitsOf 32 v)) ⌝ }
+{
+    put_two(s, i, v);
+    put_two(s, i + 2, v >> 16);
+}
+
+// The eight octets from octet i on become those of v.
+fn put_eight(s: &mut [u8], i: usize, v: u64)
+    requires { ⌜ i + 8 ≤ length (now s) ⌝ }
+    ensures { λ r. ⌜ now (s .exit) ≡ sets (now (s .entry)) i (octetsOf 8 (digitsOf 64 v)) ⌝ }
+{
+    put_four(s, i, v);
+    put_four(s, i + 4, v >> 32);
+}
+
+// The octet k places behind octet i; past the end 0.
+fn octet(s: &[u8], i: usize, k: usize) -> u64
+    ensures { λ r. ⌜ r ≡ getD (now (s .entry)) (i + k) 0 ⌝ }
+{
+    if has_octet(s, i, k) {
+        s[i + k] as u64
+    } else {
+        0
+    }
+}
+
+// The eight octets from octet i on, one by one from the last on.
+fn by_octets(s: &[u8], i: usize) -> u64
+    ensures { λ r. ⌜ WordRead (now (s .entry)) i r ⌝ }
+{
+    let mut v: u64 = 0;
+    let mut k: usize = 8;
+    while 0 < k {
+        let o = octet(s, i, k - 1);
+        v = (v << 8) | o;
+        k -= 1;
+    }
+    v
+}
+
+// The octet k places behind octet i becomes the low one of v.
+fn put_octet(s: &mut [u8], i: usize, k: usize, v: u64)
+    ensures { λ r. ⌜ now (s .exit) ≡ laid (now (s .entry)) (8 * (i + k)) (digitsOf 8 v) ⌝ }
+{
+    if has_octet(s, i, k) {
+        s[i + k] = (v & 0xff) as u8;
+    }
+}
+
+// The eight octets from octet i on become those of v, one by one.
+fn put_octets(s: &mut [u8], i: usize, v: u64)
+    ensures { λ r. ⌜ WordPut (now (s .entry)) i v (now (s .exit)) ⌝ }
+{
+    let mut rest = v;
+    let mut k: usize = 0;
+    while k < 8 {
+        put_octet(s, i, k, rest);
+        rest = rest >> 8;
+        k += 1;
+    }
+}
+
+// The 64 bits from octet i on as one number, the first lowest: one load where there are eight octets.
+pub fn word(s: &[u8], i: usize) -> u64
+    ensures { λ r. ⌜ WordRead (now (s .entry)) i r ⌝ }
+{
+    if i < starts(s) {
+        eight(s, i)
+    } else {
+        by_octets(s, i)
+    }
+}
+
+// The 64 bits from octet i on become those of v: one store where there are eight octets.
+pub fn put_word(s: &mut [u8], i: usize, v: u64)
+    ensures { λ r. ⌜ WordPut (now (s .entry)) i v (now (s .exit)) ⌝ }
+{
+    if i < starts(s) {
+        put_eight(s, i, v);
+    } else {
+        put_octets(s, i, v);
+    }
+}
+
+// The longest part that eight octets hold at every place.
+const LONGEST: u32 = 56;
+
+// A part's length as it counts.
+fn taken(n: u32) -> u32
+    ensures { λ r. ⌜ r ≡ min n 56 ⌝ }
+{
+    if n < LONGEST { n } else { LONGEST }
+}
+
+// The 64 digits of x, where those of v stand from place r on, n of them.
+fn replaced(x: u64, r: u32, n: u32, v: u64) -> u64
+    requires { ⌜ (r < 8) × (n ≤ 56) ⌝ }
+    ensures { λ y. ⌜ digitsOf 64 y ≡ take r (digitsOf 64 x) ++ digitsOf n v ++ drop (r + n) (digitsOf 64 x) ⌝ }
+{
+    let before = x % (1u64 << r);
+    let field = v % (1u64 << n);
+    let after = x >> (r + n);
+    (after << (r + n)) | ((field << r) | before)
+}
+
+// The n bits from the one k places behind place `at` on as one number, the first lowest; no more than 56.
+pub fn bits(s: &[u8], at: usize, k: u32, n: u32) -> u64
+    ensures { λ r. ⌜ BitsRead (now (s .entry)) at k n r ⌝ }
+{
+    let m = taken(n);
+    let j = at % 8 + (k as usize);
+    let x = word(s, at / 8 + j / 8) >> (j % 8);
+    x % (1u64 << m)
+}
+
+// The n bits from the one k places behind place `at` on become the low digits of v, the lowest first; no more than 56.
+pub fn put_bits(s: &mut [u8], at: usize, k: u32, n: u32, v: u64)
+    ensures { λ r. ⌜ BitsPut (now (s .entry)) at k n v (now (s .exit)) ⌝ }
+{
+    let m = taken(n);
+    let j = at % 8 + (k as usize);
+    let i = at / 8 + j / 8;
+    let x = word(s, i);
+    let y = replaced(x, (j % 8) as u32, m, v);
+    put_word(s, i, y);
 }
 
 // The n bits from place `at` on become those of the source from place `from` on; past the source's end they stay.

@@ -27,11 +27,11 @@ pub record Receives (coefficients past : List ℤ) (y x : ℤ) : Type 0 where
   pub signal : isSignal x ≡ true
   pub sends : Sends coefficients past x y
 
--- the y that x goes out as
+-- the y that is sent for x
 abbrev pub outputOf : List ℤ → List ℤ → ℤ → ℤ
 outputOf coefficients past x = foldOf (x -ℤ nearest (exactSum 180 coefficients past))
 
--- the x that goes out as y
+-- the x for which y is sent
 abbrev pub inputOf : List ℤ → List ℤ → ℤ → ℤ
 inputOf coefficients past y = foldOf (y +ℤ nearest (exactSum 180 coefficients past))
 

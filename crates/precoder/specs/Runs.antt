@@ -24,12 +24,12 @@ SendsAll coefficients past [] (y ∷ ys) = ⊥
 SendsAll coefficients past (x ∷ xs) [] = ⊥
 SendsAll coefficients past (x ∷ xs) (y ∷ ys) = Sends coefficients past x y × SendsAll coefficients (pastAfter past y) xs ys
 
--- the ys that xs go out as
+-- the ys that are sent for xs
 unfoldable pub outputsOf : List ℤ → List ℤ → List ℤ → List ℤ
 outputsOf coefficients past [] = []
 outputsOf coefficients past (x ∷ xs) = outputOf coefficients past x ∷ outputsOf coefficients (pastAfter past (outputOf coefficients past x)) xs
 
--- the xs that go out as ys
+-- the xs for which ys are sent
 unfoldable pub inputsOf : List ℤ → List ℤ → List ℤ → List ℤ
 inputsOf coefficients past [] = []
 inputsOf coefficients past (y ∷ ys) = inputOf coefficients past y ∷ inputsOf coefficients (pastAfter past y) ys

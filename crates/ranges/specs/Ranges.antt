@@ -1,4 +1,4 @@
--- Ranges that the frame and the symbols share (SCOPE, "The activation frame"): of a coefficient, and of A and B.
+-- Measures and ranges that the frame and the symbols share (SCOPE, "The activation frame"): of a coefficient, and of A and B.
 use mathlib.Core.Bool.{Bool, true, _&&_}
 use mathlib.Core.List.{List, [], _∷_}
 use Prim.Native.Nat.{ℕ}
@@ -6,17 +6,40 @@ use lib.Dec.{leb}
 use lib.IntN.{ℤ, pos, negℤ}
 use lib.Signed.{leZ}
 
+-- a frame carries 180 coefficients, and the precoder has as many taps
+abbrev pub coefficientCount : ℕ
+coefficientCount = 180
+
+-- a coefficient has 22 bits
+abbrev pub coefficientWidth : ℕ
+coefficientWidth = 22
+
+-- A and B have 21
+abbrev pub wordWidth : ℕ
+wordWidth = 21
+
+-- a coefficient lies from -2,097,152 to 2,097,151
+abbrev pub lowestCoefficient : ℤ
+lowestCoefficient = negℤ (pos 2097152)
+
+abbrev pub highestCoefficient : ℤ
+highestCoefficient = pos 2097151
+
+-- A and B run from 0 to 2,097,151
+abbrev pub highestWord : ℕ
+highestWord = 2097151
+
 -- whether a number lies from low to high
 abbrev pub between : ℤ → ℤ → ℤ → Bool
 between low high z = leZ low z && leZ z high
 
--- a coefficient lies from -2,097,152 to 2,097,151
+-- whether a number is a coefficient's
 abbrev pub isCoefficient : ℤ → Bool
-isCoefficient z = between (negℤ (pos 2097152)) (pos 2097151) z
+isCoefficient z = between lowestCoefficient highestCoefficient z
 
--- A and B run from 0 to 2,097,151
+-- whether a number can be A or B
 abbrev pub isWord : ℕ → Bool
-isWord n = leb n 2097151
+isWord n = leb n highestWord
 
 -- whether a test holds of every number of a list
 unfoldable pub every : (ℤ → Bool) → List ℤ → Bool

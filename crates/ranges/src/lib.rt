@@ -1,6 +1,14 @@
-// Ranges that the frame and the symbols share (SCOPE): of a coefficient, of A and B; and whether numbers lie in a range.
+// Measures and ranges that the frame and the symbols share (SCOPE): of a coefficient, of A and B; and whether numbers lie in a range.
 ghost use mathlib.Core.Path.{_≡_};
 ghost use Rattle.ranges.specs.Ranges.{between, every};
+
+// The coefficients of a frame, and the precoder's taps.
+pub const COEFFICIENTS: usize = 180;
+
+// The bits of a coefficient, and of A or B.
+pub const COEFFICIENT_BITS: u32 = 22;
+
+pub const WORD_BITS: u32 = 21;
 
 // The range of a coefficient.
 pub const LOWEST_COEFFICIENT: i32 = -2_097_152;

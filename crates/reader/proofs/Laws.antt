@@ -17,7 +17,7 @@ use Rattle.bitfields.specs.Promises.{behindOf}
 use Rattle.walk.specs.declared.TakenPair.{TakenPair}
 use Rattle.walk.specs.Promises.{PairTaken, SignedFilled, signedFrom, behindAll}
 use Rattle.walk.proofs.Laws.{behind-all-is, signed-from}
-use Rattle.layout.specs.Places.{wordA, wordB, vendor}
+use Rattle.layout.specs.Places.{aField, bField, vendorField}
 use Rattle.layout.specs.Frame.{trainingSync, fieldOf, coefficientsOf}
 use Rattle.layout.specs.Refusals.{hasSync, checkRefusals, readRefusals}
 use Rattle.reader.specs.declared.Found.{Found}
@@ -33,7 +33,7 @@ module _ (f : List ℕ) (at : ℕ) (cs ds : List ℤ) (r : ℕ) (e : at ≡ 14) 
   words-at = p .1 ∙ ap₂ (λ (i k : ℕ). behindAll i 22 k) e l ∙ behind-all-is 22 (lit≤ tt) 180 14 (lit≤ tt)
 
 pub words-read : (f : List ℕ) (at : ℕ) (w : TakenPair) → at ≡ 3974 → PairTaken f at 21 21 w
-    → w ≡ record { first = valueOf (fieldOf wordA (bitsOf f)); second = valueOf (fieldOf wordB (bitsOf f)); next = 4016 }
+    → w ≡ record { first = valueOf (fieldOf aField (bitsOf f)); second = valueOf (fieldOf bField (bitsOf f)); next = 4016 }
 words-read f at w e p =
     p ∙ ap (λ (i : ℕ). record { first = valueOf (part i 21 (bitsOf f)); second = valueOf (part (behindOf i 21) 21 (bitsOf f)); next = behindOf (behindOf i 21) 21 }) e
 
@@ -76,13 +76,13 @@ module _ (f : List ℕ) (cs : List ℤ) (v : List ℕ) where
 
   module _ (z : A ≡ 0) where
     -- a training frame
-    pub training-read : (a b : ℕ) (cs′ : List ℤ) (v′ : List ℕ) → hasSync trainingSync B ≡ true → a ≡ valueOf (fieldOf wordA B) → b ≡ valueOf (fieldOf wordB B)
+    pub training-read : (a b : ℕ) (cs′ : List ℤ) (v′ : List ℕ) → hasSync trainingSync B ≡ true → a ≡ valueOf (fieldOf aField B) → b ≡ valueOf (fieldOf bField B)
         → cs′ ≡ coefficientsOf B → v′ ≡ vendorOctets B → Read f cs v (record { answer = 0; kind = 0; a = a; b = b }) cs′ v′
     training-read a b cs′ v′ t p q g h =
         record {
           found =
               ap₂ (λ (x y : ℕ). record { answer = 0; kind = 0; a = x; b = y }) p q
-              ∙ ap (λ (k : Bool). cond k (record { answer = 0; kind = 0; a = valueOf (fieldOf wordA B); b = valueOf (fieldOf wordB B) }) (record { answer = 0; kind = 1; a = 0; b = 0 })) (sym t)
+              ∙ ap (λ (k : Bool). cond k (record { answer = 0; kind = 0; a = valueOf (fieldOf aField B); b = valueOf (fieldOf bField B) }) (record { answer = 0; kind = 1; a = 0; b = 0 })) (sym t)
               ∙ ap (λ (k : ℕ). foundOf k B) (sym z);
           coefficients-left = g ∙ ap (λ (k : Bool). cond k (coefficientsOf B) cs) (sym t) ∙ sym (given A cs (coefficientsLeft B cs) z);
           vendor-left = h ∙ sym (given A v (vendorOctets B) z);
@@ -93,7 +93,7 @@ module _ (f : List ℕ) (cs : List ℤ) (v : List ℕ) where
     final-read v′ t h =
         record {
           found =
-              ap (λ (k : Bool). cond k (record { answer = 0; kind = 0; a = valueOf (fieldOf wordA B); b = valueOf (fieldOf wordB B) }) (record { answer = 0; kind = 1; a = 0; b = 0 })) (sym t)
+              ap (λ (k : Bool). cond k (record { answer = 0; kind = 0; a = valueOf (fieldOf aField B); b = valueOf (fieldOf bField B) }) (record { answer = 0; kind = 1; a = 0; b = 0 })) (sym t)
               ∙ ap (λ (k : ℕ). foundOf k B) (sym z);
           coefficients-left = ap (λ (k : Bool). cond k (coefficientsOf B) cs) (sym t) ∙ sym (given A cs (coefficientsLeft B cs) z);
           vendor-left = h ∙ sym (given A v (vendorOctets B) z);

@@ -6,7 +6,7 @@ use Prim.Native.Nat.{ℕ, zero, suc}
 use lib.IntN.{ℤ}
 use Rattle.answer.specs.Answer.{answer, held}
 use Rattle.octets.specs.Bits.{valueOf, bitsOf, octetsOf}
-use Rattle.layout.specs.Places.{wordA, wordB, vendor}
+use Rattle.layout.specs.Places.{vendorLength, aField, bField, vendorField}
 use Rattle.layout.specs.Frame.{trainingSync, fieldOf, coefficientsOf}
 use Rattle.layout.specs.Refusals.{hasSync, readRefusals}
 use Rattle.reader.specs.declared.Found.{Found}
@@ -15,7 +15,7 @@ use Rattle.reader.specs.declared.Found.{Found}
 abbrev pub foundOf : ℕ → List ℕ → Found
 foundOf zero bits =
     cond (hasSync trainingSync bits)
-    (record { answer = 0; kind = 0; a = valueOf (fieldOf wordA bits); b = valueOf (fieldOf wordB bits) })
+    (record { answer = 0; kind = 0; a = valueOf (fieldOf aField bits); b = valueOf (fieldOf bField bits) })
     (record { answer = 0; kind = 1; a = 0; b = 0 })
 foundOf (suc n) bits = record { answer = suc n; kind = 0; a = 0; b = 0 }
 
@@ -25,7 +25,7 @@ coefficientsLeft bits old = cond (hasSync trainingSync bits) (coefficientsOf bit
 
 -- vendor data's octets
 abbrev pub vendorOctets : List ℕ → List ℕ
-vendorOctets bits = octetsOf 16 (fieldOf vendor bits)
+vendorOctets bits = octetsOf vendorLength (fieldOf vendorField bits)
 
 -- read: what is returned, and what the two lent rooms hold
 pub record Read (frame : List ℕ) (cs : List ℤ) (vendor : List ℕ) (r : Found) (cs′ : List ℤ) (vendor′ : List ℕ) : Type 0 where

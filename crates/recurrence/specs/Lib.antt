@@ -1,3 +1,4 @@
 pub mod Line
 pub mod Run
 pub mod Promises
+pub mod Window

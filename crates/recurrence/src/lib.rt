@@ -1,13 +1,14 @@
 // The bits on the line (SCOPE, "Scrambler"; 002, clause 7.1.6): s(n) = f(n) xor s(n-tap) xor s(n-23), for any tap from 1 to 23. A bit, and
 // runs of them by the word; and back.
 ghost use mathlib.Core.Path.{_≡_};
-ghost use mathlib.Core.List.{reverse};
-ghost use Prim.Native.Nat.{_+_, _-_, _*_, _/_, _%_, _^_, _<_, _≤_};
+ghost use mathlib.Core.Logic.{_⊎_};
+ghost use Prim.Native.Nat.{ℕ, _+_, _-_, _*_, _/_, _%_, _^_, _<_, _≤_, min};
 ghost use lib.Bits.{bitXor};
 ghost use lib.ListN.{length};
 ghost use Rattle.answer.specs.Answer.{answer};
-ghost use Rattle.octets.specs.Bits.{digitsOf, valueOf, bitsOf, part, laid};
+ghost use Rattle.octets.specs.Bits.{bitsOf, part, laid};
 ghost use Rattle.recurrence.specs.Run.{outOf, onLine, nextOf, runOf, afterOf, wayOf};
+ghost use Rattle.recurrence.specs.Window.{Out, Gone};
 ghost use Rattle.recurrence.specs.Promises.{stepRefusals, StepPromise, runRefusals, RunPromise};
 
 // The line reaches so many bits back: the taps are 1 to this.
@@ -87,28 +88,32 @@ pub fn step(back: bool, tap: u32, state: u32, bit: u32) -> Stepped
     }
 }
 
-// The bits of a word.
-const WORD: u32 = 32;
+// The bits of a word, and its octets.
+const WORD: u32 = 64;
 
-// The words that a u32 can count.
-const MOST: usize = 4294967295;
+const OCTETS: usize = 8;
+
+// The longest part of a run that is no whole word.
+const PART: usize = 56;
 
 // A word of line bits, the first lowest, with those of it that lie tap and 23 back added to each.
-fn spread(tap: u32, line: u32) -> u32
+fn spread(tap: u32, line: u64) -> u64
     requires { ⌜ tap ≤ 23 ⌝ }
-    ensures { λ r. ⌜ r ≡ bitXor (bitXor line (line * 2 ^ tap % 2 ^ 32)) (line * 2 ^ 23 % 2 ^ 32) ⌝ }
+    ensures { λ r. ⌜ r ≡ bitXor (bitXor line (line * 2 ^ tap % 2 ^ 64)) (line * 2 ^ 23 % 2 ^ 64) ⌝ }
 {
     (line ^ (line << tap)) ^ (line << 23)
 }
 
-// The line bits whose spread is u. The spread of the spread adds the bits 2 tap back, the spread of that 4 tap back, until they lie before the
-// word and nothing is added.
-fn gathered(tap: u32, u: u32) -> u32
+// The line bits whose spread is u. The spread of the spread adds the bits 2 tap and 46 back, that one's twice those 4 tap back, and so on,
+// until they lie before the word and nothing is added.
+fn gathered(tap: u32, u: u64) -> u64
     requires { ⌜ (1 ≤ tap) × (tap ≤ 23) ⌝ }
-    ensures { λ r. ⌜ bitXor (bitXor r (r * 2 ^ tap % 2 ^ 32)) (r * 2 ^ 23 % 2 ^ 32) ≡ u ⌝ }
+    ensures { λ r. ⌜ bitXor (bitXor r (r * 2 ^ tap % 2 ^ 64)) (r * 2 ^ 23 % 2 ^ 64) ≡ u ⌝ }
 {
-    let mut line = spread(tap, u);
-    let mut k = tap + tap;
+    let once = spread(tap, u);
+    let two = tap + tap;
+    let mut line = (once ^ (once << two)) ^ (once << 46);
+    let mut k = two + two;
     while k < WORD {
         line = line ^ (line << k);
         k = k + k;
@@ -117,17 +122,17 @@ fn gathered(tap: u32, u: u32) -> u32
 }
 
 // Which of the two is on the line.
-fn on_line(back: bool, bits: u32, out: u32) -> u32
+fn on_line(back: bool, bits: u64, out: u64) -> u64
     ensures { λ r. ⌜ r ≡ onLine (wayOf back) bits out ⌝ }
 {
     if back { bits } else { out }
 }
 
-// What comes out for 32 bits at once. The window is the state turned: the oldest bit at weight 1, so that the bits of the line run on from it.
-fn word_out(back: bool, tap: u32, window: u32, bits: u32) -> u32
+// What comes out for up to 64 bits at once. The window is the state turned: the oldest bit at weight 1, so that the bits of the line run on
+// from it.
+fn word_out(back: bool, tap: u32, window: u64, bits: u64) -> u64
     requires { ⌜ (1 ≤ tap) × (tap ≤ 23) × (window < 2 ^ 23) ⌝ }
-    ensures { λ r. ⌜ (digitsOf 32 r ≡ runOf (wayOf back) tap (valueOf (reverse (digitsOf 23 window))) (digitsOf 32 bits))
-        × (valueOf (reverse (digitsOf 23 (onLine (wayOf back) bits r / 2 ^ 9))) ≡ afterOf (wayOf back) tap (valueOf (reverse (digitsOf 23 window))) (digitsOf 32 bits)) ⌝ }
+    ensures { λ r. ⌜ ((n : ℕ) → n ≤ 64 → Out (wayOf back) tap window n bits r) ⌝ }
 {
     let before = (window >> (23 - tap)) ^ window;
     if back {
@@ -137,69 +142,95 @@ fn word_out(back: bool, tap: u32, window: u32, bits: u32) -> u32
     }
 }
 
-// The run over so many words from place `at` on: the state after it.
+// The window n bits further.
+fn later(window: u64, line: u64, n: u32) -> u64
+    requires { ⌜ (window < 2 ^ 23) × (n ≤ 64) ⌝ }
+    ensures { λ r. ⌜ r ≡ (line * 2 ^ 23 + window) / 2 ^ n % 2 ^ 23 ⌝ }
+{
+    if n < REACH {
+        ((line << (REACH - n)) | (window >> n)) % (STATES as u64)
+    } else {
+        (line >> (n - REACH)) % (STATES as u64)
+    }
+}
+
+// The run over so many words from octet i on: the window after it.
 fn by_words(
     back: bool,
     tap: u32,
-    start: u32,
+    start: u64,
     input: &[u8],
-    at: u32,
-    count: u32,
+    i: usize,
+    count: usize,
     output: &mut [u8],
-) -> u32
-    requires { ⌜ (1 ≤ tap) × (tap ≤ 23) × (start < 2 ^ 23) × (at + 32 * count ≤ 8 * length (now input)) ⌝ }
-    ensures { λ r. ⌜ (r ≡ afterOf (wayOf back) tap start (part at (32 * count) (bitsOf (now (input .entry)))))
-        × (now (output .exit) ≡ laid (now (output .entry)) at (runOf (wayOf back) tap start (part at (32 * count) (bitsOf (now (input .entry)))))) ⌝ }
+) -> u64
+    requires { ⌜ (1 ≤ tap) × (tap ≤ 23) × (start < 2 ^ 23) × (i + 8 * count ≤ length (now input)) ⌝ }
+    ensures { λ r. ⌜ Gone (wayOf back) tap start (part (8 * i) (64 * count) (bitsOf (now (input .entry))))
+        (now (output .entry)) (8 * i) r (now (output .exit)) ⌝ }
 {
-    let mut window = bitfields::turned(23, start);
-    let mut k: u32 = 0;
+    let mut window = start;
+    let mut k: usize = 0;
     while k < count {
-        let place = (at as usize) + (WORD as usize) * (k as usize);
-        let bits = bitfields::field(input, place, WORD);
+        let octet = i + OCTETS * k;
+        let bits = octets::word(input, octet);
         let out = word_out(back, tap, window, bits);
-        bitfields::put_field(output, place, WORD, out);
-        window = on_line(back, bits, out) >> 9;
+        octets::put_word(output, octet, out);
+        let line = on_line(back, bits, out);
+        window = later(window, line, WORD);
         k += 1;
     }
-    bitfields::turned(23, window)
+    window
 }
 
-// The run over the bits from the one `from` places behind place `at` on, up to so many behind it: the state after it.
-fn by_bits(
+// The smaller of the two, as a number of bits.
+fn shorter(left: usize) -> u32
+    ensures { λ r. ⌜ r ≡ min left 56 ⌝ }
+{
+    if left < PART {
+        left as u32
+    } else {
+        PART as u32
+    }
+}
+
+// The run over the bits from the one `from` places behind place `at` on, up to so many behind it, no word among them: the window after it.
+fn by_parts(
     back: bool,
     tap: u32,
-    start: u32,
+    start: u64,
     input: &[u8],
     at: u32,
     from: usize,
     bits: usize,
     output: &mut [u8],
-) -> u32
+) -> u64
     requires { ⌜ (1 ≤ tap) × (tap ≤ 23) × (start < 2 ^ 23) × (from ≤ bits) × (at + bits ≤ 8 * length (now input)) ⌝ }
-    ensures { λ r. ⌜ (r ≡ afterOf (wayOf back) tap start (part (at + from) (bits - from) (bitsOf (now (input .entry)))))
-        × (now (output .exit) ≡ laid (now (output .entry)) (at + from) (runOf (wayOf back) tap start (part (at + from) (bits - from) (bitsOf (now (input .entry)))))) ⌝ }
+    ensures { λ r. ⌜ Gone (wayOf back) tap start (part (at + from) (bits - from) (bitsOf (now (input .entry))))
+        (now (output .entry)) (at + from) r (now (output .exit)) ⌝ }
 {
-    let mut state = start;
+    let mut window = start;
     let mut k = from;
     while k < bits {
-        let b = octets::bit(input, k, at) as u32;
-        let s = out(tap, state, b);
-        octets::put_bit(output, k, at, s as u8);
-        state = after(back, tap, state, b);
-        k += 1;
+        let n = shorter(bits - k);
+        let f = octets::bits(input, k, at, n);
+        let out = word_out(back, tap, window, f);
+        octets::put_bits(output, k, at, n, out);
+        let line = on_line(back, f, out);
+        window = later(window, line, n);
+        k += n as usize;
     }
-    state
+    window
 }
 
-// The whole words among so many bits, as many as can be counted.
-fn words(bits: usize) -> u32
-    ensures { λ r. ⌜ 32 * r ≤ bits ⌝ }
+// How many of so many bits lie before the first octet that begins at or behind place `at`.
+fn lead(at: u32, bits: usize) -> usize
+    ensures { λ r. ⌜ (r ≤ bits) × (r < 8) × ((r ≡ bits) ⊎ ((at + r) % 8 ≡ 0)) ⌝ }
 {
-    let n = bits / (WORD as usize);
-    if n <= MOST { n as u32 } else { MOST as u32 }
+    let n = ((8 - at % 8) % 8) as usize;
+    if n < bits { n } else { bits }
 }
 
-// The run itself, over the bits from place `at` on, where nothing is refused: the state after it.
+// The run itself, over the bits from place `at` on, where nothing is refused: the state after it. Up to an octet, by words, and the rest.
 fn go(
     back: bool,
     tap: u32,
@@ -213,18 +244,15 @@ fn go(
     ensures { λ r. ⌜ (r ≡ afterOf (wayOf back) tap start (part at bits (bitsOf (now (input .entry)))))
         × (now (output .exit) ≡ laid (now (output .entry)) at (runOf (wayOf back) tap start (part at bits (bitsOf (now (input .entry)))))) ⌝ }
 {
-    let count = words(bits);
-    let state = by_words(back, tap, start, input, at, count, output);
-    by_bits(
-        back,
-        tap,
-        state,
-        input,
-        at,
-        (WORD as usize) * (count as usize),
-        bits,
-        output,
-    )
+    let window = bitfields::turned(REACH, start) as u64;
+    let first = lead(at, bits);
+    let second = by_parts(back, tap, window, input, at, 0, first, output);
+    let octet = ((at as usize) + first) / 8;
+    let count = (bits - first) / (WORD as usize);
+    let third = by_words(back, tap, second, input, octet, count, output);
+    let from = first + (WORD as usize) * count;
+    let last = by_parts(back, tap, third, input, at, from, bits, output);
+    bitfields::turned(REACH, last as u32)
 }
 
 // What a run refuses, or 0.

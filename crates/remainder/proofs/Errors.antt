@@ -12,7 +12,7 @@ use lib.Pow.{pow-pos, pow-lt, pow-mono}
 use lib.ListN.{length, getD, length-set, length-reverse}
 use Rattle.octets.specs.Bits.{digitsOf, valueOf}
 use Rattle.octets.proofs.Digits.{Bits, value-append, value-lt, value-digits, reverse-bits, append-bits}
-use Rattle.octets.proofs.Xor.{xor-assoc, odd, no-two}
+use Rattle.octets.proofs.Xor.{xor-assoc, back, odd, no-two}
 use Rattle.remainder.specs.Division.{times, polynomial, checkBits, Degree, Remainder, Multiple, generator}
 use Rattle.remainder.specs.Errors.{flipped}
 use Rattle.remainder.proofs.Division.{add, distrib, small-multiple}
@@ -32,10 +32,6 @@ polynomial-append m c h =
 pub check-value : (k r : ℕ) → r < 2 ^ k → polynomial (checkBits k r) ≡ r
 check-value k r h = ap valueOf (reverse-reverse (digitsOf k r)) ∙ value-digits k r ∙ mod-eq-of-lt h
 
--- twice the same adds nothing
-pub twice-same : (a b : ℕ) → bitXor (bitXor a b) b ≡ a
-twice-same a b = xor-assoc a b b ∙ ap (bitXor a) (xor-self b) ∙ xor-zero-r a
-
 -- message and check bits are a multiple of the generator exactly where the check bits are the remainder
 pub divisible : (k g : ℕ) (m c : List ℕ) → Bits c → length c ≡ k → Remainder k g m (polynomial c) ↔ Multiple g (polynomial (m ++ c))
 divisible k g m c h e = (to, from)
@@ -47,14 +43,14 @@ divisible k g m c h e = (to, from)
     to d =
         record {
           quotient = d .quotient;
-          product = whole ∙ ap (λ (n : ℕ). bitXor n (polynomial c)) (d .divided) ∙ twice-same (times (d .quotient) g) (polynomial c);
+          product = whole ∙ ap (λ (n : ℕ). bitXor n (polynomial c)) (d .divided) ∙ back (times (d .quotient) g) (polynomial c);
         }
 
     from : Multiple g (polynomial (m ++ c)) → Remainder k g m (polynomial c)
     from d =
         record {
           quotient = d .quotient;
-          divided = sym (twice-same (polynomial m * 2 ^ k) (polynomial c)) ∙ ap (λ (n : ℕ). bitXor n (polynomial c)) (sym whole ∙ d .product);
+          divided = sym (back (polynomial m * 2 ^ k) (polynomial c)) ∙ ap (λ (n : ℕ). bitXor n (polynomial c)) (sym whole ∙ d .product);
           below = subst (λ (n : ℕ). polynomial c < 2 ^ n) e (polynomial-lt c h);
         }
 

@@ -9,7 +9,7 @@ use lib.Dec.{leb, eqb, lit≤}
 use lib.ListN.{length, getD, drop, replicate}
 use Rattle.ascii.specs.Text.{reading}
 use Rattle.startup.specs.Attempts.{at}
-use Rattle.startup.specs.Three.{Taken}
+use Rattle.startup.specs.Make.{Taken}
 use Rattle.startup.proofs.Counts.{and-right}
 use Rattle.log.specs.declared.Line.{Line}
 use Rattle.log.specs.Lines.{line, digits, counted, oneCode, said, plain, lineOf}

@@ -1,39 +1,45 @@
 -- Numbers of the channel precoder (000, clause 4.3.4), all in whole steps of 1/131,072: ranges, rounding, folding and the past.
+-- Of the library: `pos n` and `negℤ` make whole numbers, `_≤ℤ_` and `_<ℤ_` order them, and `shrZ z n` is the floor of z/n.
 use mathlib.Core.Path.{_≡_}
 use mathlib.Core.Bool.{Bool, true}
 use mathlib.Core.List.{List, _∷_}
+use Prim.Native.Nat.{ℕ, _*_, _/_, _-_}
 use lib.IntN.{ℤ, pos, negℤ, _+ℤ_, _-ℤ_, _*ℤ_}
 use lib.ListN.{take, replicate}
 use lib.Signed.{shrZ, _≤ℤ_, _<ℤ_}
-use Rattle.ranges.specs.Ranges.{between}
+use Rattle.ranges.specs.Ranges.{coefficientCount, between}
+
+-- 1 is so many steps
+abbrev pub one : ℕ
+one = 131072
 
 -- x, y and past outputs lie from -131,072 to 131,071
 abbrev pub isSignal : ℤ → Bool
-isSignal z = between (negℤ (pos 131072)) (pos 131071) z
+isSignal z = between (negℤ (pos one)) (pos (one - 1)) z
 
 -- the last 180 outputs, y(m-1) first, are all zero at first
 abbrev pub atStart : List ℤ
-atStart = replicate 180 (pos 0)
+atStart = replicate coefficientCount (pos 0)
 
 -- the past after y: every output moves one place on, and the oldest is dropped
 abbrev pub pastAfter : List ℤ → ℤ → List ℤ
-pastAfter past y = y ∷ take 179 past
+pastAfter past y = y ∷ take (coefficientCount - 1) past
 
 -- v is s/131,072 rounded to the nearest whole number, halves upward: v - 1/2 ≤ s/131,072 < v + 1/2
 pub record Rounds (s v : ℤ) : Type 0 where
-  pub low : (pos 131072 *ℤ v -ℤ pos 65536) ≤ℤ s
-  pub high : s <ℤ (pos 131072 *ℤ v +ℤ pos 65536)
+  pub low : (pos one *ℤ v -ℤ pos (one / 2)) ≤ℤ s
+  pub high : s <ℤ (pos one *ℤ v +ℤ pos (one / 2))
 
 -- y = u + 262,144 d, with the one d that puts y from -131,072 to 131,071
 pub record Folds (u y : ℤ) : Type 0 where
   pub d : ℤ
-  pub is : y ≡ u +ℤ pos 262144 *ℤ d
+  pub is : y ≡ u +ℤ pos (2 * one) *ℤ d
   pub signal : isSignal y ≡ true
 
 -- the same computed: the rounded number is the floor of s/131,072 + 1/2
 abbrev pub nearest : ℤ → ℤ
-nearest s = shrZ (s +ℤ pos 65536) 131072
+nearest s = shrZ (s +ℤ pos (one / 2)) one
 
 -- and the folded one is u less as many times 262,144 as the floor of u/262,144 + 1/2
 abbrev pub foldOf : ℤ → ℤ
-foldOf u = u -ℤ pos 262144 *ℤ shrZ (u +ℤ pos 131072) 262144
+foldOf u = u -ℤ pos (2 * one) *ℤ shrZ (u +ℤ pos one) (2 * one)

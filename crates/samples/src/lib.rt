@@ -4,13 +4,33 @@ ghost use Prim.Native.Nat.{_<_, _^_};
 ghost use lib.IntN.{pos, natAbs, _+ℤ_, _*ℤ_};
 ghost use lib.ListN.{length};
 ghost use lib.Signed.{_≤ℤ_, _<ℤ_};
-ghost use Rattle.samples.specs.Samples.{atStart, Rounds, Folds, pastAfter};
+ghost use Rattle.ranges.specs.Ranges.{coefficientCount};
+ghost use Rattle.samples.specs.Samples.{one, atStart, Rounds, Folds, pastAfter};
 ghost use Rattle.samples.specs.Shaper.{Shapes};
 
-// The range of x, y and past outputs.
-pub const LOWEST: i32 = -131_072;
+// 1 in steps.
+pub const ONE: i32 = 131_072;
 
-pub const HIGHEST: i32 = 131_071;
+// The range of x, y and past outputs.
+pub const LOWEST: i32 = -ONE;
+
+pub const HIGHEST: i32 = ONE - 1;
+
+// The past outputs that are remembered.
+pub const PAST: usize = ranges::COEFFICIENTS;
+
+const LAST: usize = PAST - 1;
+
+// The same as wider numbers: 1, a half, the range and its width.
+const STEPS: i64 = ONE as i64;
+
+const HALF: i64 = STEPS / 2;
+
+const LOW: i64 = -STEPS;
+
+const HIGH: i64 = STEPS - 1;
+
+const WIDTH: i64 = 2 * STEPS;
 
 // What the shaper is handed, with the answer first.
 pub struct Shaped {
@@ -18,17 +38,17 @@ pub struct Shaped {
     pub value: f32,
 }
 
-// Tells a proof that a lent array has its 180 elements: a reference alone does not say so.
-fn whole(values: [i32; 180])
-    ensures { λ r. ⌜ length values ≡ 180 ⌝ }
+// Tells a proof that a lent array has all its elements: a reference alone does not say so.
+fn whole(values: [i32; PAST])
+    ensures { λ r. ⌜ length values ≡ coefficientCount ⌝ }
 {}
 
 // The floor, or the next number where the rest is half a step or more.
 fn halves_up(floor: i64, rest: i64) -> i64
-    requires { ⌜ (natAbs floor < 2 ^ 62) × (pos 0 ≤ℤ rest) × (rest <ℤ pos 131072) ⌝ }
-    ensures { λ r. ⌜ Rounds (pos 131072 *ℤ floor +ℤ rest) r ⌝ }
+    requires { ⌜ (natAbs floor < 2 ^ 62) × (pos 0 ≤ℤ rest) × (rest <ℤ pos one) ⌝ }
+    ensures { λ r. ⌜ Rounds (pos one *ℤ floor +ℤ rest) r ⌝ }
 {
-    if 65_536 <= rest {
+    if HALF <= rest {
         return floor + 1;
     }
     floor
@@ -38,10 +58,10 @@ fn halves_up(floor: i64, rest: i64) -> i64
 pub fn rounded(s: i64) -> i64
     ensures { λ r. ⌜ Rounds s r ⌝ }
 {
-    let q = s / 131_072;
-    let rest = s % 131_072;
+    let q = s / STEPS;
+    let rest = s % STEPS;
     if rest < 0 {
-        return halves_up(q - 1, rest + 131_072);
+        return halves_up(q - 1, rest + STEPS);
     }
     halves_up(q, rest)
 }
@@ -50,29 +70,29 @@ pub fn rounded(s: i64) -> i64
 pub fn folded(u: i64) -> i32
     ensures { λ r. ⌜ Folds u r ⌝ }
 {
-    let r = u % 262_144;
-    if r < -131_072 {
-        return (r + 262_144) as i32;
+    let r = u % WIDTH;
+    if r < LOW {
+        return (r + WIDTH) as i32;
     }
-    if 131_071 < r {
-        return (r - 262_144) as i32;
+    if HIGH < r {
+        return (r - WIDTH) as i32;
     }
     r as i32
 }
 
 // The history before the first symbol.
-pub fn start() -> [i32; 180]
+pub fn start() -> [i32; PAST]
     ensures { λ r. ⌜ r ≡ atStart ⌝ }
 {
-    [0; 180]
+    [0; PAST]
 }
 
 // The newest output goes to the front; every other moves one place on, and the oldest is dropped.
-pub fn shift(history: &mut [i32; 180], y: i32)
+pub fn shift(history: &mut [i32; PAST], y: i32)
     ensures { λ r. ⌜ now (history .exit) ≡ pastAfter (now (history .entry)) y ⌝ }
 {
     whole(*history);
-    let mut k = 179;
+    let mut k = LAST;
     while 0 < k {
         let from = k - 1;
         history[k] = history[from];

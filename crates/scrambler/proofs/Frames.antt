@@ -9,7 +9,7 @@ use Rattle.octets.specs.Bits.{valueOf, bitsOf, octetsOf, part}
 use Rattle.octets.proofs.Digits.{Bits, append-bits, take-bits, drop-bits, zeros-bits, zeros-value, value-one}
 use Rattle.octets.proofs.Laws.{Octets, bits-length, bits-bits, bits-octets, octets-bits}
 use Rattle.octets.proofs.Fields.{part-is}
-use Rattle.layout.specs.Places.{pad}
+use Rattle.layout.specs.Places.{padField}
 use Rattle.layout.specs.Frame.{fieldOf}
 use Rattle.scrambler.specs.Ends.{tapOf}
 use Rattle.recurrence.specs.Run.{scramble, descramble, runOf, afterOf}
@@ -18,7 +18,7 @@ use Rattle.scrambler.specs.declared.Scrambler.{Scrambler}
 use Rattle.recurrence.proofs.Laws.{run-length, run-bits}
 use Rattle.recurrence.proofs.Exactly.{back}
 
-module _ (x : Scrambler) (frame : List ℕ) (l : length frame ≡ 529) (o : Octets frame) (p : valueOf (fieldOf pad (bitsOf frame)) ≡ 0) where
+module _ (x : Scrambler) (frame : List ℕ) (l : length frame ≡ 529) (o : Octets frame) (p : valueOf (fieldOf padField (bitsOf frame)) ≡ 0) where
   abbrev B : List ℕ
   B = bitsOf frame
 
@@ -69,7 +69,7 @@ module _ (x : Scrambler) (frame : List ℕ) (l : length frame ≡ 529) (o : Octe
   received = ap (part 14 4213) sent ∙ part-is S R Z 14 4213 S-length R-length
 
   -- and the pad
-  pub pad-out : valueOf (fieldOf pad (bitsOf (frameOut scramble x frame))) ≡ 0
+  pub pad-out : valueOf (fieldOf padField (bitsOf (frameOut scramble x frame))) ≡ 0
   pad-out =
       ap (λ (t : List ℕ). valueOf (part 4227 5 t)) sent
       ∙ ap (λ (t : List ℕ). valueOf (take 5 t))

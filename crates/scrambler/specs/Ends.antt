@@ -3,6 +3,12 @@ use mathlib.Core.Bool.{cond}
 use Prim.Native.Nat.{ℕ}
 use lib.Dec.{eqb}
 
--- the tap is 5 for the LTU (0) and 18 for the NTU (1)
+abbrev pub ltu : ℕ
+ltu = 0
+
+abbrev pub ntu : ℕ
+ntu = 1
+
+-- the tap is 5 for the LTU and 18 for the NTU
 abbrev pub tapOf : ℕ → ℕ
-tapOf end = cond (eqb end 0) 5 18
+tapOf end = cond (eqb end ltu) 5 18

@@ -2,14 +2,14 @@
 use mathlib.Core.Path.{_≡_}
 use mathlib.Core.Bool.{not}
 use mathlib.Core.List.{List, [], _∷_, _++_}
-use Prim.Native.Nat.{ℕ, _*_}
+use Prim.Native.Nat.{ℕ, _-_, _*_}
 use lib.Dec.{eqb, ltb}
 use lib.ListN.{length, replicate}
 use Rattle.answer.specs.Answer.{Refusal, refuse, wrongLength, answer, held}
 use Rattle.octets.specs.Bits.{valueOf, bitsOf, octetsOf, part, laid}
-use Rattle.layout.specs.Places.{pad}
+use Rattle.layout.specs.Places.{padWidth, frameLength, placeOf, syncField, coefficientsField, padField}
 use Rattle.layout.specs.Frame.{fieldOf}
-use Rattle.scrambler.specs.Ends.{tapOf}
+use Rattle.scrambler.specs.Ends.{ntu, tapOf}
 use Rattle.recurrence.specs.Promises.{wideState}
 use Rattle.recurrence.specs.Run.{Way, outOf, nextOf, runOf, afterOf}
 use Rattle.scrambler.specs.declared.Scrambler.{Scrambler}
@@ -18,7 +18,7 @@ use Rattle.scrambler.specs.declared.Ran.{Ran}
 
 -- an unknown end is 2
 abbrev pub unknownEnd : ℕ → Refusal
-unknownEnd end = refuse 2 (ltb 1 end)
+unknownEnd end = refuse 2 (ltb ntu end)
 
 -- Scrambler::start: the starting state is 0
 abbrev pub StartPromise : ℕ → Ran → Type 0
@@ -37,6 +37,10 @@ StepPromise way x bit r =
       next = record { end = x .end; state = held (answer (stepRefusals x bit)) (x .state) (nextOf way (tapOf (x .end)) (x .state) bit) };
     }
 
+-- the bits of a run: the first so many of the input
+abbrev pub given : List ℕ → ℕ → List ℕ
+given input bits = part 0 bits (bitsOf input)
+
 -- a run: a count over eight times the length, or unequal lengths, is 1
 abbrev pub runRefusals : Scrambler → List ℕ → ℕ → List ℕ → List Refusal
 runRefusals x input bits output =
@@ -45,22 +49,26 @@ runRefusals x input bits output =
 -- Scrambler::scramble_run and Scrambler::descramble_run: the next state, and the output, whose bits past the count stay
 pub record RunPromise (way : Way) (x : Scrambler) (input : List ℕ) (bits : ℕ) (output : List ℕ) (r : Ran) (exit : List ℕ) : Type 0 where
   pub answered : r .answer ≡ answer (runRefusals x input bits output)
-  pub next : r .next ≡ record { end = x .end; state = held (r .answer) (x .state) (afterOf way (tapOf (x .end)) (x .state) (part 0 bits (bitsOf input))) }
-  pub left : exit ≡ held (r .answer) output (laid output 0 (runOf way (tapOf (x .end)) (x .state) (part 0 bits (bitsOf input))))
+  pub next : r .next ≡ record { end = x .end; state = held (r .answer) (x .state) (afterOf way (tapOf (x .end)) (x .state) (given input bits)) }
+  pub left : exit ≡ held (r .answer) output (laid output 0 (runOf way (tapOf (x .end)) (x .state) (given input bits)))
 
 -- a whole frame: lengths, the end, the state, then the pad (6)
 abbrev pub frameRefusals : Scrambler → List ℕ → List ℕ → List Refusal
 frameRefusals x frame output =
-    wrongLength frame 529 ∷ wrongLength output 529 ∷ unknownEnd (x .end) ∷ wideState (x .state)
-    ∷ refuse 6 (not (eqb (valueOf (fieldOf pad (bitsOf frame))) 0)) ∷ []
+    wrongLength frame frameLength ∷ wrongLength output frameLength ∷ unknownEnd (x .end) ∷ wideState (x .state)
+    ∷ refuse 6 (not (eqb (valueOf (fieldOf padField (bitsOf frame))) 0)) ∷ []
 
 -- the bits of a frame that clock the state: 15 to 4,227
 abbrev pub clocked : List ℕ → List ℕ
-clocked frame = part 14 4213 (bitsOf frame)
+clocked frame = part (placeOf coefficientsField) (placeOf padField - placeOf coefficientsField) (bitsOf frame)
 
--- the octets that come out: the 14 sync bits straight through, the rest run, the pad zero
+-- a frame's 14 sync bits straight through, these bits for the rest, and the pad zero
+abbrev pub around : List ℕ → List ℕ → List ℕ
+around frame bits = octetsOf frameLength (fieldOf syncField (bitsOf frame) ++ (bits ++ replicate padWidth 0))
+
+-- the octets that come out
 abbrev pub frameOut : Way → Scrambler → List ℕ → List ℕ
-frameOut way x frame = octetsOf 529 (part 0 14 (bitsOf frame) ++ (runOf way (tapOf (x .end)) (x .state) (clocked frame) ++ replicate 5 0))
+frameOut way x frame = around frame (runOf way (tapOf (x .end)) (x .state) (clocked frame))
 
 -- Scrambler::scramble_frame and Scrambler::descramble_frame
 pub record FramePromise (way : Way) (x : Scrambler) (frame output : List ℕ) (r : Ran) (exit : List ℕ) : Type 0 where

@@ -14,14 +14,14 @@ pub struct Scrambler {
     pub state: u32,
 }
 
-// What a step gives: the answer, the bit, and what to go on with.
+// What a step gives: the answer, the bit, and the scrambler to go on with.
 pub struct Step {
     pub answer: u32,
     pub bit: u32,
     pub next: Scrambler,
 }
 
-// What a run gives: the answer, and what to go on with.
+// What a run gives: the answer, and the scrambler to go on with.
 pub struct Ran {
     pub answer: u32,
     pub next: Scrambler,
@@ -60,14 +60,14 @@ impl Scrambler {
         ensures { λ r. ⌜ StartPromise end r ⌝ }
     {
         match end {
-            0 => Ran {
+            Self::LTU => Ran {
                 answer: answer::DONE,
                 next: Scrambler {
                     end,
                     state: Self::LTU_START,
                 },
             },
-            1 => Ran {
+            Self::NTU => Ran {
                 answer: answer::DONE,
                 next: Scrambler {
                     end,
@@ -86,7 +86,7 @@ impl Scrambler {
         ensures { λ r. ⌜ StepPromise (wayOf back) self bit r ⌝ }
     {
         let end = self.end;
-        if 1 < end {
+        if Self::NTU < end {
             return Step {
                 answer: answer::UNKNOWN,
                 bit: 0,
@@ -128,7 +128,7 @@ impl Scrambler {
         if input.len() != output.len() {
             return answer::LENGTH;
         }
-        if 1 < self.end {
+        if Self::NTU < self.end {
             return answer::UNKNOWN;
         }
         if Self::STATES <= self.state {
@@ -168,7 +168,7 @@ impl Scrambler {
         self.run(false, input, bits, output)
     }
 
-    // The other way.
+    // The first `bits` bits of the input descrambled into the output; further bits of the output stay.
     pub fn descramble_run(self, input: &[u8], bits: usize, output: &mut [u8]) -> Ran
         ensures { λ r. ⌜ RunPromise descramble self (now (input .entry)) bits (now (output .entry)) r (now (output .exit)) ⌝ }
     {
@@ -185,7 +185,7 @@ impl Scrambler {
         if output.len() != layout::FRAME_OCTETS {
             return answer::LENGTH;
         }
-        if 1 < self.end {
+        if Self::NTU < self.end {
             return answer::UNKNOWN;
         }
         if Self::STATES <= self.state {

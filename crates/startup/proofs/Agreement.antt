@@ -16,9 +16,9 @@ use Rattle.supervisor.specs.Phases.{inAttempt}
 use Rattle.supervisor.specs.Step.{stateRefusals, stepOf, fresh}
 use Rattle.supervisor.proofs.Laws.{by-cases, clash}
 use Rattle.startup.specs.declared.Run.{Run}
-use Rattle.startup.specs.Attempts.{at, one, Card, card, meant, OpensAt}
-use Rattle.startup.specs.Three.{steps, after, Taken}
-use Rattle.startup.specs.Scan.{Attempt, ended, logged, attempts, Fate, Listed}
+use Rattle.startup.specs.Attempts.{at, one, Needs, needsOf, meant, OpensAt}
+use Rattle.startup.specs.Make.{steps, after, Taken}
+use Rattle.startup.specs.Scan.{Attempt, logged, attempts, Fate, Listed}
 use Rattle.startup.specs.Run.{eventOf, noted, takenOf, runFrom, begun, runOf}
 use Rattle.startup.specs.Agrees.{summary, Agrees}
 use Rattle.startup.proofs.Unique.{Sound}
@@ -27,17 +27,17 @@ use Rattle.startup.proofs.Fate.{next-fate, open-back, data-open}
 use Rattle.startup.proofs.Logged.{drop-split, eventAt, opens-event, data-event, exception-event, event-says, logAt, listed, attempts-are, attempts-listed}
 use Rattle.startup.proofs.Three.{pre-out, opening-in, legal-run, open-run, data-run, exception-run, opening-run, in-run, meant-range, started}
 
--- the last attempt has opened, so `how` is not 0
-has-how : (k : Card) (l : List ℕ) (n : ℕ) (a : Attempt) → Fate k l n a → eqb (a .how) 0 ≡ false
-has-how k l n a = ⊎-elim (λ w. rw (w .0)) (⊎-elim (λ w. rw (w .0)) (λ w. rw (w .0)))
+-- the last attempt has opened, so `outcome` is not 0
+has-outcome : (k : Needs) (l : List ℕ) (n : ℕ) (a : Attempt) → Fate k l n a → eqb (a .outcome) 0 ≡ false
+has-outcome k l n a = ⊎-elim (λ w. rw (w .0)) (⊎-elim (λ w. rw (w .0)) (λ w. rw (w .0)))
 
 -- a run's note of an event is the log's
-note-log : (k : Card) (l : List ℕ) (n : ℕ) (s s′ : Supervisor) (p e : ℕ) (log : List Attempt) → Listed k l n log → noted (summary s log) s′ p e ≡ summary s′ (logged p e log)
+note-log : (k : Needs) (l : List ℕ) (n : ℕ) (s s′ : Supervisor) (p e : ℕ) (log : List Attempt) → Listed k l n log → noted (summary s log) s′ p e ≡ summary s′ (logged p e log)
 note-log k l n s s′ p e [] h =
     by-cases (eqb e 1) (λ t. rw t) (λ f. by-cases (ltb 1 e) (λ t. rw (f, t)) (λ g. rw (f, g)))
 note-log k l n s s′ p e (a ∷ log) h =
-    by-cases (eqb e 1) (λ t. rw t (ap (λ (c : ℕ). record { answer = 0; state = s′; attempts = c; opened = p; how = 1; ended = 0 }) (add-one (length (a ∷ log)))))
-    (λ f. by-cases (ltb 1 e) (λ t. rw (f, t, has-how k l n a (h .0 .fate))) (λ g. rw (f, g)))
+    by-cases (eqb e 1) (λ t. rw t (ap (λ (c : ℕ). record { answer = 0; state = s′; attempts = c; «opened_at» = p; outcome = 1; «ended_at» = 0 }) (add-one (length (a ∷ log)))))
+    (λ f. by-cases (ltb 1 e) (λ t. rw (f, t, has-outcome k l n a (h .0 .fate))) (λ g. rw (f, g)))
 
 -- one code of a run
 taken-by : (n c : ℕ) (s s′ : Supervisor) (log : List Attempt) → stepOf s c .state ≡ s′ → takenOf n c (summary s log) ≡ noted (summary s log) s′ n (eventOf (s .phase) (s′ .phase))
@@ -49,7 +49,7 @@ take-all [] = refl
 take-all (x ∷ l) = ap (λ (t : List ℕ). x ∷ t) (take-all l)
 
 module _ (b : Bool) (sil : ℕ) (lo : 2000 ≤ sil) (hi : sil ≤ 60000) (l : List ℕ) where
-  abbrev k : Card
+  abbrev k : Needs
   k = kOf b sil
 
   abbrev s₀ : Supervisor
@@ -134,16 +134,16 @@ run-agrees end silence h t l =
     r = meant-range silence t
 
     ntu : Agrees 1 silence l
-    ntu = subst (λ (s : Supervisor). runOf s l ≡ summary (steps s l) (attempts (card 1 (meant silence)) l)) (sym (started 1 silence (omega arith) t)) (run-sums true (meant silence) (r .0) (r .1) l)
+    ntu = subst (λ (s : Supervisor). runOf s l ≡ summary (steps s l) (attempts (needsOf 1 (meant silence)) l)) (sym (started 1 silence (omega arith) t)) (run-sums true (meant silence) (r .0) (r .1) l)
 
     ltu : Agrees 0 silence l
-    ltu = subst (λ (s : Supervisor). runOf s l ≡ summary (steps s l) (attempts (card 0 (meant silence)) l)) (sym (started 0 silence (omega arith) t)) (run-sums false (meant silence) (r .0) (r .1) l)
+    ltu = subst (λ (s : Supervisor). runOf s l ≡ summary (steps s l) (attempts (needsOf 0 (meant silence)) l)) (sym (started 0 silence (omega arith) t)) (run-sums false (meant silence) (r .0) (r .1) l)
 
 -- THE COMPUTED FORM AGREES WITH THE STATEMENT, for every list
-pub scan-agrees : (end silence : ℕ) → end ≤ 1 → Taken silence → (l : List ℕ) → Listed (card end (meant silence)) l (length l) (attempts (card end (meant silence)) l)
+pub scan-agrees : (end silence : ℕ) → end ≤ 1 → Taken silence → (l : List ℕ) → Listed (needsOf end (meant silence)) l (length l) (attempts (needsOf end (meant silence)) l)
 scan-agrees end silence h t l =
-    ⊎-elim (λ q. subst (λ (e : ℕ). Listed (card e (meant silence)) l (length l) (attempts (card e (meant silence)) l)) (sym q) (attempts-listed (kOf true (meant silence)) (sound true (meant silence) pos) l))
-    (λ z. let q : end ≡ 0 = omega arith in subst (λ (e : ℕ). Listed (card e (meant silence)) l (length l) (attempts (card e (meant silence)) l)) (sym q) (attempts-listed (kOf false (meant silence)) (sound false (meant silence) pos) l))
+    ⊎-elim (λ q. subst (λ (e : ℕ). Listed (needsOf e (meant silence)) l (length l) (attempts (needsOf e (meant silence)) l)) (sym q) (attempts-listed (kOf true (meant silence)) (sound true (meant silence) pos) l))
+    (λ z. let q : end ≡ 0 = omega arith in subst (λ (e : ℕ). Listed (needsOf e (meant silence)) l (length l) (attempts (needsOf e (meant silence)) l)) (sym q) (attempts-listed (kOf false (meant silence)) (sound false (meant silence) pos) l))
     (eq-or-lt-of-le h)
   where
     pos : 0 < meant silence

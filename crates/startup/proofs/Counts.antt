@@ -10,7 +10,7 @@ use mathlib.Core.Bool.{Bool, true, false, false≢true, _&&_}
 use borrow.Author.Tests.{leb-true, leb-false, le-leb}
 use lib.Dec.{leb, eqb}
 use Rattle.supervisor.proofs.Laws.{by-cases, clash}
-use Rattle.startup.specs.Attempts.{at, one, upto, count, Need, heard, shown, Completes, InOrder}
+use Rattle.startup.specs.Attempts.{at, one, upto, count, Need, reported, shown, Completes, InOrder}
 
 -- COUNTS
 
@@ -58,18 +58,18 @@ and-intro a b p q = rw p q
 leb-mono : (k a b : ℕ) → a ≤ b → leb k a ≡ true → leb k b ≡ true
 leb-mono k a b h e = le-leb k b (omega (arith, leb-true k a e))
 
-heard-mono : (cs l : List ℕ) (m n n′ : ℕ) → n ≤ n′ → heard cs l m n ≡ true → heard cs l m n′ ≡ true
-heard-mono [] l m n n′ h e = refl
-heard-mono (c ∷ cs) l m n n′ h e =
-    and-intro _ _ (leb-mono 1 _ _ (count-mono c l m n n′ h) (and-left _ (heard cs l m n) e))
-    (heard-mono cs l m n n′ h (and-right (leb 1 (count c l m n)) _ e))
+reported-mono : (cs l : List ℕ) (m n n′ : ℕ) → n ≤ n′ → reported cs l m n ≡ true → reported cs l m n′ ≡ true
+reported-mono [] l m n n′ h e = refl
+reported-mono (c ∷ cs) l m n n′ h e =
+    and-intro _ _ (leb-mono 1 _ _ (count-mono c l m n n′ h) (and-left _ (reported cs l m n) e))
+    (reported-mono cs l m n n′ h (and-right (leb 1 (count c l m n)) _ e))
 
 module _ (d : Need) (l : List ℕ) (m : ℕ) where
   -- what is shown stays shown
   pub shown-mono : (n n′ : ℕ) → n ≤ n′ → shown d l m n ≡ true → shown d l m n′ ≡ true
   shown-mono n n′ h e =
-      and-intro _ _ (leb-mono (d .ticks) _ _ (count-mono 0 l m n n′ h) (and-left _ (heard (d .reports) l m n) e))
-      (heard-mono (d .reports) l m n n′ h (and-right (leb (d .ticks) (count 0 l m n)) _ e))
+      and-intro _ _ (leb-mono (d .ticks) _ _ (count-mono 0 l m n n′ h) (and-left _ (reported (d .reports) l m n) e))
+      (reported-mono (d .reports) l m n n′ h (and-right (leb (d .ticks) (count 0 l m n)) _ e))
 
   pub shown-less : (n : ℕ) → shown d l m (suc n) ≡ false → shown d l m n ≡ false
   shown-less n f = by-cases (shown d l m n) (λ t. clash _ (shown-mono n (suc n) (omega arith) t) f) (λ e. e)

@@ -7,11 +7,11 @@ use mathlib.Core.Logic.{_⊎_, inl, inr}
 use mathlib.Core.List.{List, [], _∷_}
 use mathlib.Core.Bool.{false}
 use Rattle.supervisor.proofs.Laws.{by-cases}
-use Rattle.startup.specs.Attempts.{Need, shown, Completes, InOrder, Card, all}
+use Rattle.startup.specs.Attempts.{Need, shown, Completes, InOrder, Needs, all}
 use Rattle.startup.proofs.Counts.{completes-after, completes-once, first-shown, in-order-le}
 
 -- an attempt opened at the moment m is in the need d since the moment e, with the needs ds to come
-pub data Reached (k : Card) (l : List ℕ) (m : ℕ) : Need → List Need → ℕ → Type 0 where
+pub data Reached (k : Needs) (l : List ℕ) (m : ℕ) : Need → List Need → ℕ → Type 0 where
   begun : Reached k l m (k .first) (k .others) m
   went : {d d′ : Need} {ds : List Need} {e p : ℕ} → Reached k l m d (d′ ∷ ds) e → Completes d l e p → Reached k l m d′ ds (suc p)
 
@@ -23,7 +23,7 @@ abbrev pub AllReal : List Need → Type 0
 AllReal [] = Unit {0}
 AllReal (d ∷ ds) = Real d × AllReal ds
 
-module _ (k : Card) (l : List ℕ) (m : ℕ) where
+module _ (k : Needs) (l : List ℕ) (m : ℕ) where
   pub reached-le : {d : Need} {ds : List Need} {e : ℕ} → Reached k l m d ds e → m ≤ e
   reached-le begun = le-refl _
   reached-le (went r o) = omega (arith, reached-le r, o .since)

@@ -5,6 +5,7 @@ pub mod Moves
 pub mod Simulates
 pub mod Fate
 pub mod Three
+pub mod Stands
 pub mod Scanned
 pub mod Logged
 pub mod Turns

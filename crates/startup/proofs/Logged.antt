@@ -10,15 +10,15 @@ use borrow.Author.Tests.{leb-true, leb-false, eqb-true}
 use lib.Dec.{leb, eqb}
 use lib.ListN.{length, drop}
 use Rattle.supervisor.proofs.Laws.{by-cases}
-use Rattle.startup.specs.Attempts.{at, count, Need, shown, Card, StillOpen, EndsInData, EndsInException, OpensAt, opens}
-use Rattle.startup.specs.Scan.{Attempt, attempt, Stand, scanned, event, ended, logged, scan, attempts, Fate, Listed}
+use Rattle.startup.specs.Attempts.{at, count, Need, shown, Needs, StillOpen, EndsInData, EndsInException, OpensAt, opens}
+use Rattle.startup.specs.Scan.{Attempt, attempt, Stand, scanned, event, closed, logged, scan, attempts, Fate, Listed}
 use Rattle.startup.proofs.History.{reached-le, not-all}
 use Rattle.startup.proofs.Unique.{Hist, ready as readyH, await, trying, done, failed, onward, next, Holds, Sound, choose, forth, histOf, unique, holds}
 use Rattle.startup.proofs.Fate.{next-fate, open-now, open-back, data-open, is-open, is-done, is-failed, is-told, is-begun}
 use Rattle.startup.proofs.Scanned.{standOf, scan-step}
 
 -- the place of the code that opened an attempt
-opened-by : (k : Card) (l : List ℕ) (m : ℕ) → OpensAt k l m → (p : ℕ) × (m ≡ suc p)
+opened-by : (k : Needs) (l : List ℕ) (m : ℕ) → OpensAt k l m → (p : ℕ) × (m ≡ suc p)
 opened-by k l m (opens {p = p} d o z) = (p, refl)
 
 -- where an attempt in a history opened
@@ -30,7 +30,7 @@ openedIn (done e) = 0
 openedIn (failed e) = 0
 
 -- what an event says of the list
-abbrev pub Says : Card → List ℕ → ℕ → ℕ → Type 0
+abbrev pub Says : Needs → List ℕ → ℕ → ℕ → Type 0
 Says k l n e =
     (e ≡ 0)
     ⊎ (((e ≡ 1) × OpensAt k l (suc n))
@@ -43,7 +43,7 @@ drop-split [] (suc p) c cs q = absurd (let z : _≡_ {A = ℕ} 0 1 = cc in omega
 drop-split (x ∷ l) zero c cs q = (cc, cc)
 drop-split (x ∷ l) (suc p) c cs q = drop-split l p c cs q
 
-module _ (k : Card) (s : Sound k) (l : List ℕ) where
+module _ (k : Needs) (s : Sound k) (l : List ℕ) where
   abbrev pub standAt : ℕ → Stand
   standAt n = standOf k l n (histOf k l n)
 
@@ -82,13 +82,13 @@ module _ (k : Card) (s : Sound k) (l : List ℕ) where
           (forth k s l n (trying d ds e m) h)
         where
           x : StillOpen k l m n
-          x = record { since = le-trans (reached-le k l m (h .1)) (h .2); uncut = h .3; unshown = not-all k l m n (h .1) (h .4) }
+          x = record { since = le-trans (reached-le k l m (h .1)) (h .2); in-time = h .3; unshown = not-all k l m n (h .1) (h .4) }
 
           failing : ((at l n ≡ 8) ⊎ (15000 ≤ count 0 l m (suc n))) → Says k l n 3
           failing c = inr (inr (inr (refl, (m, h .0, record { before = x; cut = c }))))
 
           on : (ds′ : List Need) → P (trying d ds e m) (onward ds′ (suc n) m)
-          on [] hh = inr (inr (inl (refl, (hh .0, hh .1, record { needed = hh .2; uncut = hh .3 }))))
+          on [] hh = inr (inr (inl (refl, (hh .0, hh .1, record { needed = hh .2; in-time = hh .3 }))))
           on (d′ ∷ ds′) hh = inl refl
       go (done e) h = inl refl
       go (failed e) h = inl refl
@@ -120,17 +120,17 @@ module _ (k : Card) (s : Sound k) (l : List ℕ) where
     h .1,
   )
     where
-      o : OpensAt k l (suc (a .opened))
+      o : OpensAt k l (suc (a .openedAt))
       o = h .0 .opens
 
       no : (e : ℕ) → eventAt n ≡ e → eqb e 0 ≡ false → ⊥
       no e r f = false≢true (sym f ∙ ap (λ (z : ℕ). eqb z 0) (sym r ∙ q))
 
-      still : ((a .how ≡ 1) × (a .ended ≡ 0) × StillOpen k l (suc (a .opened)) n) → Fate k l (suc n) a
+      still : ((a .outcome ≡ 1) × (a .endedAt ≡ 0) × StillOpen k l (suc (a .openedAt)) n) → Fate k l (suc n) a
       still w =
           ⊎-elim (λ y. inl (w .0, w .1, y))
-          (⊎-elim (λ d. absurd (no 2 (data-event (suc (a .opened)) n o d) refl)) (λ x. absurd (no 3 (exception-event (suc (a .opened)) n o x) refl)))
-          (next-fate k s l (suc (a .opened)) n (w .2))
+          (⊎-elim (λ d. absurd (no 2 (data-event (suc (a .openedAt)) n o d) refl)) (λ x. absurd (no 3 (exception-event (suc (a .openedAt)) n o x) refl)))
+          (next-fate k s l (suc (a .openedAt)) n (w .2))
 
   -- the code that opens an attempt
   opening : (n : ℕ) (log : List Attempt) → OpensAt k l (suc n) → Listed k l n log → Listed k l (suc n) (attempt n 1 0 ∷ log)
@@ -146,14 +146,14 @@ module _ (k : Card) (s : Sound k) (l : List ℕ) where
 
   -- the code that ends one: it is the last that opened
   closing : (n e m : ℕ) (log : List Attempt) → eventAt n ≡ e → eqb e 1 ≡ false → OpensAt k l m → StillOpen k l m n
-      → ((a : Attempt) → suc (a .opened) ≡ m → Fate k l (suc n) (attempt (a .opened) e n)) → Listed k l n log → Listed k l (suc n) (ended n e log)
+      → ((a : Attempt) → suc (a .openedAt) ≡ m → Fate k l (suc n) (attempt (a .openedAt) e n)) → Listed k l n log → Listed k l (suc n) (closed n e log)
   closing n e m [] q f o x g h = absurd (let w = opened-by k l m o in h (w .0) (omega (arith, w .1, x .since)) (subst (OpensAt k l) (w .1) o))
   closing n e m (a ∷ log) q f o x g h = (
     record {
       before = omega (arith, h .0 .before);
       opens = h .0 .opens;
       last = λ p i j o′. ⊎-elim (λ z. not-opening n e q f (subst (λ (y : ℕ). OpensAt k l (suc y)) (omega arith) o′)) (λ z. h .0 .last p i (omega arith) o′) (eq-or-lt-of-le j);
-      fate = g a (sym (only-open m n (a .opened) o x (h .0 .opens) le (h .0 .before)));
+      fate = g a (sym (only-open m n (a .openedAt) o x (h .0 .opens) le (h .0 .before)));
     },
     h .1,
   )
@@ -161,9 +161,9 @@ module _ (k : Card) (s : Sound k) (l : List ℕ) where
       w : (p : ℕ) × (m ≡ suc p)
       w = opened-by k l m o
 
-      le : m ≤ suc (a .opened)
-      le = by-cases (leb m (suc (a .opened))) (λ t. leb-true _ _ t)
-          (λ c. let z = leb-false m (suc (a .opened)) c in absurd (h .0 .last (w .0) (omega (arith, w .1)) (omega (arith, w .1, x .since)) (subst (OpensAt k l) (w .1) o)))
+      le : m ≤ suc (a .openedAt)
+      le = by-cases (leb m (suc (a .openedAt))) (λ t. leb-true _ _ t)
+          (λ c. let z = leb-false m (suc (a .openedAt)) c in absurd (h .0 .last (w .0) (omega (arith, w .1)) (omega (arith, w .1, x .since)) (subst (OpensAt k l) (w .1) o)))
 
   -- THE LOG LISTS WHAT THE LIST SAYS
   pub listed : (n : ℕ) → Listed k l n (logAt n)

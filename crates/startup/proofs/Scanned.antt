@@ -7,7 +7,7 @@ use mathlib.Core.Bool.{Bool, true, false, cond, _&&_}
 use borrow.Author.Tests.{leb-true, leb-false, le-leb, lt-leb, eq-eqb, ne-eqb}
 use lib.Dec.{leb, eqb}
 use Rattle.supervisor.proofs.Laws.{by-cases}
-use Rattle.startup.specs.Attempts.{at, one, count, Need, need, heard, shown, Card, Uncut}
+use Rattle.startup.specs.Attempts.{at, one, count, Need, need, reported, shown, Needs, InTime}
 use Rattle.startup.specs.Scan.{without, less, empty, nothing, Stand, ready, told, trying, settled, silent, onward, scanned}
 use Rattle.startup.proofs.Counts.{count-step, count-self}
 use Rattle.startup.proofs.History.{reached-le}
@@ -21,10 +21,10 @@ unheard [] l e n = []
 unheard (c ∷ cs) l e n = cond (leb 1 (count c l e n)) (unheard cs l e n) (c ∷ unheard cs l e n)
 
 abbrev left : Need → List ℕ → ℕ → ℕ → Need
-left d l e n = need (d .ticks - count 0 l e n) (unheard (d .reports) l e n)
+left d l e n = need (d .phase) (d .ticks - count 0 l e n) (unheard (d .reports) l e n)
 
 -- nothing is lacking exactly where it is shown
-all-heard : (cs l : List ℕ) (e n : ℕ) → empty (unheard cs l e n) ≡ heard cs l e n
+all-heard : (cs l : List ℕ) (e n : ℕ) → empty (unheard cs l e n) ≡ reported cs l e n
 all-heard [] l e n = refl
 all-heard (c ∷ cs) l e n = by-cases (leb 1 (count c l e n)) (λ t. rw t (all-heard cs l e n)) (λ f. rw f)
 
@@ -40,7 +40,7 @@ unheard-self [] l e = refl
 unheard-self (c ∷ cs) l e = rw (count-self c l e, unheard-self cs l e)
 
 left-self : (d : Need) (l : List ℕ) (e : ℕ) → left d l e e ≡ d
-left-self d l e = λ i. need (go i) (unheard-self (d .reports) l e i)
+left-self d l e = λ i. need (d .phase) (go i) (unheard-self (d .reports) l e i)
   where
     go : d .ticks - count 0 l e e ≡ d .ticks
     go = omega arith
@@ -70,18 +70,18 @@ unheard-step (c ∷ cs) l e n h =
 
 left-step : (d : Need) (l : List ℕ) (e n : ℕ) → e ≤ n → less (at l n) (left d l e n) ≡ left d l e (suc n)
 left-step d l e n h =
-    λ i. need (tick-less (d .ticks) (count 0 l e n) (count 0 l e (suc n)) (eqb (at l n) 0) (count-step 0 l e n h) i) (unheard-step (d .reports) l e n h i)
+    λ i. need (d .phase) (tick-less (d .ticks) (count 0 l e n) (count 0 l e (suc n)) (eqb (at l n) 0) (count-step 0 l e n h) i) (unheard-step (d .reports) l e n h i)
 
 -- THE STAND OF A HISTORY
 
-abbrev pub standOf : Card → List ℕ → ℕ → Hist → Stand
+abbrev pub standOf : Needs → List ℕ → ℕ → Hist → Stand
 standOf k l n (readyH r) = ready
 standOf k l n (await e) = told (left (k .before) l e n)
 standOf k l n (tryingH d ds e m) = trying (left d l e n) ds (15000 - count 0 l m n)
 standOf k l n (done e) = settled
 standOf k l n (failed e) = silent (left (k .silence) l e n)
 
-module _ (k : Card) (l : List ℕ) (n : ℕ) where
+module _ (k : Needs) (l : List ℕ) (n : ℕ) where
   stand-cond : (t : Bool) (x y : Hist) {x′ y′ : Stand} → standOf k l (suc n) x ≡ x′ → standOf k l (suc n) y ≡ y′ → standOf k l (suc n) (cond t x y) ≡ cond t x′ y′
   stand-cond true x y p q = p
   stand-cond false x y p q = q
@@ -92,7 +92,7 @@ module _ (k : Card) (l : List ℕ) (n : ℕ) where
   ticks-left : (m : ℕ) → m ≤ n → cond (eqb (at l n) 0) (pred (15000 - count 0 l m n)) (15000 - count 0 l m n) ≡ 15000 - count 0 l m (suc n)
   ticks-left m h = tick-less 15000 (count 0 l m n) (count 0 l m (suc n)) (eqb (at l n) 0) (count-step 0 l m n h)
 
-  latest : (m : ℕ) → m ≤ n → Uncut l m n → (eqb (at l n) 0 && eqb (pred (15000 - count 0 l m n)) 0) ≡ leb 15000 (count 0 l m (suc n))
+  latest : (m : ℕ) → m ≤ n → InTime l m n → (eqb (at l n) 0 && eqb (pred (15000 - count 0 l m n)) 0) ≡ leb 15000 (count 0 l m (suc n))
   latest m h u = latest-tick 15000 (count 0 l m n) (count 0 l m (suc n)) (eqb (at l n) 0) (count-step 0 l m n h) (u .early)
 
   onward-now : (ds : List Need) (m : ℕ) → standOf k l (suc n) (onwardH ds (suc n) m) ≡ onward ds (15000 - count 0 l m (suc n))

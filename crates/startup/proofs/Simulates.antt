@@ -12,17 +12,17 @@ use Rattle.supervisor.specs.declared.Supervisor.{Supervisor}
 use Rattle.supervisor.specs.Phases.{Ready, Gap, Await, Cr, Hearing, Quiet, Sc, Sr, Tc, Tr, Fc, Settling, Valid, Exception, row, phasesOf, isOf, inAttempt, counts}
 use Rattle.supervisor.specs.Step.{among, acted, moved, stateRefusals, stepOf, fresh}
 use Rattle.supervisor.proofs.Laws.{by-cases}
-use Rattle.startup.specs.Attempts.{at, one, count, Need, need, shown, Card, ntu as ntuCard, ltu as ltuCard, all, Uncut}
-use Rattle.startup.specs.Three.{steps}
+use Rattle.startup.specs.Attempts.{at, one, count, Need, need, shown, Needs, ntuNeeds, ltuNeeds, all, InTime}
+use Rattle.startup.specs.Make.{steps}
 use Rattle.startup.proofs.Counts.{upto-mono, count-self, count-mono, count-step}
 use Rattle.startup.proofs.History.{Reached, begun, went, reached-le, Real, AllReal}
 use Rattle.startup.proofs.Unique.{Hist, ready, await, trying, done, failed, onward, next, Holds, Sound, histOf, unique, holds}
 use Rattle.startup.proofs.Moves.{mk, X, plain, tryOf, lasting, until, both-marks, mark-and-ticks, in-ready, in-gap, in-await, settled, in-valid, in-settling, in-exception, step-state}
 
 -- the card of the NTU or of the LTU
-abbrev pub kOf : Bool → ℕ → Card
-kOf true silence = ntuCard silence
-kOf false silence = ltuCard silence
+abbrev pub kOf : Bool → ℕ → Needs
+kOf true silence = ntuNeeds silence
+kOf false silence = ltuNeeds silence
 
 -- each need has something to wait for
 stages-real : (b : Bool) (sil : ℕ) → AllReal (all (kOf b sil))
@@ -49,18 +49,6 @@ silence-real true sil h = λ l m. simp (count-self 0 l m, lt-leb sil 0 h)
 pub sound : (b : Bool) (sil : ℕ) → 0 < sil → Sound (kOf b sil)
 sound b sil h = record { before = before-real b sil; each = stages-real b sil; silent = silence-real b sil h }
 
--- the phase of the need before these
-abbrev pub phaseOf : Bool → List Need → ℕ
-phaseOf true [] = Tr
-phaseOf true (a ∷ []) = Sr
-phaseOf true (a ∷ b ∷ []) = Quiet
-phaseOf true (a ∷ b ∷ c ∷ ds) = Cr
-phaseOf false [] = Fc
-phaseOf false (a ∷ []) = Tc
-phaseOf false (a ∷ b ∷ []) = Sc
-phaseOf false (a ∷ b ∷ c ∷ []) = Quiet
-phaseOf false (a ∷ b ∷ c ∷ d ∷ ds) = Hearing
-
 -- the phase before an attempt
 abbrev pub pre : Bool → ℕ
 pre true = Gap
@@ -79,7 +67,7 @@ mark c d l e n = cond (among c (d .reports)) (one (leb 1 (count c l e n))) 0
 abbrev pub conc : Bool → ℕ → List ℕ → ℕ → Hist → Supervisor
 conc b sil l n (ready r) = plain (one b) sil Ready 0 0
 conc b sil l n (await e) = plain (one b) sil (pre b) (awaited b (count 0 l e n)) 0
-conc b sil l n (trying d ds e m) = mk (one b) sil (phaseOf b ds) (count 0 l e n) (count 0 l m n) (mark 4 d l e n) (mark 5 d l e n)
+conc b sil l n (trying d ds e m) = mk (one b) sil (d .phase) (count 0 l e n) (count 0 l m n) (mark 4 d l e n) (mark 5 d l e n)
 conc b sil l n (done e) = settled (one b) sil (count 0 l e n)
 conc b sil l n (failed e) = plain (one b) sil Exception (count 0 l e n) 0
 
@@ -88,7 +76,7 @@ abbrev pub AllSuffix : (List Need → Type 0) → List Need → Type 0
 AllSuffix P [] = Unit {0}
 AllSuffix P (d ∷ ds) = P (d ∷ ds) × AllSuffix P ds
 
-pub reached-suffix : (k : Card) (l : List ℕ) (m : ℕ) (P : List Need → Type 0) {d : Need} {ds : List Need} {e : ℕ} → AllSuffix P (all k) → Reached k l m d ds e → AllSuffix P (d ∷ ds)
+pub reached-suffix : (k : Needs) (l : List ℕ) (m : ℕ) (P : List Need → Type 0) {d : Need} {ds : List Need} {e : ℕ} → AllSuffix P (all k) → Reached k l m d ds e → AllSuffix P (d ∷ ds)
 reached-suffix k l m P a begun = a
 reached-suffix k l m P a (went r o) = reached-suffix k l m P a r .1
 
@@ -125,9 +113,9 @@ module _ (b : Bool) (sil : ℕ) where
 
     abbrev P : ℕ → List Need → Type 0
     P m [] = Unit {0}
-    P m (d ∷ ds) = (e : ℕ) → e ≤ n → m ≤ e → Uncut l m n → shown d l e n ≡ false → Commutes (trying d ds e m)
+    P m (d ∷ ds) = (e : ℕ) → e ≤ n → m ≤ e → InTime l m n → shown d l e n ≡ false → Commutes (trying d ds e m)
 
-    pub short : (m e : ℕ) → e ≤ n → m ≤ e → Uncut l m n → count 0 l e n < 15000
+    pub short : (m e : ℕ) → e ≤ n → m ≤ e → InTime l m n → count 0 l e n < 15000
     short m e h i u = omega (arith, u .early, upto-mono 0 l m e i, upto-mono 0 l e n h)
 
     tries : (m e : ℕ) (d : Need) (ds : List Need) (over : Supervisor) → conc b sil l (suc n) (onward ds (suc n) m) ≡ over
@@ -144,47 +132,61 @@ module _ (b : Bool) (sil : ℕ) where
         go true = ap (λ (k : ℕ). one (leb 1 k)) (count-self c l (suc n))
         go false = refl
 
-    enter : (d : Need) (ds : List Need) (m : ℕ) → conc b sil l (suc n) (trying d ds (suc n) m) ≡ plain en sil (phaseOf b ds) 0 (count 0 l m (suc n))
-    enter d ds m = λ i. mk en sil (phaseOf b ds) (count-self 0 l (suc n) i) (count 0 l m (suc n)) (no-mark 4 d i) (no-mark 5 d i)
+    enter : (d : Need) (ds : List Need) (m : ℕ) → conc b sil l (suc n) (trying d ds (suc n) m) ≡ plain en sil (d .phase) 0 (count 0 l m (suc n))
+    enter d ds m = λ i. mk en sil (d .phase) (count-self 0 l (suc n) i) (count 0 l m (suc n)) (no-mark 4 d i) (no-mark 5 d i)
 
     enter-done : conc b sil l (suc n) (done (suc n)) ≡ plain en sil Settling 0 0
     enter-done = ap (settled en sil) (count-self 0 l (suc n))
 
     -- a phase that lasts so many ticks
-    do-lasting : (ph nx lim : ℕ) (d : Need) (ds : List Need) → phaseOf b (d ∷ ds) ≡ ph → phaseOf b ds ≡ nx → isOf ph (phasesOf en sil) ≡ true
-        → counts ph ≡ true → inAttempt ph ≡ true → inAttempt nx ≡ true → eqb ph Exception ≡ false
-        → ((t a x : ℕ) → moved (plain en sil ph t a) x ≡ acted (row ph lim [] nx) (plain en sil ph t a) x) → (m : ℕ) → P m (need lim [] ∷ d ∷ ds)
-    do-lasting ph nx lim d ds at-ph at-nx o hc ha hn he mv m e h i u z =
+    do-lasting : (ph lim : ℕ) (d : Need) (ds : List Need) → isOf ph (phasesOf en sil) ≡ true
+        → counts ph ≡ true → inAttempt ph ≡ true → inAttempt (d .phase) ≡ true → eqb ph Exception ≡ false
+        → ((t a x : ℕ) → moved (plain en sil ph t a) x ≡ acted (row ph lim [] (d .phase)) (plain en sil ph t a) x)
+        → (m : ℕ) → P m (need ph lim [] ∷ d ∷ ds)
+    do-lasting ph lim d ds o hc ha hn he mv m e h i u z =
         let t : count 0 l e n < 15000 = short m e h i u in
         let j : m ≤ n = omega arith in
-        ap (λ (q : ℕ). stepOf (plain en sil q (count 0 l e n) (count 0 l m n)) (at l n) .state) at-ph
-        ∙ step-state (plain en sil ph (count 0 l e n) (count 0 l m n)) (at l n) (legal-mk ph (count 0 l e n) (count 0 l m n) 0 0 o (omega arith) (u .early))
-        ∙ mv (count 0 l e n) (count 0 l m n) (at l n)
-        ∙ lasting en sil ph nx lim (at l n) (count 0 l e n) (count 0 l m n) (count 0 l e (suc n)) (count 0 l m (suc n)) hc ha hn he (count-step 0 l e n h) (count-step 0 l m n j) (leb-false lim (count 0 l e n) (simp and-true at z)) t (u .early)
-        ∙ ap (λ (q : ℕ). tryOf en sil (at l n) (count 0 l m (suc n)) (shown (need lim []) l e (suc n)) (plain en sil nx 0 (count 0 l m (suc n))) (plain en sil q (count 0 l e (suc n)) (count 0 l m (suc n)))) (sym at-ph)
-        ∙ sym (tries m e (need lim []) (d ∷ ds) (plain en sil nx 0 (count 0 l m (suc n))) (enter d ds m ∙ ap (λ (q : ℕ). plain en sil q 0 (count 0 l m (suc n))) at-nx))
+        let c = count 0 l e n in
+        let c′ = count 0 l e (suc n) in
+        let a = count 0 l m n in
+        let a′ = count 0 l m (suc n) in
+        step-state (plain en sil ph c a) (at l n) (legal-mk ph c a 0 0 o (omega arith) (u .early))
+        ∙ mv c a (at l n)
+        ∙ lasting en sil ph (d .phase) lim (at l n) c a c′ a′ hc ha hn he (count-step 0 l e n h) (count-step 0 l m n j)
+        (leb-false lim c (simp and-true at z)) t (u .early)
+        ∙ sym (tries m e (need ph lim []) (d ∷ ds) (plain en sil (d .phase) 0 a′) (enter d ds m))
 
     -- a phase that lasts until a report that has no mark
-    do-until : (ph nx r : ℕ) (ds : List Need) → phaseOf b ds ≡ ph → isOf ph (phasesOf en sil) ≡ true → counts ph ≡ true → inAttempt ph ≡ true → eqb ph Exception ≡ false
-        → eqb r 0 ≡ false → eqb 0 r ≡ false → eqb r 8 ≡ false → eqb 8 r ≡ false → eqb r 4 ≡ false → eqb r 5 ≡ false → among 4 (r ∷ []) ≡ false → among 5 (r ∷ []) ≡ false
+    do-until : (ph nx r : ℕ) (ds : List Need) → isOf ph (phasesOf en sil) ≡ true → counts ph ≡ true → inAttempt ph ≡ true → eqb ph Exception ≡ false
+        → eqb r 0 ≡ false → eqb 0 r ≡ false → eqb r 8 ≡ false → eqb 8 r ≡ false → eqb r 4 ≡ false → eqb r 5 ≡ false
+        → among 4 (r ∷ []) ≡ false → among 5 (r ∷ []) ≡ false
         → ((t a x : ℕ) → moved (plain en sil ph t a) x ≡ acted (row ph 0 (r ∷ []) nx) (plain en sil ph t a) x)
-        → (m : ℕ) → conc b sil l (suc n) (onward ds (suc n) m) ≡ plain en sil nx 0 (cond (inAttempt nx) (count 0 l m (suc n)) 0) → P m (need 0 (r ∷ []) ∷ ds)
-    do-until ph nx r ds at-ph o hc ha he r0 r0′ r8 r8′ r4 r5 k4 k5 mv m q e h i u z =
+        → (m : ℕ) → conc b sil l (suc n) (onward ds (suc n) m) ≡ plain en sil nx 0 (cond (inAttempt nx) (count 0 l m (suc n)) 0)
+        → P m (need ph 0 (r ∷ []) ∷ ds)
+    do-until ph nx r ds o hc ha he r0 r0′ r8 r8′ r4 r5 k4 k5 mv m q e h i u z =
         let t : count 0 l e n < 15000 = short m e h i u in
         let j : m ≤ n = omega arith in
+        let c = count 0 l e n in
+        let c′ = count 0 l e (suc n) in
+        let a = count 0 l m n in
+        let a′ = count 0 l m (suc n) in
+        let end = plain en sil nx 0 (cond (inAttempt nx) a′ 0) in
         ap (λ (s : Supervisor). stepOf s (at l n) .state) (unmarked n)
-        ∙ step-state (plain en sil ph (count 0 l e n) (count 0 l m n)) (at l n) (legal-mk ph (count 0 l e n) (count 0 l m n) 0 0 o (omega arith) (u .early))
-        ∙ mv (count 0 l e n) (count 0 l m n) (at l n)
-        ∙ until en sil ph nx r hc ha he r0 r0′ r8 r8′ r4 r5 (at l n) (count 0 l e n) (count 0 l m n) (count 0 l e (suc n)) (count 0 l m (suc n)) (count r l e n) (count r l e (suc n)) (count-step 0 l e n h) (count-step 0 l m n j) (count-step r l e n h) t (u .early) (simp (and-true, leb·zero (count 0 l e n)) at z)
-        ∙ ap (tryOf en sil (at l n) (count 0 l m (suc n)) (shown (need 0 (r ∷ [])) l e (suc n)) (plain en sil nx 0 (cond (inAttempt nx) (count 0 l m (suc n)) 0))) (sym (unmarked (suc n)))
-        ∙ sym (tries m e (need 0 (r ∷ [])) ds (plain en sil nx 0 (cond (inAttempt nx) (count 0 l m (suc n)) 0)) q)
+        ∙ step-state (plain en sil ph c a) (at l n) (legal-mk ph c a 0 0 o (omega arith) (u .early))
+        ∙ mv c a (at l n)
+        ∙ until en sil ph nx r hc ha he r0 r0′ r8 r8′ r4 r5 (at l n) c a c′ a′ (count r l e n) (count r l e (suc n))
+        (count-step 0 l e n h) (count-step 0 l m n j) (count-step r l e n h) t (u .early) (simp (and-true, leb·zero c) at z)
+        ∙ ap (tryOf en sil (at l n) a′ (shown (need ph 0 (r ∷ [])) l e (suc n)) end) (sym (unmarked (suc n)))
+        ∙ sym (tries m e (need ph 0 (r ∷ [])) ds end q)
       where
-        unmarked : (n′ : ℕ) → conc b sil l n′ (trying (need 0 (r ∷ [])) ds e m) ≡ plain en sil ph (count 0 l e n′) (count 0 l m n′)
-        unmarked n′ = λ v. mk en sil (at-ph v) (count 0 l e n′) (count 0 l m n′) (cond (k4 v) (one (leb 1 (count 4 l e n′))) 0) (cond (k5 v) (one (leb 1 (count 5 l e n′))) 0)
+        unmarked : (n′ : ℕ) → conc b sil l n′ (trying (need ph 0 (r ∷ [])) ds e m) ≡ plain en sil ph (count 0 l e n′) (count 0 l m n′)
+        unmarked n′ =
+            λ v. mk en sil ph (count 0 l e n′) (count 0 l m n′) (cond (k4 v) (one (leb 1 (count 4 l e n′))) 0)
+            (cond (k5 v) (one (leb 1 (count 5 l e n′))) 0)
 
     abbrev AwaitStep : Type 0
     AwaitStep = (e : ℕ) → Holds (kOf b sil) l n (await e)
-        → stepOf (conc b sil l n (await e)) (at l n) .state ≡ cond (eqb (at l n) 8) (X en sil) (cond (shown (kOf b sil .before) l e (suc n)) (plain en sil (phaseOf b (kOf b sil .others)) 0 0) (conc b sil l (suc n) (await e)))
+        → stepOf (conc b sil l n (await e)) (at l n) .state ≡ cond (eqb (at l n) 8) (X en sil) (cond (shown (kOf b sil .before) l e (suc n)) (plain en sil (kOf b sil .first .phase) 0 0) (conc b sil l (suc n) (await e)))
 
     abbrev ReadyStep : Type 0
     ReadyStep = stepOf (plain en sil Ready 0 0) (at l n) .state ≡ cond (eqb (at l n) 8) (X en sil) (cond (eqb (at l n) 1) (plain en sil (pre b) 0 0) (plain en sil Ready 0 0))
@@ -204,7 +206,7 @@ module _ (b : Bool) (sil : ℕ) where
       pub moved-valid : (x : ℕ) → moved (plain en sil Valid 0 0) x ≡ acted (row Valid 0 [] Valid) (plain en sil Valid 0 0) x
       pub moved-settling : (t x : ℕ) → moved (plain en sil Settling t 0) x ≡ acted (row Settling 1000 [] Valid) (plain en sil Settling t 0) x
       pub moved-exception : (t x : ℕ) → moved (plain en sil Exception t 0) x ≡ acted (row Exception sil [] Ready) (plain en sil Exception t 0) x
-      pub rest : kOf b sil .silence ≡ need sil []
+      pub rest : kOf b sil .silence ≡ need Exception sil []
 
     commutes : ReadyStep → AwaitStep → ((m : ℕ) → AllSuffix (P m) (all (kOf b sil))) → Shared → (a : Hist) → Holds (kOf b sil) l n a → Commutes a
     commutes rd aw every sh (ready r) h =
@@ -215,7 +217,7 @@ module _ (b : Bool) (sil : ℕ) where
         aw e h
         ∙ sym (conc-cond l (suc n) (eqb (at l n) 8) (failed (suc n)) (cond (shown (kOf b sil .before) l e (suc n)) (trying (kOf b sil .first) (kOf b sil .others) (suc n) (suc n)) (await e)) (fail-now l (suc n))
         (conc-cond l (suc n) (shown (kOf b sil .before) l e (suc n)) (trying (kOf b sil .first) (kOf b sil .others) (suc n) (suc n)) (await e)
-        (enter (kOf b sil .first) (kOf b sil .others) (suc n) ∙ ap (plain en sil (phaseOf b (kOf b sil .others)) 0) (count-self 0 l (suc n))) refl))
+        (enter (kOf b sil .first) (kOf b sil .others) (suc n) ∙ ap (plain en sil (kOf b sil .first .phase) 0) (count-self 0 l (suc n))) refl))
     commutes rd aw every sh (trying d ds e m) h = reached-suffix (kOf b sil) l m (P m) (every m) (h .1) .0 e (h .2) (reached-le (kOf b sil) l m (h .1)) (h .3) (h .4)
     commutes rd aw every sh (done e) h =
         by-cases (leb 1000 (count 0 l e n))
@@ -246,24 +248,24 @@ commutes-at true sil lo hi l n =
     step-state (plain 1 sil Gap (count 0 l e n) 0) (at l n) (legal-mk true sil lo hi l n Gap (count 0 l e n) 0 0 0 refl (omega arith) (omega arith))
     ∙ in-gap 1 sil (at l n) (count 0 l e n) (count 0 l e (suc n)) (count-step 0 l e n (h .1)) t)
     (λ m. (
-      do-lasting true sil lo hi l n Cr Quiet 1000 _ _ refl refl refl refl refl refl refl (λ t a x. refl) m,
+      do-lasting true sil lo hi l n Cr 1000 _ _ refl refl refl refl refl (λ t a x. refl) m,
       (
-        do-lasting true sil lo hi l n Quiet Sr 1500 _ _ refl refl refl refl refl refl refl (λ t a x. refl) m,
+        do-lasting true sil lo hi l n Quiet 1500 _ _ refl refl refl refl refl (λ t a x. refl) m,
         (
           sr m,
-          (do-until true sil lo hi l n Tr Settling 7 [] refl refl refl refl refl refl refl refl refl refl refl refl refl (λ t a x. refl) m (enter-done true sil lo hi l n), tt),
+          (do-until true sil lo hi l n Tr Settling 7 [] refl refl refl refl refl refl refl refl refl refl refl refl (λ t a x. refl) m (enter-done true sil lo hi l n), tt),
         ),
       ),
     ))
     (record { valid = refl; settling = refl; exception = refl; moved-valid = λ x. refl; moved-settling = λ t x. refl; moved-exception = λ t x. refl; rest = refl })
   where
-    sr : (m : ℕ) → P true sil lo hi l n m (need 0 (4 ∷ 5 ∷ []) ∷ need 0 (7 ∷ []) ∷ [])
+    sr : (m : ℕ) → P true sil lo hi l n m (need Sr 0 (4 ∷ 5 ∷ []) ∷ need Tr 0 (7 ∷ []) ∷ [])
     sr m e h i u z =
         let t : count 0 l e n < 15000 = short true sil lo hi l n m e h i u in
         let j : m ≤ n = omega arith in
         step-state (mk 1 sil Sr (count 0 l e n) (count 0 l m n) (one (leb 1 (count 4 l e n))) (one (leb 1 (count 5 l e n)))) (at l n) (legal-mk true sil lo hi l n Sr (count 0 l e n) (count 0 l m n) (one (leb 1 (count 4 l e n))) (one (leb 1 (count 5 l e n))) refl (omega arith) (u .early))
         ∙ both-marks 1 sil (at l n) (count 0 l e n) (count 0 l m n) (count 0 l e (suc n)) (count 0 l m (suc n)) (count 4 l e n) (count 4 l e (suc n)) (count 5 l e n) (count 5 l e (suc n)) (count-step 0 l e n h) (count-step 0 l m n j) (count-step 4 l e n h) (count-step 5 l e n h) t (u .early) (simp (and-true, leb·zero (count 0 l e n)) at z)
-        ∙ sym (tries true sil lo hi l n m e (need 0 (4 ∷ 5 ∷ [])) (need 0 (7 ∷ []) ∷ []) (plain 1 sil Tr 0 (count 0 l m (suc n))) (enter true sil lo hi l n (need 0 (7 ∷ [])) [] m))
+        ∙ sym (tries true sil lo hi l n m e (need Sr 0 (4 ∷ 5 ∷ [])) (need Tr 0 (7 ∷ []) ∷ []) (plain 1 sil Tr 0 (count 0 l m (suc n))) (enter true sil lo hi l n (need Tr 0 (7 ∷ [])) [] m))
 commutes-at false sil lo hi l n =
     commutes false sil lo hi l n
     (step-state (plain 0 sil Ready 0 0) (at l n) (legal-mk false sil lo hi l n Ready 0 0 0 0 refl (omega arith) (omega arith)) ∙ in-ready 0 sil Await (at l n))
@@ -271,27 +273,27 @@ commutes-at false sil lo hi l n =
     step-state (plain 0 sil Await 0 0) (at l n) (legal-mk false sil lo hi l n Await 0 0 0 0 refl (omega arith) (omega arith))
     ∙ in-await 0 sil (at l n) (count 0 l e (suc n)) (count 2 l e n) (count 2 l e (suc n)) (count-step 2 l e n (h .1)) (simp (and-true, leb·zero (count 0 l e n)) at (h .3)))
     (λ m. (
-      do-until false sil lo hi l n Hearing Quiet 3 (ltuCard sil .others) refl refl refl refl refl refl refl refl refl refl refl refl refl (λ t a x. refl) m (enter false sil lo hi l n (need 500 []) (need 5000 (4 ∷ []) ∷ need 0 (6 ∷ []) ∷ need 0 (7 ∷ []) ∷ []) m),
+      do-until false sil lo hi l n Hearing Quiet 3 (ltuNeeds sil .others) refl refl refl refl refl refl refl refl refl refl refl refl (λ t a x. refl) m (enter false sil lo hi l n (need Quiet 500 []) (need Sc 5000 (4 ∷ []) ∷ need Tc 0 (6 ∷ []) ∷ need Fc 0 (7 ∷ []) ∷ []) m),
       (
-        do-lasting false sil lo hi l n Quiet Sc 500 _ _ refl refl refl refl refl refl refl (λ t a x. refl) m,
+        do-lasting false sil lo hi l n Quiet 500 _ _ refl refl refl refl refl (λ t a x. refl) m,
         (
           sc m,
           (
-            do-until false sil lo hi l n Tc Fc 6 (need 0 (7 ∷ []) ∷ []) refl refl refl refl refl refl refl refl refl refl refl refl refl (λ t a x. refl) m (enter false sil lo hi l n (need 0 (7 ∷ [])) [] m),
-            (do-until false sil lo hi l n Fc Settling 7 [] refl refl refl refl refl refl refl refl refl refl refl refl refl (λ t a x. refl) m (enter-done false sil lo hi l n), tt),
+            do-until false sil lo hi l n Tc Fc 6 (need Fc 0 (7 ∷ []) ∷ []) refl refl refl refl refl refl refl refl refl refl refl refl (λ t a x. refl) m (enter false sil lo hi l n (need Fc 0 (7 ∷ [])) [] m),
+            (do-until false sil lo hi l n Fc Settling 7 [] refl refl refl refl refl refl refl refl refl refl refl refl (λ t a x. refl) m (enter-done false sil lo hi l n), tt),
           ),
         ),
       ),
     ))
     (record { valid = refl; settling = refl; exception = refl; moved-valid = λ x. refl; moved-settling = λ t x. refl; moved-exception = λ t x. refl; rest = refl })
   where
-    sc : (m : ℕ) → P false sil lo hi l n m (need 5000 (4 ∷ []) ∷ need 0 (6 ∷ []) ∷ need 0 (7 ∷ []) ∷ [])
+    sc : (m : ℕ) → P false sil lo hi l n m (need Sc 5000 (4 ∷ []) ∷ need Tc 0 (6 ∷ []) ∷ need Fc 0 (7 ∷ []) ∷ [])
     sc m e h i u z =
         let t : count 0 l e n < 15000 = short false sil lo hi l n m e h i u in
         let j : m ≤ n = omega arith in
         step-state (mk 0 sil Sc (count 0 l e n) (count 0 l m n) (one (leb 1 (count 4 l e n))) 0) (at l n) (legal-mk false sil lo hi l n Sc (count 0 l e n) (count 0 l m n) (one (leb 1 (count 4 l e n))) 0 refl (omega arith) (u .early))
         ∙ mark-and-ticks 0 sil (at l n) (count 0 l e n) (count 0 l m n) (count 0 l e (suc n)) (count 0 l m (suc n)) (count 4 l e n) (count 4 l e (suc n)) (count-step 0 l e n h) (count-step 0 l m n j) (count-step 4 l e n h) t (u .early) (simp and-true at z)
-        ∙ sym (tries false sil lo hi l n m e (need 5000 (4 ∷ [])) (need 0 (6 ∷ []) ∷ need 0 (7 ∷ []) ∷ []) (plain 0 sil Tc 0 (count 0 l m (suc n))) (enter false sil lo hi l n (need 0 (6 ∷ [])) (need 0 (7 ∷ []) ∷ []) m))
+        ∙ sym (tries false sil lo hi l n m e (need Sc 5000 (4 ∷ [])) (need Tc 0 (6 ∷ []) ∷ need Fc 0 (7 ∷ []) ∷ []) (plain 0 sil Tc 0 (count 0 l m (suc n))) (enter false sil lo hi l n (need Tc 0 (6 ∷ [])) (need Fc 0 (7 ∷ []) ∷ []) m))
 
 module _ (b : Bool) (sil : ℕ) (lo : 2000 ≤ sil) (hi : sil ≤ 60000) (l : List ℕ) where
   -- THE STATE AFTER n CODES IS THAT OF THE HISTORY AT n

@@ -3,7 +3,7 @@ use Prim.Native.Nat.{ℕ, suc, _≤_, _<_}
 use native.Mathlib.Omega.{arith}
 use native.Mathlib.Nat.{le-trans, eq-or-lt-of-le}
 use mathlib.Core.Path.{_≡_, refl, sym, ap, subst, _∙_}
-use mathlib.Core.Logic.{_⊎_, inl, inr, ⊎-elim}
+use mathlib.Core.Logic.{_⊎_, inl, inr, ⊎-elim, _↔_}
 use mathlib.Core.List.{List, [], _∷_}
 use mathlib.Core.Bool.{Bool, true, false, cond, and-true}
 use borrow.Author.Tests.{leb-true, leb-false, le-ltb, lt-ltb, ne-eqb}
@@ -11,17 +11,18 @@ use lib.Dec.{leb, eqb}
 use Rattle.answer.specs.Answer.{answer}
 use Rattle.supervisor.specs.declared.Supervisor.{Supervisor}
 use Rattle.supervisor.specs.declared.Answer.{Answer}
+use Rattle.supervisor.specs.Limits.{attemptTicks}
 use Rattle.supervisor.specs.Phases.{Ready, Gap, Await, Cr, Hearing, Settling, Valid, Exception, phasesOf, isOf, inAttempt}
 use Rattle.supervisor.specs.Step.{moved, stateRefusals, answered as answeredOf, stepOf, fresh, startOf}
 use Rattle.supervisor.proofs.Laws.{by-cases, clash}
-use Rattle.startup.specs.Attempts.{at, one, count, Need, shown, Card, card, meant, all, StillOpen, EndsInData, EndsInException, OpensAt}
-use Rattle.startup.specs.Three.{after, answerTo, FirstShows, Follows, Demand3, Taken, ours}
+use Rattle.startup.specs.Attempts.{at, one, count, Need, shown, Needs, meant, all, StillOpen, EndsInData, EndsInException, OpensAt}
+use Rattle.startup.specs.Make.{after, answerTo, Enters, FirstShows, Taken, ours}
 use Rattle.startup.proofs.Counts.{count-self, shown-less}
 use Rattle.startup.proofs.History.{Reached, begun, went, reached-le, not-all}
 use Rattle.startup.proofs.Unique.{Hist, ready, await, trying, done, failed, Holds, Sound, histOf, holds}
 use Rattle.startup.proofs.Moves.{settled, step-state}
-use Rattle.startup.proofs.Simulates.{kOf, sound, phaseOf, pre, mark, conc, AllSuffix, reached-suffix, after-suc, legal-mk, short, run-hist, run-is}
-use Rattle.startup.proofs.Fate.{fate, next-fate, uncut-back, open-back, data-open, ends as ends-by, is-open, is-done, is-failed, is-told, is-begun}
+use Rattle.startup.proofs.Simulates.{kOf, sound, pre, mark, conc, AllSuffix, reached-suffix, after-suc, legal-mk, short, run-hist, run-is}
+use Rattle.startup.proofs.Fate.{fate, next-fate, in-time-back, open-back, data-open, ends as ends-by, is-open, is-done, is-failed, is-told, is-begun}
 
 -- an answer to a code that is taken, and to one that is not
 taken : (s : Supervisor) (c : ℕ) → answer (stateRefusals s) ≡ 0 → c ≤ 8 → stepOf s c ≡ answeredOf 0 s (moved s c)
@@ -47,30 +48,30 @@ settled-out : (en sil t : ℕ) → inAttempt (settled en sil t .phase) ≡ false
 settled-out en sil t = by-cases (leb 1000 t) (λ y. rw y) (λ y. rw y)
 
 -- what holds of the phase of each need: it is one of the attempt's and of the end's, and only the first is the opening one
-abbrev InAttempt : Bool → ℕ → List Need → Type 0
+abbrev pub InAttempt : Bool → ℕ → List Need → Type 0
 InAttempt b sil [] = Unit {0}
-InAttempt b sil (d ∷ ds) = (inAttempt (phaseOf b ds) ≡ true) × (isOf (phaseOf b ds) (phasesOf (one b) sil) ≡ true)
+InAttempt b sil (d ∷ ds) = (inAttempt (d .phase) ≡ true) × (isOf (d .phase) (phasesOf (one b) sil) ≡ true)
 
-in-attempt : (b : Bool) (sil : ℕ) → AllSuffix (InAttempt b sil) (all (kOf b sil))
+pub in-attempt : (b : Bool) (sil : ℕ) → AllSuffix (InAttempt b sil) (all (kOf b sil))
 in-attempt true sil = ((refl, refl), ((refl, refl), ((refl, refl), ((refl, refl), tt))))
 in-attempt false sil = ((refl, refl), ((refl, refl), ((refl, refl), ((refl, refl), ((refl, refl), tt)))))
 
 abbrev NextOther : Bool → List Need → Type 0
 NextOther b [] = Unit {0}
 NextOther b (d ∷ []) = Unit {0}
-NextOther b (d ∷ d′ ∷ ds) = eqb (phaseOf b ds) (opening b) ≡ false
+NextOther b (d ∷ d′ ∷ ds) = eqb (d′ .phase) (opening b) ≡ false
 
 next-other : (b : Bool) (sil : ℕ) → AllSuffix (NextOther b) (all (kOf b sil))
 next-other true sil = (refl, (refl, (refl, (tt, tt))))
 next-other false sil = (refl, (refl, (refl, (refl, (tt, tt)))))
 
 -- either in the first need since the opening, or not in the opening phase
-where-opening : (b : Bool) (sil : ℕ) (l : List ℕ) (m : ℕ) {d : Need} {ds : List Need} {e : ℕ} → Reached (kOf b sil) l m d ds e → (m ≡ e) ⊎ (eqb (phaseOf b ds) (opening b) ≡ false)
+where-opening : (b : Bool) (sil : ℕ) (l : List ℕ) (m : ℕ) {d : Need} {ds : List Need} {e : ℕ} → Reached (kOf b sil) l m d ds e → (m ≡ e) ⊎ (eqb (d .phase) (opening b) ≡ false)
 where-opening b sil l m begun = inl refl
 where-opening b sil l m (went r o) = inr (reached-suffix (kOf b sil) l m (NextOther b) (next-other b sil) r .0)
 
 module _ (b : Bool) (sil : ℕ) (lo : 2000 ≤ sil) (hi : sil ≤ 60000) (l : List ℕ) where
-  abbrev k : Card
+  abbrev k : Needs
   k = kOf b sil
 
   abbrev s₀ : Supervisor
@@ -104,7 +105,7 @@ module _ (b : Bool) (sil : ℕ) (lo : 2000 ≤ sil) (hi : sil ≤ 60000) (l : Li
       go (trying d ds e m) h =
           let i = reached-le k l m (h .1) in
           let t = short b sil lo hi l n m e (h .2) i (h .3) in
-          legal-mk b sil lo hi l n (phaseOf b ds) (count 0 l e n) (count 0 l m n) (mark 4 d l e n) (mark 5 d l e n) (reached-suffix k l m (InAttempt b sil) (in-attempt b sil) (h .1) .0 .1) (omega arith) (h .3 .early)
+          legal-mk b sil lo hi l n (d .phase) (count 0 l e n) (count 0 l m n) (mark 4 d l e n) (mark 5 d l e n) (reached-suffix k l m (InAttempt b sil) (in-attempt b sil) (h .1) .0 .1) (omega arith) (h .3 .early)
       go (done e) h =
           by-cases (leb 1000 (count 0 l e n)) (λ t. rw t (legal-mk b sil lo hi l n Valid 0 0 0 0 (both Valid refl refl) (omega arith) (omega arith)))
           (λ f. let t : count 0 l e n < 1000 = leb-false 1000 (count 0 l e n) f in rw f (legal-mk b sil lo hi l n Settling (count 0 l e n) 0 0 0 (both Settling refl refl) (omega arith) (omega arith)))
@@ -189,7 +190,7 @@ module _ (b : Bool) (sil : ℕ) (lo : 2000 ≤ sil) (hi : sil ≤ 60000) (l : Li
         ap (λ (y : Supervisor). y .phase) (run-is b sil lo hi l (suc p) (trying (k .first) (k .others) (suc p) (suc p)) (is-begun k sd l p o)) ∙ first b,
       )
     where
-      first : (b : Bool) → phaseOf b (kOf b sil .others) ≡ opening b
+      first : (b : Bool) → kOf b sil .first .phase ≡ opening b
       first true = refl
       first false = refl
 
@@ -206,16 +207,16 @@ module _ (b : Bool) (sil : ℕ) (lo : 2000 ≤ sil) (hi : sil ≤ 60000) (l : Li
       out : (a : Hist) → after s₀ l (suc p) ≡ conc b sil l (suc p) a → inAttempt (conc b sil l (suc p) a .phase) ≡ false → OpensAt k l (suc p)
       out a q z = clash _ (ap inAttempt e ∙ opening-in b) (ap (λ (y : Supervisor). inAttempt (y .phase)) q ∙ z)
 
-      before : (d : Need) (ds : List Need) (e′ m : ℕ) → Holds k l (suc p) (trying d ds e′ m) → e′ ≤ p → phaseOf b ds ≡ opening b → ⊥
+      before : (d : Need) (ds : List Need) (e′ m : ℕ) → Holds k l (suc p) (trying d ds e′ m) → e′ ≤ p → d .phase ≡ opening b → ⊥
       before d ds e′ m h i z =
           n (ap (λ (y : Supervisor). y .phase)
-          (run-is b sil lo hi l p (trying d ds e′ m) (h .0, h .1, i, uncut-back k sd l m p (suc p) (le-trans (reached-le k l m (h .1)) i) (omega arith) (h .3), shown-less d l e′ p (h .4))) ∙ z)
+          (run-is b sil lo hi l p (trying d ds e′ m) (h .0, h .1, i, in-time-back k sd l m p (suc p) (le-trans (reached-le k l m (h .1)) i) (omega arith) (h .3), shown-less d l e′ p (h .4))) ∙ z)
 
       go : (a : Hist) → Holds k l (suc p) a → after s₀ l (suc p) ≡ conc b sil l (suc p) a → OpensAt k l (suc p)
       go (ready r) h q = out (ready r) q refl
       go (await e′) h q = out (await e′) q (pre-out b)
       go (trying d ds e′ m) h q =
-          let z : phaseOf b ds ≡ opening b = sym (ap (λ (y : Supervisor). y .phase) q) ∙ e in
+          let z : d .phase ≡ opening b = sym (ap (λ (y : Supervisor). y .phase) q) ∙ e in
           ⊎-elim
           (λ y. ⊎-elim (λ w. subst (OpensAt k l) (w ∙ y) (h .0)) (λ w. clash (eqb (opening b) (opening b)) (same b) (ap (λ (x : ℕ). eqb x (opening b)) (sym z) ∙ w)) (where-opening b sil l m (h .1)))
           (λ y. absurd (before d ds e′ m h (omega arith) z))
@@ -237,33 +238,53 @@ module _ (b : Bool) (sil : ℕ) (lo : 2000 ≤ sil) (hi : sil ≤ 60000) (l : Li
       go : (a : Hist) → Holds k l n a → after s₀ l n ≡ conc b sil l n a → (m : ℕ) × OpensAt k l m × StillOpen k l m n
       go (ready r) h q = out (ready r) q refl
       go (await e) h q = out (await e) q (pre-out b)
-      go (trying d ds e m) h q = (m, h .0, record { since = le-trans (reached-le k l m (h .1)) (h .2); uncut = h .3; unshown = not-all k l m n (h .1) (h .4) })
+      go (trying d ds e m) h q = (m, h .0, record { since = le-trans (reached-le k l m (h .1)) (h .2); in-time = h .3; unshown = not-all k l m n (h .1) (h .4) })
       go (done e) h q = out (done e) q (settled-out (one b) sil (count 0 l e n))
       go (failed e) h q = out (failed e) q refl
 
-  ticks-are : (p : ℕ) → at l p ≤ 8 → answerTo s₀ l p .attempt ≡ cond (inAttempt (after s₀ l (suc p) .phase)) (after s₀ l (suc p) .attempt) 0
+  pub ticks-are : (p : ℕ) → at l p ≤ 8 → answerTo s₀ l p .attempt ≡ cond (inAttempt (after s₀ l (suc p) .phase)) (after s₀ l (suc p) .attempt) 0
   ticks-are p h = ap (λ (x : Answer). x .attempt) (answer-is p h)
 
-  pub follows : Follows ours s₀ k (opening b) l
-  follows = record {
-    answered = λ p h. (ap (λ (x : Answer). x .answer) (answer-is p h), phase-is p h);
-    skipped = λ p h. (ap (λ (x : Answer). x .answer) (refused (after s₀ l p) (at l p) h), skipped-is p h);
-    opens = λ p. (
-      λ o. let w = opening-run p o in (not-pre (after s₀ l p .phase) (w .0), phase-is p (changes p (λ q. not-pre (after s₀ l p .phase) (w .0) (sym q ∙ w .1))) ∙ w .1),
-      λ h. run-opens p (h .0) (by-cases (leb (at l p) 8) (λ t. sym (phase-is p (leb-true _ _ t)) ∙ h .1) (λ f. absurd (not-zero b (sym (refused-is p (leb-false _ _ f) .0) ∙ h .1)))),
-    );
-    ticks = λ m p o x h. let w = open-run m (suc p) o x in ticks-are p h ∙ ap (λ (t : Bool). cond t (after s₀ l (suc p) .attempt) 0) (w .0) ∙ w .1;
-    no-ticks = λ p n. by-cases (leb (at l p) 8)
-        (λ t. ticks-are p (leb-true _ _ t) ∙ by-cases (inAttempt (after s₀ l (suc p) .phase)) (λ a. let w = in-run (suc p) a in absurd (n (w .0) (w .1) (w .2))) (λ a. ap (λ (t : Bool). cond t (after s₀ l (suc p) .attempt) 0) a))
-        (λ f. refused-is p (leb-false _ _ f) .1);
-    ends = λ m n o h t. ⊎-elim (λ w. (w .0, w .1, inl (data-shows m (w .0) o (w .2)))) (λ w. (w .0, w .1, inr (exception-shows m (w .0) o (w .2)))) (ends-by k sd l m n h t);
-    in-data = λ m p o. (λ f. ⊎-elim (λ d. d) (λ x. apart (answerTo s₀ l p .phase) (f .shows) (exception-shows m p o x .shows)) (shows-ends m p 11 o refl refl f), data-shows m p o);
-    in-exception = λ m p o. (λ f. ⊎-elim (λ d. apart (answerTo s₀ l p .phase) (data-shows m p o d .shows) (f .shows)) (λ x. x) (shows-ends m p 13 o refl refl f), exception-shows m p o);
-  }
+  -- THE DEMAND, of ours
+
+  pub answered-run : (p : ℕ) → at l p ≤ 8 → (answerTo s₀ l p .answer ≡ 0) × (answerTo s₀ l p .phase ≡ after s₀ l (suc p) .phase)
+  answered-run p h = (ap (λ (x : Answer). x .answer) (answer-is p h), phase-is p h)
+
+  pub skipped-run : (p : ℕ) → 8 < at l p
+      → (answerTo s₀ l p .answer ≡ 2) × (answerTo s₀ l p .phase ≡ 0) × (answerTo s₀ l p .attempt ≡ 0) × (after s₀ l (suc p) ≡ after s₀ l p)
+  skipped-run p h =
+      (ap (λ (x : Answer). x .answer) (refused (after s₀ l p) (at l p) h), refused-is p h .0, refused-is p h .1, skipped-is p h)
+
+  pub opens-run : (p : ℕ) → OpensAt k l (suc p) ↔ Enters ours (opening b) s₀ l p
+  opens-run p = (
+    λ o. let w = opening-run p o in
+        (not-pre (after s₀ l p .phase) (w .0), phase-is p (changes p (λ q. not-pre (after s₀ l p .phase) (w .0) (sym q ∙ w .1))) ∙ w .1),
+    λ h. run-opens p (h .0)
+        (by-cases (leb (at l p) 8) (λ t. sym (phase-is p (leb-true _ _ t)) ∙ h .1)
+        (λ f. absurd (not-zero b (sym (refused-is p (leb-false _ _ f) .0) ∙ h .1)))),
+  )
     where
       not-zero : (b : Bool) → 0 ≡ opening b → ⊥
       not-zero true q = omega arith
       not-zero false q = omega arith
+
+  pub ends-run : (m n : ℕ) → OpensAt k l m → m ≤ n → attemptTicks ≤ count 0 l m n
+      → (p : ℕ) × (p < n) × (FirstShows ours Settling s₀ l m p ⊎ FirstShows ours Exception s₀ l m p)
+  ends-run m n o h t =
+      ⊎-elim (λ w. (w .0, w .1, inl (data-shows m (w .0) o (w .2)))) (λ w. (w .0, w .1, inr (exception-shows m (w .0) o (w .2))))
+      (ends-by k sd l m n h t)
+
+  pub in-data-run : (m p : ℕ) → OpensAt k l m → FirstShows ours Settling s₀ l m p ↔ EndsInData k l m p
+  in-data-run m p o = (
+    λ f. ⊎-elim (λ d. d) (λ x. apart (answerTo s₀ l p .phase) (f .shows) (exception-shows m p o x .shows)) (shows-ends m p 11 o refl refl f),
+    data-shows m p o,
+  )
+
+  pub in-exception-run : (m p : ℕ) → OpensAt k l m → FirstShows ours Exception s₀ l m p ↔ EndsInException k l m p
+  in-exception-run m p o = (
+    λ f. ⊎-elim (λ d. apart (answerTo s₀ l p .phase) (data-shows m p o d .shows) (f .shows)) (λ x. x) (shows-ends m p 13 o refl refl f),
+    exception-shows m p o,
+  )
 
 pub meant-range : (silence : ℕ) → Taken silence → (2000 ≤ meant silence) × (meant silence ≤ 60000)
 meant-range silence = ⊎-elim (λ z. rw z (omega arith)) (λ w. rw (ne-eqb silence 0 (λ q. omega (arith, w .0))) w)
@@ -274,18 +295,22 @@ started end silence h t =
     let r = meant-range silence t in
     simp (le-ltb 1 end h, le-ltb (meant silence) 2000 (r .0), le-ltb 60000 (meant silence) (r .1))
 
--- DEMAND 3
-pub demand3 : (end silence : ℕ) → end ≤ 1 → Taken silence → (l : List ℕ) → Demand3 ours end silence l
-demand3 end silence h t l =
-    ⊎-elim (λ q. subst (λ (e : ℕ). Demand3 ours e silence l) (sym q) ntu)
-    (λ z. let q : end ≡ 0 = omega arith in subst (λ (e : ℕ). Demand3 ours e silence l) (sym q) ltu)
-    (eq-or-lt-of-le h)
-  where
-    r : (2000 ≤ meant silence) × (meant silence ≤ 60000)
-    r = meant-range silence t
+-- and its answer is 0, with Ready and no ticks
+pub start-answers : (end silence : ℕ) → end ≤ 1 → Taken silence
+    → startOf end silence ≡ record { answer = 0; phase = Ready; attempt = 0; state = fresh end (meant silence) }
+start-answers end silence h t =
+    let r = meant-range silence t in
+    simp (le-ltb 1 end h, le-ltb (meant silence) 2000 (r .0), le-ltb 60000 (meant silence) (r .1))
 
-    ntu : Demand3 ours 1 silence l
-    ntu = subst (λ (s : Supervisor). Follows ours s (card 1 (meant silence)) 3 l) (sym (started 1 silence (omega arith) t)) (follows true (meant silence) (r .0) (r .1) l)
+-- LTU and NTU
+pub either-end : (P : ℕ → Type 0) → P 1 → P 0 → (end : ℕ) → end ≤ 1 → P end
+either-end P n l end h =
+    ⊎-elim (λ q. subst P (sym q) n) (λ z. let q : end ≡ 0 = omega arith in subst P (sym q) l) (eq-or-lt-of-le h)
 
-    ltu : Demand3 ours 0 silence l
-    ltu = subst (λ (s : Supervisor). Follows ours s (card 0 (meant silence)) 4 l) (sym (started 0 silence (omega arith) t)) (follows false (meant silence) (r .0) (r .1) l)
+-- each of the nine codes is answered 0, for either end and every silence that is taken
+pub answered-either : (end silence : ℕ) → end ≤ 1 → Taken silence → (l : List ℕ) (p : ℕ) → at l p ≤ 8 → answerTo (startOf end silence .state) l p .answer ≡ 0
+answered-either end silence h t l p c =
+    let r = meant-range silence t in
+    subst (λ (s : Supervisor). answerTo s l p .answer ≡ 0) (sym (started end silence h t))
+    (either-end (λ e. answerTo (fresh e (meant silence)) l p .answer ≡ 0)
+    (answered-run true (meant silence) (r .0) (r .1) l p c .0) (answered-run false (meant silence) (r .0) (r .1) l p c .0) end h)

@@ -25,7 +25,7 @@ opens-one r s p e false true = omega arith
 opens-one r s p e false false = omega arith
 
 pub one-opens : (p c : ℕ) (r r′ : Run) → r′ ≡ takenOf p c r → r′ .attempts ≤ r .attempts + 1
-one-opens p c r r′ e = rw e (opens-one r (stepOf (r .state) c .state) p (eventAt p c r) (eqb (eventAt p c r) 1) (ltb 1 (eventAt p c r) && not (eqb (r .how) 0)))
+one-opens p c r r′ e = rw e (opens-one r (stepOf (r .state) c .state) p (eventAt p c r) (eqb (eventAt p c r) 1) (ltb 1 (eventAt p c r) && not (eqb (r .outcome) 0)))
 
 -- one turn of the loop
 pub turn : (codes : List ℕ) (p : ℕ) (r r′ : Run) → p < length codes → r′ ≡ takenOf p (getD codes p 0) r → runFrom (p + 1) r′ (drop (p + 1) codes) ≡ runFrom p r (drop p codes)

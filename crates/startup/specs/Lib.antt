@@ -1,5 +1,6 @@
 pub mod Attempts
-pub mod Three
+pub mod Stands
 pub mod Run
 pub mod Scan
+pub mod Make
 pub mod Agrees

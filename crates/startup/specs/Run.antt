@@ -16,19 +16,19 @@ eventOf before after =
 
 -- the run goes on with the state s
 abbrev pub goesOn : Run → Supervisor → Run
-goesOn r s = record { answer = 0; state = s; attempts = r .attempts; opened = r .opened; how = r .how; ended = r .ended }
+goesOn r s = record { answer = 0; state = s; attempts = r .attempts; «opened_at» = r .«opened_at»; outcome = r .outcome; «ended_at» = r .«ended_at» }
 
 -- an attempt opens at the place p
 abbrev pub opens : Run → Supervisor → ℕ → Run
-opens r s p = record { answer = 0; state = s; attempts = r .attempts + 1; opened = p; how = 1; ended = 0 }
+opens r s p = record { answer = 0; state = s; attempts = r .attempts + 1; «opened_at» = p; outcome = 1; «ended_at» = 0 }
 
 -- the last attempt ends at the place p
 abbrev pub ends : Run → Supervisor → ℕ → ℕ → Run
-ends r s p how = record { answer = 0; state = s; attempts = r .attempts; opened = r .opened; how = how; ended = p }
+ends r s p outcome = record { answer = 0; state = s; attempts = r .attempts; «opened_at» = r .«opened_at»; outcome = outcome; «ended_at» = p }
 
--- an attempt that was open before the list began, when `how` is 0, is not one of it
+-- an attempt that was open before the list began, when `outcome` is 0, is not one of it
 abbrev pub noted : Run → Supervisor → ℕ → ℕ → Run
-noted r s p event = cond (eqb event 1) (opens r s p) (cond (ltb 1 event && not (eqb (r .how) 0)) (ends r s p event) (goesOn r s))
+noted r s p event = cond (eqb event 1) (opens r s p) (cond (ltb 1 event && not (eqb (r .outcome) 0)) (ends r s p event) (goesOn r s))
 
 -- one code more, at the place p; a refused code leaves the state
 abbrev pub takenOf : ℕ → ℕ → Run → Run
@@ -41,7 +41,7 @@ runFrom p r (c ∷ cs) = runFrom (suc p) (takenOf p c r) cs
 
 -- no code yet: no attempt has opened
 abbrev pub begun : ℕ → Supervisor → Run
-begun n s = record { answer = n; state = s; attempts = 0; opened = 0; how = 0; ended = 0 }
+begun n s = record { answer = n; state = s; attempts = 0; «opened_at» = 0; outcome = 0; «ended_at» = 0 }
 
 -- THE RUN: 0 for a legal state, and else what a step would answer, with nothing changed
 abbrev pub runOf : Supervisor → List ℕ → Run

@@ -1,21 +1,22 @@
--- The computed form of demand 3: a scan that gives a list's attempts by place. It keeps what is still lacking, and runs no step and knows no phase.
+-- The computed form of demand 3: a scan that gives a list's attempts by place. It keeps what is still lacking, and runs no step.
 use Prim.Native.Nat.{ℕ, suc, pred, _<_}
 use mathlib.Core.Path.{_≡_}
 use mathlib.Core.Bool.{Bool, true, false, cond, _&&_}
 use mathlib.Core.Logic.{_⊎_}
 use mathlib.Core.List.{List, [], _∷_}
 use lib.Dec.{eqb, ltb}
-use Rattle.startup.specs.Attempts.{Need, need, Card, StillOpen, EndsInData, EndsInException, OpensAt}
+use Rattle.supervisor.specs.Limits.{attemptTicks}
+use Rattle.startup.specs.Attempts.{Need, need, Needs, StillOpen, EndsInData, EndsInException, OpensAt}
 
 -- an attempt: the place of the code that opened it, how it ended (1 still open, 2 data mode, 3 exception), and the place of the code that ended it, else 0
 pub record Attempt : Type 0 where
-  pub opened : ℕ
-  pub how : ℕ
-  pub ended : ℕ
+  pub openedAt : ℕ
+  pub outcome : ℕ
+  pub endedAt : ℕ
 
 -- such an attempt
 abbrev pub attempt : ℕ → ℕ → ℕ → Attempt
-attempt o h e = record { opened = o; how = h; ended = e }
+attempt o h e = record { openedAt = o; outcome = h; endedAt = e }
 
 -- the reports but c
 abbrev pub without : ℕ → List ℕ → List ℕ
@@ -24,7 +25,7 @@ without c (x ∷ xs) = cond (eqb c x) (without c xs) (x ∷ without c xs)
 
 -- what is still lacking after the code c
 abbrev pub less : ℕ → Need → Need
-less c d = need (cond (eqb c 0) (pred (d .ticks)) (d .ticks)) (without c (d .reports))
+less c d = need (d .phase) (cond (eqb c 0) (pred (d .ticks)) (d .ticks)) (without c (d .reports))
 
 -- whether a list has no report
 abbrev pub empty : List ℕ → Bool
@@ -35,7 +36,8 @@ empty (x ∷ xs) = false
 abbrev pub nothing : Need → Bool
 nothing d = eqb (d .ticks) 0 && empty (d .reports)
 
--- where a card stands: ready; told by a 1, with what its opening lacks; in an attempt, with what the present need lacks, the needs to come and the ticks left to the 15,000th; in data mode; silent, with what its silence lacks
+-- where a card stands: ready; told by a 1, with what its opening lacks; in an attempt, with what the present need lacks, the needs to come
+-- and the ticks left to the 15,000th; in data mode; silent, with what its silence lacks
 pub data Stand : Type 0 where
   ready : Stand
   told : Need → Stand
@@ -49,9 +51,11 @@ onward [] left = settled
 onward (d ∷ ds) left = trying d ds left
 
 -- the code c comes
-abbrev pub scanned : Card → ℕ → Stand → Stand
+abbrev pub scanned : Needs → ℕ → Stand → Stand
 scanned k c ready = cond (eqb c 8) (silent (k .silence)) (cond (eqb c 1) (told (k .before)) ready)
-scanned k c (told d) = cond (eqb c 8) (silent (k .silence)) (cond (nothing (less c d)) (trying (k .first) (k .others) 15000) (told (less c d)))
+scanned k c (told d) =
+    cond (eqb c 8) (silent (k .silence))
+    (cond (nothing (less c d)) (trying (k .first) (k .others) attemptTicks) (told (less c d)))
 scanned k c (trying d ds left) =
     cond (eqb c 8) (silent (k .silence))
     (cond (eqb c 0 && eqb (pred left) 0) (silent (k .silence))
@@ -76,38 +80,38 @@ event settled w = 0
 event (silent d) w = 0
 
 -- the last attempt ends so at the place p
-abbrev pub ended : ℕ → ℕ → List Attempt → List Attempt
-ended p e [] = []
-ended p e (a ∷ log) = attempt (a .opened) e p ∷ log
+abbrev pub closed : ℕ → ℕ → List Attempt → List Attempt
+closed p e [] = []
+closed p e (a ∷ log) = attempt (a .openedAt) e p ∷ log
 
 -- the attempts so far, the last first, after an event at the place p
 abbrev pub logged : ℕ → ℕ → List Attempt → List Attempt
-logged p e log = cond (eqb e 1) (attempt p 1 0 ∷ log) (cond (ltb 1 e) (ended p e log) log)
+logged p e log = cond (eqb e 1) (attempt p 1 0 ∷ log) (cond (ltb 1 e) (closed p e log) log)
 
 -- and after each code from the place p on
-abbrev pub scan : Card → ℕ → Stand → List Attempt → List ℕ → List Attempt
+abbrev pub scan : Needs → ℕ → Stand → List Attempt → List ℕ → List Attempt
 scan k p w log [] = log
 scan k p w log (c ∷ cs) = scan k (suc p) (scanned k c w) (logged p (event w (scanned k c w)) log) cs
 
 -- THE ATTEMPTS OF A LIST, the last first
-abbrev pub attempts : Card → List ℕ → List Attempt
+abbrev pub attempts : Needs → List ℕ → List Attempt
 attempts k l = scan k 0 ready [] l
 
 -- what the list says became of an attempt by the moment n
-abbrev pub Fate : Card → List ℕ → ℕ → Attempt → Type 0
+abbrev pub Fate : Needs → List ℕ → ℕ → Attempt → Type 0
 Fate k l n a =
-    ((a .how ≡ 1) × (a .ended ≡ 0) × StillOpen k l (suc (a .opened)) n)
-    ⊎ (((a .how ≡ 2) × (a .ended < n) × EndsInData k l (suc (a .opened)) (a .ended))
-    ⊎ ((a .how ≡ 3) × (a .ended < n) × EndsInException k l (suc (a .opened)) (a .ended)))
+    ((a .outcome ≡ 1) × (a .endedAt ≡ 0) × StillOpen k l (suc (a .openedAt)) n)
+    ⊎ (((a .outcome ≡ 2) × (a .endedAt < n) × EndsInData k l (suc (a .openedAt)) (a .endedAt))
+    ⊎ ((a .outcome ≡ 3) × (a .endedAt < n) × EndsInException k l (suc (a .openedAt)) (a .endedAt)))
 
 -- a is the last attempt that the list opens before the moment n
-pub record Last (k : Card) (l : List ℕ) (n : ℕ) (a : Attempt) : Type 0 where
-  pub before : a .opened < n
-  pub opens : OpensAt k l (suc (a .opened))
-  pub last : (p : ℕ) → a .opened < p → p < n → OpensAt k l (suc p) → ⊥
+pub record Last (k : Needs) (l : List ℕ) (n : ℕ) (a : Attempt) : Type 0 where
+  pub before : a .openedAt < n
+  pub opens : OpensAt k l (suc (a .openedAt))
+  pub last : (p : ℕ) → a .openedAt < p → p < n → OpensAt k l (suc p) → ⊥
   pub fate : Fate k l n a
 
 -- these are all the attempts that the list opens before the moment n, the last first
-abbrev pub Listed : Card → List ℕ → ℕ → List Attempt → Type 0
+abbrev pub Listed : Needs → List ℕ → ℕ → List Attempt → Type 0
 Listed k l n [] = (p : ℕ) → p < n → OpensAt k l (suc p) → ⊥
-Listed k l n (a ∷ log) = Last k l n a × Listed k l (a .opened) log
+Listed k l n (a ∷ log) = Last k l n a × Listed k l (a .openedAt) log

@@ -1,4 +1,4 @@
-// The run over a list of codes: a step of the supervisor (phases) for each, and what became of the attempts that opened in it.
+// The run over a list of codes: a step of the supervisor for each, and what became of the attempts that opened in it.
 ghost use mathlib.Core.Path.{_≡_};
 ghost use Prim.Native.Nat.{_-_, _^_, _<_};
 ghost use Rattle.startup.specs.Run.{eventOf, noted, takenOf, runOf};
@@ -14,11 +14,11 @@ pub struct Run {
     // How many attempts opened in the list.
     pub attempts: usize,
     // The place of the code that opened the last one, else 0.
-    pub opened: usize,
+    pub opened_at: usize,
     // What became of it: NONE where none opened, OPEN, DATA or EXCEPTION.
-    pub how: u32,
+    pub outcome: u32,
     // The place of the code that ended it, else 0.
-    pub ended: usize,
+    pub ended_at: usize,
 }
 
 impl Run {
@@ -40,9 +40,9 @@ impl Run {
             answer: refusal,
             state,
             attempts: 0,
-            opened: 0,
-            how: Self::NONE,
-            ended: 0,
+            opened_at: 0,
+            outcome: Self::NONE,
+            ended_at: 0,
         };
         if refusal != answer::DONE {
             return run;
@@ -76,20 +76,20 @@ impl Run {
                 answer: answer::DONE,
                 state,
                 attempts: self.attempts + 1,
-                opened: place,
-                how: Self::OPEN,
-                ended: 0,
+                opened_at: place,
+                outcome: Self::OPEN,
+                ended_at: 0,
             };
         }
         if Self::OPEN < event {
-            if self.how != Self::NONE {
+            if self.outcome != Self::NONE {
                 return Run {
                     answer: answer::DONE,
                     state,
                     attempts: self.attempts,
-                    opened: self.opened,
-                    how: event,
-                    ended: place,
+                    opened_at: self.opened_at,
+                    outcome: event,
+                    ended_at: place,
                 };
             }
         }
@@ -97,9 +97,9 @@ impl Run {
             answer: answer::DONE,
             state,
             attempts: self.attempts,
-            opened: self.opened,
-            how: self.how,
-            ended: self.ended,
+            opened_at: self.opened_at,
+            outcome: self.outcome,
+            ended_at: self.ended_at,
         }
     }
 }

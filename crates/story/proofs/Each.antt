@@ -14,8 +14,8 @@ use Rattle.supervisor.specs.Step.{fresh}
 use Rattle.supervisor.specs.Step.{startOf as supervisorStart}
 use Rattle.supervisor.proofs.Laws.{clash}
 use Rattle.startup.specs.Run.{eventOf as attemptEvent}
-use Rattle.startup.specs.Attempts.{at, one, count, Card, card, meant, StillOpen, EndsInData, EndsInException, OpensAt}
-use Rattle.startup.specs.Three.{Taken, after}
+use Rattle.startup.specs.Attempts.{at, one, count, Needs, needsOf, meant, StillOpen, EndsInData, EndsInException, OpensAt}
+use Rattle.startup.specs.Make.{Taken, after}
 use Rattle.startup.proofs.Counts.{count-step}
 use Rattle.startup.proofs.Unique.{Sound}
 use Rattle.startup.proofs.Simulates.{kOf, sound, pre}
@@ -26,7 +26,7 @@ use Rattle.story.specs.Events.{kindWith, sinceOpening}
 -- ---- an event by its number
 
 -- startup's event, by its three tests
-abbrev eventBy : Bool → Bool → Bool → ℕ
+abbrev pub eventBy : Bool → Bool → Bool → ℕ
 eventBy a c d = cond a (cond c 0 (cond d 2 3)) (cond c 1 0)
 
 opening-event : (a c d : Bool) → eventBy a c d ≡ 1 → (a ≡ false) × (c ≡ true)
@@ -69,14 +69,16 @@ kind-to e v s t c lo q = simp (ne-eqb e 0 (λ z. omega arith)) q
 -- ---- the code at a place
 
 -- what startup's event of it says, and the ticks that are told
-pub record Turn (s : Supervisor) (k : Card) (l : List ℕ) (p : ℕ) : Type 0 where
+pub record Turn (s : Supervisor) (k : Needs) (l : List ℕ) (p : ℕ) : Type 0 where
   pub opens : (attemptEvent (after s l p .phase) (after s l (suc p) .phase) ≡ 1) ↔ OpensAt k l (suc p)
   pub in-data : (attemptEvent (after s l p .phase) (after s l (suc p) .phase) ≡ 2) ↔ ((m : ℕ) × OpensAt k l m × EndsInData k l m p)
   pub in-exception : (attemptEvent (after s l p .phase) (after s l (suc p) .phase) ≡ 3) ↔ ((m : ℕ) × OpensAt k l m × EndsInException k l m p)
   pub ticks : (m : ℕ) → OpensAt k l m → StillOpen k l m p → sinceOpening (after s l p) (at l p) ≡ count 0 l m (suc p)
+  -- those of an attempt that it ends in data mode too
+  pub data-ticks : (m : ℕ) → OpensAt k l m → EndsInData k l m p → sinceOpening (after s l p) (at l p) ≡ count 0 l m (suc p)
 
 module _ (b : Bool) (sil : ℕ) (lo : 2000 ≤ sil) (hi : sil ≤ 60000) (l : List ℕ) (p : ℕ) where
-  abbrev k : Card
+  abbrev k : Needs
   k = kOf b sil
 
   sd : Sound k
@@ -145,15 +147,16 @@ module _ (b : Bool) (sil : ℕ) (lo : 2000 ≤ sil) (hi : sil ≤ 60000) (l : Li
     in-data = (data-there, λ w. event-data (w .0) (w .1) (w .2));
     in-exception = (exception-there, λ w. event-exception (w .0) (w .1) (w .2));
     ticks = ticks-there;
+    data-ticks = λ m o d. ticks-there m o (data-open k sd l m p d);
   }
 
 -- from a start of either end
-pub turn-either : (end silence : ℕ) → end ≤ 1 → Taken silence → (l : List ℕ) (p : ℕ) → Turn (supervisorStart end silence .state) (card end (meant silence)) l p
+pub turn-either : (end silence : ℕ) → end ≤ 1 → Taken silence → (l : List ℕ) (p : ℕ) → Turn (supervisorStart end silence .state) (needsOf end (meant silence)) l p
 turn-either end silence known t l p =
     let r = meant-range silence t in
     ⊎-elim
-    (λ q. subst (λ (e : ℕ). Turn (supervisorStart e silence .state) (card e (meant silence)) l p) (sym q)
-    (subst (λ (s : Supervisor). Turn s (card 1 (meant silence)) l p) (sym (started 1 silence (omega arith) t)) (turn true (meant silence) (r .0) (r .1) l p)))
-    (λ z. let q : end ≡ 0 = omega arith in subst (λ (e : ℕ). Turn (supervisorStart e silence .state) (card e (meant silence)) l p) (sym q)
-    (subst (λ (s : Supervisor). Turn s (card 0 (meant silence)) l p) (sym (started 0 silence (omega arith) t)) (turn false (meant silence) (r .0) (r .1) l p)))
+    (λ q. subst (λ (e : ℕ). Turn (supervisorStart e silence .state) (needsOf e (meant silence)) l p) (sym q)
+    (subst (λ (s : Supervisor). Turn s (needsOf 1 (meant silence)) l p) (sym (started 1 silence (omega arith) t)) (turn true (meant silence) (r .0) (r .1) l p)))
+    (λ z. let q : end ≡ 0 = omega arith in subst (λ (e : ℕ). Turn (supervisorStart e silence .state) (needsOf e (meant silence)) l p) (sym q)
+    (subst (λ (s : Supervisor). Turn s (needsOf 0 (meant silence)) l p) (sym (started 0 silence (omega arith) t)) (turn false (meant silence) (r .0) (r .1) l p)))
     (eq-or-lt-of-le known)

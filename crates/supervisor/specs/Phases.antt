@@ -3,6 +3,7 @@ use Prim.Native.Nat.{ℕ}
 use mathlib.Core.Bool.{Bool, false, cond, not, _&&_, _||_}
 use mathlib.Core.List.{List, [], _∷_}
 use lib.Dec.{leb, eqb}
+use Rattle.supervisor.specs.Limits.{gapTicks, crTicks, ntuQuietTicks, ltuQuietTicks, scTicks, settlingTicks}
 
 -- THE PHASES BY NUMBER, in the order of a start-up
 
@@ -73,31 +74,33 @@ pub record Row : Type 0 where
 abbrev pub row : ℕ → ℕ → List ℕ → ℕ → Row
 row p t rs q = record { phase = p; lasts = t; awaits = rs; starts = q }
 
--- "NTU: Ready; 1 starts Gap, 300 ticks; C_r, 1,000; Quiet, 1,500; S_r until both 4 and 5 have come, in either order, during S_r; T_r until 7; Settling, 1,000 ticks; Valid." Nothing but an 8 ends Valid. "After the silence the phase is Ready."
+-- "NTU: Ready; 1 starts Gap, 300 ticks; C_r, 1,000; Quiet, 1,500; S_r until both 4 and 5 have come, in either order, during S_r;
+-- T_r until 7; Settling, 1,000 ticks; Valid." Nothing but an 8 ends Valid. "After the silence the phase is Ready."
 abbrev pub ntu : ℕ → List Row
 ntu silence =
     row Ready 0 (1 ∷ []) Gap
-    ∷ row Gap 300 [] Cr
-    ∷ row Cr 1000 [] Quiet
-    ∷ row Quiet 1500 [] Sr
+    ∷ row Gap gapTicks [] Cr
+    ∷ row Cr crTicks [] Quiet
+    ∷ row Quiet ntuQuietTicks [] Sr
     ∷ row Sr 0 (4 ∷ 5 ∷ []) Tr
     ∷ row Tr 0 (7 ∷ []) Settling
-    ∷ row Settling 1000 [] Valid
+    ∷ row Settling settlingTicks [] Valid
     ∷ row Valid 0 [] Valid
     ∷ row Exception silence [] Ready
     ∷ []
 
--- "LTU: Ready; 1 starts Await; 2 starts Hearing; 3 starts Quiet, 500 ticks; S_c until it has lasted 5,000 ticks and 4 has come during it; T_c until 6; F_c until 7; Settling, 1,000; Valid."
+-- "LTU: Ready; 1 starts Await; 2 starts Hearing; 3 starts Quiet, 500 ticks; S_c until it has lasted 5,000 ticks and 4 has come during it;
+-- T_c until 6; F_c until 7; Settling, 1,000; Valid."
 abbrev pub ltu : ℕ → List Row
 ltu silence =
     row Ready 0 (1 ∷ []) Await
     ∷ row Await 0 (2 ∷ []) Hearing
     ∷ row Hearing 0 (3 ∷ []) Quiet
-    ∷ row Quiet 500 [] Sc
-    ∷ row Sc 5000 (4 ∷ []) Tc
+    ∷ row Quiet ltuQuietTicks [] Sc
+    ∷ row Sc scTicks (4 ∷ []) Tc
     ∷ row Tc 0 (6 ∷ []) Fc
     ∷ row Fc 0 (7 ∷ []) Settling
-    ∷ row Settling 1000 [] Valid
+    ∷ row Settling settlingTicks [] Valid
     ∷ row Valid 0 [] Valid
     ∷ row Exception silence [] Ready
     ∷ []

@@ -6,13 +6,15 @@ use lib.Dec.{leb, ltb, eqb}
 use Rattle.answer.specs.Answer.{Refusal, refuse, answer, held}
 use Rattle.supervisor.specs.declared.Supervisor.{Supervisor}
 use Rattle.supervisor.specs.declared.Answer.{Answer}
+use Rattle.supervisor.specs.Limits.{attemptTicks, mostAttempt, mostTicks, defaultSilence, shortestSilence, longestSilence}
 use Rattle.supervisor.specs.Phases.{Ready, Exception, Row, phasesOf, isOf, rowOf, inAttempt, counts}
 
 -- a state in which the end and the silence stay
 abbrev pub changed : Supervisor → ℕ → ℕ → ℕ → ℕ → ℕ → Supervisor
 changed s p t a c e = record { end = s .end; phase = p; ticks = t; attempt = a; silence = s .silence; converged = c; seen = e }
 
--- "Phase ticks start at 0 on entering a phase. On a change of phase every number or mark the new phase doesn't use becomes 0 or unheard, save the silence": the marks begin unheard, and the attempt's ticks are a
+-- "Phase ticks start at 0 on entering a phase." "On a change of phase every number or mark the new phase doesn't use becomes 0 or unheard,
+-- save the silence, which every phase keeps": the marks begin unheard, and the attempt's ticks are a
 abbrev pub entered : Supervisor → ℕ → ℕ → Supervisor
 entered s p a = changed s p 0 a 0 0
 
@@ -22,13 +24,13 @@ carried r a = cond (inAttempt (r .phase) && inAttempt (r .starts)) a 0
 
 -- "they stay at 59,999 once there if the phase goes on"
 abbrev pub oneMore : ℕ → ℕ
-oneMore t = cond (ltb t 59999) (t + 1) 59999
+oneMore t = cond (ltb t mostTicks) (t + 1) mostTicks
 
 -- the phase goes on after a tick: without a change of phase unused numbers stay as handed in
 abbrev pub counted : Supervisor → ℕ → Supervisor
 counted s a = changed s (s .phase) (oneMore (s .ticks)) a (s .converged) (s .seen)
 
--- "any non-zero is heard"
+-- a mark is heard where it is not 0
 abbrev pub heard : ℕ → Bool
 heard mark = not (eqb mark 0)
 
@@ -47,7 +49,7 @@ over r s t c = come s c (r .awaits) && leb (r .lasts) t
 
 -- "If the 15,000th tick since opening comes first, the state is Exception, even where the same tick would have ended a phase."
 abbrev pub latest : Row → Supervisor → Bool
-latest r s = inAttempt (r .phase) && leb 15000 (s .attempt + 1)
+latest r s = inAttempt (r .phase) && leb attemptTicks (s .attempt + 1)
 
 -- code 0, one millisecond: the 15,000th tick first, then the phase's limit, then the hold at 59,999
 abbrev pub onTick : Row → Supervisor → Supervisor
@@ -89,22 +91,24 @@ here s = rowOf (s .phase) (phasesOf (s .end) (s .silence))
 abbrev pub moved : Supervisor → ℕ → Supervisor
 moved s c = acted (here s) s c
 
--- An unknown end is 2. "A state is refused with 4 exactly when its phase isn't one of its end, its attempt ticks exceed 14,999, its phase ticks exceed 59,999, or its silence lies outside 2,000 to 60,000."
+-- An unknown end is 2. "A state is refused with 4 exactly when its phase isn't one of its end, its attempt ticks exceed 14,999,
+-- its phase ticks exceed 59,999, or its silence lies outside 2,000 to 60,000."
 abbrev pub stateRefusals : Supervisor → List Refusal
 stateRefusals s =
     refuse 2 (ltb 1 (s .end))
     ∷ refuse 4 (not (isOf (s .phase) (phasesOf (s .end) (s .silence))))
-    ∷ refuse 4 (ltb 14999 (s .attempt))
-    ∷ refuse 4 (ltb 59999 (s .ticks))
-    ∷ refuse 4 (ltb (s .silence) 2000)
-    ∷ refuse 4 (ltb 60000 (s .silence))
+    ∷ refuse 4 (ltb mostAttempt (s .attempt))
+    ∷ refuse 4 (ltb mostTicks (s .ticks))
+    ∷ refuse 4 (ltb (s .silence) shortestSilence)
+    ∷ refuse 4 (ltb longestSilence (s .silence))
     ∷ []
 
 -- an unknown report code is 2
 abbrev pub stepRefusals : Supervisor → ℕ → List Refusal
 stepRefusals s c = refuse 2 (ltb 8 c) ∷ stateRefusals s
 
--- "Each answer gives the phase and, in an attempt, the ticks since its opening (else 0)." With n other than 0 the state is the one handed in and the other numbers are 0.
+-- "Each answer gives the phase and, in an attempt, the ticks since its opening (else 0)." With n other than 0 the state is the one
+-- handed in and the other numbers are 0.
 abbrev pub answered : ℕ → Supervisor → Supervisor → Answer
 answered n old new = record {
   answer = n;
@@ -123,12 +127,15 @@ none = record { end = 0; phase = 0; ticks = 0; attempt = 0; silence = 0; converg
 
 -- "0 stands for the default, 2,000 ticks"
 abbrev pub silenceOf : ℕ → ℕ
-silenceOf silence = cond (eqb silence 0) 2000 silence
+silenceOf silence = cond (eqb silence 0) defaultSilence silence
 
 -- what a start refuses: an unknown end, then a silence out of its range
 abbrev pub startRefusals : ℕ → ℕ → List Refusal
 startRefusals end silence =
-    refuse 2 (ltb 1 end) ∷ refuse 4 (ltb (silenceOf silence) 2000) ∷ refuse 4 (ltb 60000 (silenceOf silence)) ∷ []
+    refuse 2 (ltb 1 end)
+    ∷ refuse 4 (ltb (silenceOf silence) shortestSilence)
+    ∷ refuse 4 (ltb longestSilence (silenceOf silence))
+    ∷ []
 
 -- a card that is ready
 abbrev pub fresh : ℕ → ℕ → Supervisor

@@ -3,6 +3,7 @@ ghost use mathlib.Core.Path.{_≡_};
 ghost use mathlib.Core.Bool.{_||_};
 ghost use lib.Dec.{ltb};
 ghost use Rattle.answer.specs.Answer.{answer};
+ghost use Rattle.supervisor.specs.Limits.{mostAttempt, mostTicks, shortestSilence, longestSilence};
 ghost use Rattle.supervisor.specs.Phases.{phasesOf, isOf, inAttempt};
 ghost use Rattle.supervisor.specs.Step.{stateRefusals, answered, stepOf, fresh, silenceOf, startOf};
 
@@ -135,7 +136,7 @@ impl Supervisor {
 
     // Whether a number is outside its range.
     fn outside(attempt: u32, ticks: u32, silence: u32) -> bool
-        ensures { λ r. ⌜ r ≡ (ltb 14999 attempt || (ltb 59999 ticks || (ltb silence 2000 || ltb 60000 silence))) ⌝ }
+        ensures { λ r. ⌜ r ≡ (ltb mostAttempt attempt || (ltb mostTicks ticks || (ltb silence shortestSilence || ltb longestSilence silence))) ⌝ }
     {
         (Self::ATTEMPT <= attempt)
             | (Self::MOST_TICKS < ticks)

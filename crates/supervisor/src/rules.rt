@@ -4,6 +4,7 @@ ghost use mathlib.Core.Bool.{cond, _&&_};
 ghost use Prim.Native.Nat.{_+_, _≤_};
 ghost use lib.Dec.{leb, eqb};
 ghost use Rattle.answer.specs.Answer.{answer};
+ghost use Rattle.supervisor.specs.Limits.{attemptTicks, mostAttempt, mostTicks};
 ghost use Rattle.supervisor.specs.Phases.{Ready, Gap, Await, Cr, Hearing, Quiet, Sc, Sr, Tc, Tr, Fc, Settling, Exception, ntu, ltu, rowOf};
 ghost use Rattle.supervisor.specs.Step.{changed, entered, counted, acted, moved, stateRefusals};
 use crate::Supervisor;
@@ -85,7 +86,7 @@ impl Supervisor {
 
     // A tick in a phase outside an attempt: the limit is tested first, the hold second.
     fn waited(self, limit: u32, next: u32) -> Supervisor
-        requires { ⌜ self .ticks ≤ 59999 ⌝ }
+        requires { ⌜ self .ticks ≤ mostTicks ⌝ }
         ensures { λ r. ⌜ r ≡ cond (leb limit (self .ticks + 1)) (entered self next 0) (counted self (self .attempt)) ⌝ }
     {
         if limit <= self.ticks + 1 {
@@ -97,8 +98,9 @@ impl Supervisor {
 
     // A tick in an attempt: the 15,000th ends it, even where it would have ended the phase. The phase is over where its reports are heard and it has lasted.
     fn tried(self, heard: bool, lasts: u32, next: u32) -> Supervisor
-        requires { ⌜ (self .ticks ≤ 59999) × (self .attempt ≤ 14999) ⌝ }
-        ensures { λ r. ⌜ r ≡ cond (leb 15000 (self .attempt + 1)) (entered self Exception 0) (cond (heard && leb lasts (self .ticks + 1)) (entered self next (self .attempt + 1)) (counted self (self .attempt + 1))) ⌝ }
+        requires { ⌜ (self .ticks ≤ mostTicks) × (self .attempt ≤ mostAttempt) ⌝ }
+        ensures { λ r. ⌜ r ≡ cond (leb attemptTicks (self .attempt + 1)) (entered self Exception 0)
+            (cond (heard && leb lasts (self .ticks + 1)) (entered self next (self .attempt + 1)) (counted self (self .attempt + 1))) ⌝ }
     {
         let attempt = self.attempt + 1;
         if Self::ATTEMPT <= attempt {
@@ -124,7 +126,8 @@ impl Supervisor {
 
     // Code 8 starts Exception. There it starts the silence again: that is no change of phase, so the rest stays as handed in.
     fn abnormal(self) -> Supervisor
-        ensures { λ r. ⌜ r ≡ cond (eqb (self .phase) Exception) (changed self (self .phase) 0 (self .attempt) (self .converged) (self .seen)) (entered self Exception 0) ⌝ }
+        ensures { λ r. ⌜ r ≡ cond (eqb (self .phase) Exception)
+            (changed self (self .phase) 0 (self .attempt) (self .converged) (self .seen)) (entered self Exception 0) ⌝ }
     {
         if self.phase == phase::EXCEPTION {
             self.changed(self.phase, 0, self.attempt, self.converged, self.seen)
@@ -136,7 +139,8 @@ impl Supervisor {
     // Ready until 1, which starts Gap at the NTU and Await at the LTU.
     fn in_ready(self, code: u32) -> Supervisor
         requires { ⌜ (code ≡ 8 → ⊥) ⌝ }
-        ensures { λ r. ⌜ r ≡ cond (eqb (self .end) 1) (acted (rowOf Ready (ntu (self .silence))) self code) (acted (rowOf Ready (ltu (self .silence))) self code) ⌝ }
+        ensures { λ r. ⌜ r ≡ cond (eqb (self .end) 1)
+            (acted (rowOf Ready (ntu (self .silence))) self code) (acted (rowOf Ready (ltu (self .silence))) self code) ⌝ }
     {
         match code {
             code::PRE_ACTIVATED => if self.end == Self::NTU {
@@ -150,7 +154,7 @@ impl Supervisor {
 
     // NTU: Gap, 300 ticks.
     fn in_gap(self, code: u32) -> Supervisor
-        requires { ⌜ (code ≡ 8 → ⊥) × (self .ticks ≤ 59999) ⌝ }
+        requires { ⌜ (code ≡ 8 → ⊥) × (self .ticks ≤ mostTicks) ⌝ }
         ensures { λ r. ⌜ r ≡ acted (rowOf Gap (ntu (self .silence))) self code ⌝ }
     {
         match code {
@@ -172,7 +176,7 @@ impl Supervisor {
 
     // NTU: C_r, 1,000 ticks.
     fn in_cr(self, code: u32) -> Supervisor
-        requires { ⌜ (code ≡ 8 → ⊥) × (self .ticks ≤ 59999) × (self .attempt ≤ 14999) ⌝ }
+        requires { ⌜ (code ≡ 8 → ⊥) × (self .ticks ≤ mostTicks) × (self .attempt ≤ mostAttempt) ⌝ }
         ensures { λ r. ⌜ r ≡ acted (rowOf Cr (ntu (self .silence))) self code ⌝ }
     {
         match code {
@@ -183,7 +187,7 @@ impl Supervisor {
 
     // LTU: Hearing until 3.
     fn in_hearing(self, code: u32) -> Supervisor
-        requires { ⌜ (code ≡ 8 → ⊥) × (self .ticks ≤ 59999) × (self .attempt ≤ 14999) ⌝ }
+        requires { ⌜ (code ≡ 8 → ⊥) × (self .ticks ≤ mostTicks) × (self .attempt ≤ mostAttempt) ⌝ }
         ensures { λ r. ⌜ r ≡ acted (rowOf Hearing (ltu (self .silence))) self code ⌝ }
     {
         match code {
@@ -195,8 +199,9 @@ impl Supervisor {
 
     // Quiet, 1,500 ticks at the NTU and 500 at the LTU.
     fn in_quiet(self, code: u32) -> Supervisor
-        requires { ⌜ (code ≡ 8 → ⊥) × (self .ticks ≤ 59999) × (self .attempt ≤ 14999) ⌝ }
-        ensures { λ r. ⌜ r ≡ cond (eqb (self .end) 1) (acted (rowOf Quiet (ntu (self .silence))) self code) (acted (rowOf Quiet (ltu (self .silence))) self code) ⌝ }
+        requires { ⌜ (code ≡ 8 → ⊥) × (self .ticks ≤ mostTicks) × (self .attempt ≤ mostAttempt) ⌝ }
+        ensures { λ r. ⌜ r ≡ cond (eqb (self .end) 1)
+            (acted (rowOf Quiet (ntu (self .silence))) self code) (acted (rowOf Quiet (ltu (self .silence))) self code) ⌝ }
     {
         match code {
             code::TICK => if self.end == Self::NTU {
@@ -210,7 +215,7 @@ impl Supervisor {
 
     // NTU: S_r until both 4 and 5 have come, in either order, during S_r.
     fn in_sr(self, code: u32) -> Supervisor
-        requires { ⌜ (code ≡ 8 → ⊥) × (self .ticks ≤ 59999) × (self .attempt ≤ 14999) ⌝ }
+        requires { ⌜ (code ≡ 8 → ⊥) × (self .ticks ≤ mostTicks) × (self .attempt ≤ mostAttempt) ⌝ }
         ensures { λ r. ⌜ r ≡ acted (rowOf Sr (ntu (self .silence))) self code ⌝ }
     {
         match code {
@@ -223,7 +228,7 @@ impl Supervisor {
 
     // LTU: S_c until it has lasted 5,000 ticks and 4 has come during it.
     fn in_sc(self, code: u32) -> Supervisor
-        requires { ⌜ (code ≡ 8 → ⊥) × (self .ticks ≤ 59999) × (self .attempt ≤ 14999) ⌝ }
+        requires { ⌜ (code ≡ 8 → ⊥) × (self .ticks ≤ mostTicks) × (self .attempt ≤ mostAttempt) ⌝ }
         ensures { λ r. ⌜ r ≡ acted (rowOf Sc (ltu (self .silence))) self code ⌝ }
     {
         match code {
@@ -235,7 +240,7 @@ impl Supervisor {
 
     // NTU: T_r until 7. The attempt ends in data mode.
     fn in_tr(self, code: u32) -> Supervisor
-        requires { ⌜ (code ≡ 8 → ⊥) × (self .ticks ≤ 59999) × (self .attempt ≤ 14999) ⌝ }
+        requires { ⌜ (code ≡ 8 → ⊥) × (self .ticks ≤ mostTicks) × (self .attempt ≤ mostAttempt) ⌝ }
         ensures { λ r. ⌜ r ≡ acted (rowOf Tr (ntu (self .silence))) self code ⌝ }
     {
         match code {
@@ -247,7 +252,7 @@ impl Supervisor {
 
     // LTU: T_c until 6.
     fn in_tc(self, code: u32) -> Supervisor
-        requires { ⌜ (code ≡ 8 → ⊥) × (self .ticks ≤ 59999) × (self .attempt ≤ 14999) ⌝ }
+        requires { ⌜ (code ≡ 8 → ⊥) × (self .ticks ≤ mostTicks) × (self .attempt ≤ mostAttempt) ⌝ }
         ensures { λ r. ⌜ r ≡ acted (rowOf Tc (ltu (self .silence))) self code ⌝ }
     {
         match code {
@@ -259,7 +264,7 @@ impl Supervisor {
 
     // LTU: F_c until 7. The attempt ends in data mode.
     fn in_fc(self, code: u32) -> Supervisor
-        requires { ⌜ (code ≡ 8 → ⊥) × (self .ticks ≤ 59999) × (self .attempt ≤ 14999) ⌝ }
+        requires { ⌜ (code ≡ 8 → ⊥) × (self .ticks ≤ mostTicks) × (self .attempt ≤ mostAttempt) ⌝ }
         ensures { λ r. ⌜ r ≡ acted (rowOf Fc (ltu (self .silence))) self code ⌝ }
     {
         match code {
@@ -271,7 +276,7 @@ impl Supervisor {
 
     // Settling, 1,000 ticks.
     fn in_settling(self, code: u32) -> Supervisor
-        requires { ⌜ (code ≡ 8 → ⊥) × (self .ticks ≤ 59999) ⌝ }
+        requires { ⌜ (code ≡ 8 → ⊥) × (self .ticks ≤ mostTicks) ⌝ }
         ensures { λ r. ⌜ r ≡ acted (rowOf Settling (ntu (self .silence))) self code ⌝ }
     {
         match code {
@@ -282,7 +287,7 @@ impl Supervisor {
 
     // Exception for the silence.
     fn in_exception(self, code: u32) -> Supervisor
-        requires { ⌜ (code ≡ 8 → ⊥) × (self .ticks ≤ 59999) ⌝ }
+        requires { ⌜ (code ≡ 8 → ⊥) × (self .ticks ≤ mostTicks) ⌝ }
         ensures { λ r. ⌜ r ≡ acted (rowOf Exception (ntu (self .silence))) self code ⌝ }
     {
         match code {

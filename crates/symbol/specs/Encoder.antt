@@ -45,7 +45,7 @@ abbrev pub codeOf : ℕ → ℕ → List ℕ → ℕ → ℕ
 codeOf a b earlier symbol =
     8 * x3 symbol + 4 * x2 symbol + 2 * parityOf a (x1 symbol ∷ earlier) + parityOf b (x1 symbol ∷ earlier)
 
--- every X1 sent once these symbols, first in time first, have followed the earlier ones: newest first
+-- every X1 sent, newest first, once these symbols (in time order) have followed the earlier ones
 unfoldable pub sentAfter : List ℕ → List ℕ → List ℕ
 sentAfter earlier [] = earlier
 sentAfter earlier (symbol ∷ symbols) = sentAfter (x1 symbol ∷ earlier) symbols

@@ -223,7 +223,7 @@ impl Encoder {
         }
     }
 
-    // Many symbols, one to an octet; their codes, one to an octet. One symbol over 7 refuses the run whole.
+    // Many symbols, one to an octet; their codes, one to an octet. A single symbol over 7 makes it refuse the whole run.
     pub fn run(self, symbols: &[u8], codes: &mut [u8]) -> Run
         ensures { λ r. ⌜ Ran self (now (symbols .entry)) (now (codes .entry)) r (now (codes .exit)) ⌝ }
     {

@@ -9,7 +9,7 @@ use lib.IntN.{ℤ}
 use lib.ListN.{length}
 use Rattle.answer.specs.Answer.{answer}
 use Rattle.octets.specs.Bits.{valueOf, bitsOf}
-use Rattle.layout.specs.Places.{wordA, wordB}
+use Rattle.layout.specs.Places.{aField, bField}
 use Rattle.layout.specs.Frame.{trainingSync, fieldOf, coefficientsOf}
 use Rattle.layout.specs.Refusals.{hasSync, checkRefusals}
 use Rattle.reader.specs.declared.Found.{Found}
@@ -42,7 +42,7 @@ module _ (f : List ℕ) (cs : List ℤ) (v : List ℕ) (lc : length cs ≡ 180) 
 
   -- a training frame's numbers and a final one's
   abbrev T : Found
-  T = record { answer = 0; kind = 0; a = valueOf (fieldOf wordA B); b = valueOf (fieldOf wordB B) }
+  T = record { answer = 0; kind = 0; a = valueOf (fieldOf aField B); b = valueOf (fieldOf bField B) }
 
   abbrev F : Found
   F = record { answer = 0; kind = 1; a = 0; b = 0 }

@@ -7,7 +7,7 @@ use lib.Dec.{eqb}
 use lib.ListN.{replicate}
 use Rattle.answer.specs.Answer.{answer}
 use Rattle.octets.specs.Bits.{digitsOf, valueOf, bitsOf}
-use Rattle.layout.specs.Places.{wordA, wordB}
+use Rattle.layout.specs.Places.{aField, bField}
 use Rattle.layout.specs.Frame.{trainingSync, fieldOf, coefficientsOf}
 use Rattle.layout.specs.Refusals.{hasSync, checkRefusals}
 use Rattle.reader.specs.Promises.{vendorOctets}
@@ -41,10 +41,10 @@ trainingVerdict bits k =
       answer = 0;
       kind = 0;
       used = highest (coefficientsOf bits);
-      a = valueOf (fieldOf wordA bits);
-      b = valueOf (fieldOf wordB bits);
-      alike = likeOf (k .given) (valueOf (fieldOf wordA bits)) (k .a);
-      blike = likeOf (k .given) (valueOf (fieldOf wordB bits)) (k .b);
+      a = valueOf (fieldOf aField bits);
+      b = valueOf (fieldOf bField bits);
+      alike = likeOf (k .given) (valueOf (fieldOf aField bits)) (k .a);
+      blike = likeOf (k .given) (valueOf (fieldOf bField bits)) (k .b);
       vendor = vendorOctets bits;
     }
 

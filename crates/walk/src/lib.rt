@@ -1,4 +1,4 @@
-// Fields one behind the other, with the field reader (SCOPE, "The activation frame"). Proved by hand, as it is, and as thin.
+// Fields one behind the other, taken with the field reader (SCOPE, "The activation frame"). Like the reader, they are thin and proved by hand.
 ghost use Rattle.walk.specs.Promises.{SingleTaken, PairTaken, SignedFilled};
 
 // A field and the place behind it.

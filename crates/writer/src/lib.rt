@@ -4,22 +4,24 @@ ghost use mathlib.Core.List.{_++_};
 ghost use Prim.Native.Nat.{_<_, _≤_};
 ghost use lib.IntN.{pos};
 ghost use lib.ListN.{length, getD, replicate};
-ghost use Rattle.octets.specs.Bits.{digitsOf, bitsOf, octetsOf, part, laid};
-ghost use Rattle.layout.specs.Frame.{coefficientBits, used, frameBits, trainingBits, finalBits};
+ghost use Rattle.octets.specs.Bits.{bitsOf, octetsOf, laid};
+ghost use Rattle.ranges.specs.Ranges.{coefficientCount};
+ghost use Rattle.layout.specs.Places.{reservedWidth, vendorLength, frameLength, placeOf, syncField, coefficientsField};
+ghost use Rattle.layout.specs.Frame.{coefficientBits, used, behind, frameBits, trainingBits, finalBits, fieldOf};
 ghost use Rattle.writer.specs.Promises.{Written};
 
 // The coefficient at index k as it is written: zero behind the first `count`.
 fn coefficient(coefficients: &[i32], count: usize, k: usize) -> i32
-    requires { ⌜ (length (now coefficients) ≡ 180) × (count ≤ 180) × (k < 180) ⌝ }
+    requires { ⌜ (length (now coefficients) ≡ coefficientCount) × (count ≤ coefficientCount) × (k < coefficientCount) ⌝ }
     ensures { λ r. ⌜ r ≡ getD (used count (now (coefficients .entry))) k (pos 0) ⌝ }
 {
     if k < count { coefficients[k] } else { 0 }
 }
 
-// All 180 coefficients' fields, behind sync.
+// All coefficients' fields, behind sync.
 fn put_coefficients(frame: &mut [u8], coefficients: &[i32], count: usize)
-    requires { ⌜ (length (now coefficients) ≡ 180) × (count ≤ 180) ⌝ }
-    ensures { λ r. ⌜ now (frame .exit) ≡ laid (now (frame .entry)) 14 (coefficientBits (used count (now (coefficients .entry)))) ⌝ }
+    requires { ⌜ (length (now coefficients) ≡ coefficientCount) × (count ≤ coefficientCount) ⌝ }
+    ensures { λ r. ⌜ now (frame .exit) ≡ laid (now (frame .entry)) (placeOf coefficientsField) (coefficientBits (used count (now (coefficients .entry)))) ⌝ }
 {
     let mut k = 0;
     while k < layout::COEFFICIENTS {
@@ -36,8 +38,10 @@ fn put_coefficients(frame: &mut [u8], coefficients: &[i32], count: usize)
 
 // Behind sync and coefficients, which stand already: A, B, vendor data, reserved, check bits, pad.
 fn finish(frame: &mut [u8], a: u32, b: u32, vendor: &[u8])
-    requires { ⌜ (length (now frame) ≡ 529) × (length (now vendor) ≡ 16) ⌝ }
-    ensures { λ r. ⌜ now (frame .exit) ≡ octetsOf 529 (frameBits (part 0 14 (bitsOf (now (frame .entry)))) (part 14 3960 (bitsOf (now (frame .entry))) ++ (digitsOf 21 a ++ (digitsOf 21 b ++ (bitsOf (now (vendor .entry)) ++ replicate 67 0))))) ⌝ }
+    requires { ⌜ (length (now frame) ≡ frameLength) × (length (now vendor) ≡ vendorLength) ⌝ }
+    ensures { λ r. ⌜ now (frame .exit) ≡ octetsOf frameLength
+        (frameBits (fieldOf syncField (bitsOf (now (frame .entry))))
+        (fieldOf coefficientsField (bitsOf (now (frame .entry))) ++ behind a b (now (vendor .entry)) (replicate reservedWidth 0))) ⌝ }
 {
     bitfields::put_field(frame, layout::A_AT, layout::WORD_BITS, a);
     bitfields::put_field(frame, layout::B_AT, layout::WORD_BITS, b);
@@ -51,8 +55,8 @@ fn finish(frame: &mut [u8], a: u32, b: u32, vendor: &[u8])
 
 // A training frame.
 fn put_training(frame: &mut [u8], coefficients: &[i32], count: usize, a: u32, b: u32, vendor: &[u8])
-    requires { ⌜ (length (now frame) ≡ 529) × (length (now coefficients) ≡ 180) × (count ≤ 180) × (length (now vendor) ≡ 16) ⌝ }
-    ensures { λ r. ⌜ now (frame .exit) ≡ octetsOf 529 (trainingBits count (now (coefficients .entry)) a b (now (vendor .entry))) ⌝ }
+    requires { ⌜ (length (now frame) ≡ frameLength) × (length (now coefficients) ≡ coefficientCount) × (count ≤ coefficientCount) × (length (now vendor) ≡ vendorLength) ⌝ }
+    ensures { λ r. ⌜ now (frame .exit) ≡ octetsOf frameLength (trainingBits count (now (coefficients .entry)) a b (now (vendor .entry))) ⌝ }
 {
     bitfields::put_field(frame, 0, layout::SYNC_BITS, layout::TRAINING_SYNC);
     put_coefficients(frame, coefficients, count);
@@ -61,8 +65,8 @@ fn put_training(frame: &mut [u8], coefficients: &[i32], count: usize, a: u32, b:
 
 // A final frame: none of the coefficients is in use.
 fn put_final(frame: &mut [u8], coefficients: &[i32], vendor: &[u8])
-    requires { ⌜ (length (now frame) ≡ 529) × (length (now coefficients) ≡ 180) × (length (now vendor) ≡ 16) ⌝ }
-    ensures { λ r. ⌜ now (frame .exit) ≡ octetsOf 529 (finalBits (now (vendor .entry))) ⌝ }
+    requires { ⌜ (length (now frame) ≡ frameLength) × (length (now coefficients) ≡ coefficientCount) × (length (now vendor) ≡ vendorLength) ⌝ }
+    ensures { λ r. ⌜ now (frame .exit) ≡ octetsOf frameLength (finalBits (now (vendor .entry))) ⌝ }
 {
     bitfields::put_field(frame, 0, layout::SYNC_BITS, layout::FINAL_SYNC);
     put_coefficients(frame, coefficients, 0);
@@ -91,8 +95,8 @@ pub fn write(
         return answer::LENGTH;
     }
     match kind {
-        0 => write_training(count, coefficients, a, b, vendor, frame),
-        1 => {
+        layout::TRAINING => write_training(count, coefficients, a, b, vendor, frame),
+        layout::FINAL => {
             put_final(frame, coefficients, vendor);
             answer::DONE
         }
@@ -109,7 +113,7 @@ fn write_training(
     vendor: &[u8],
     frame: &mut [u8],
 ) -> u32
-    requires { ⌜ (length (now coefficients) ≡ 180) × (length (now vendor) ≡ 16) × (length (now frame) ≡ 529) ⌝ }
+    requires { ⌜ (length (now coefficients) ≡ coefficientCount) × (length (now vendor) ≡ vendorLength) × (length (now frame) ≡ frameLength) ⌝ }
     ensures { λ r. ⌜ Written 0 count (now (coefficients .entry)) a b (now (vendor .entry)) (now (frame .entry)) r (now (frame .exit)) ⌝ }
 {
     if count < layout::FEWEST {

@@ -37,7 +37,7 @@ returns-4 : tie.Need-returns-4
 returns-4 c =
     let a = c .before .before .before .before .before .before .before .before .args in
     refusing (a .frame .now) (a .coefficients .now) (a .vendor .now) (c .before .before .check .result) (c .refused4 .result)
-    (c .before .before .check .ensures ∙ as-checked (a .frame .now) (a .coefficients .now) (a .vendor .now) (c .before .before .before .before .before .if1 .left) (c .before .before .before .before .if2 .left) (c .before .before .before .if3 .left))
+    (c .before .before .check .ensures .answered ∙ as-checked (a .frame .now) (a .coefficients .now) (a .vendor .now) (c .before .before .before .before .before .if1 .left) (c .before .before .before .before .if2 .left) (c .before .before .before .if3 .left))
     (c .before .if4 .taken) (c .refused4 .ensures)
 
 single-requires : tie.Need-single-requires
@@ -68,7 +68,7 @@ returns-5 c =
     let next = next-is (a .frame .now) (s .result) (s .ensures) in
     let words = words-read (a .frame .now) (k .result) (w .result) (words-at (a .frame .now) (s .result .next) (a .coefficients .now) (k .last .1 .1 .1 .0) (k .result) next (c .before .before .before .before .before .before .before .before .before .before .before .before .before .before .if2 .left) (k .ensures)) (w .ensures) in
     training-read (a .frame .now) (a .coefficients .now) (a .vendor .now)
-    (sym (as-checked (a .frame .now) (a .coefficients .now) (a .vendor .now) (c .before .before .before .before .before .before .before .before .before .before .before .before .before .before .before .if1 .left) (c .before .before .before .before .before .before .before .before .before .before .before .before .before .before .if2 .left) (c .before .before .before .before .before .before .before .before .before .before .before .before .before .if3 .left)) ∙ sym (c .before .before .before .before .before .before .before .before .before .before .before .before .check .ensures) ∙ c .before .before .before .before .before .before .before .before .before .before .before .if4 .left)
+    (sym (as-checked (a .frame .now) (a .coefficients .now) (a .vendor .now) (c .before .before .before .before .before .before .before .before .before .before .before .before .before .before .before .if1 .left) (c .before .before .before .before .before .before .before .before .before .before .before .before .before .before .if2 .left) (c .before .before .before .before .before .before .before .before .before .before .before .before .before .if3 .left)) ∙ sym (c .before .before .before .before .before .before .before .before .before .before .before .before .check .ensures .answered) ∙ c .before .before .before .before .before .before .before .before .before .before .before .if4 .left)
     (w .result .first) (w .result .second) (k .last .1 .1 .1 .0) (y .last .0)
     (training-is (a .frame .now) (s .result) (s .ensures) (c .before .before .before .before .before .before .before .before .if5 .taken))
     (ap (λ (t : TakenPair). t .first) words) (ap (λ (t : TakenPair). t .second) words)
@@ -87,7 +87,7 @@ returns-6 c =
     let s = c .before .before .before .before .before .before .single in
     let y = c .before .before .copy2 in
     final-read (a .frame .now) (a .coefficients .now) (a .vendor .now)
-    (sym (as-checked (a .frame .now) (a .coefficients .now) (a .vendor .now) (c .before .before .before .before .before .before .before .before .before .before .before .if1 .left) (c .before .before .before .before .before .before .before .before .before .before .if2 .left) (c .before .before .before .before .before .before .before .before .before .if3 .left)) ∙ sym (c .before .before .before .before .before .before .before .before .check .ensures) ∙ c .before .before .before .before .before .before .before .if4 .left)
+    (sym (as-checked (a .frame .now) (a .coefficients .now) (a .vendor .now) (c .before .before .before .before .before .before .before .before .before .before .before .if1 .left) (c .before .before .before .before .before .before .before .before .before .before .if2 .left) (c .before .before .before .before .before .before .before .before .before .if3 .left)) ∙ sym (c .before .before .before .before .before .before .before .before .check .ensures .answered) ∙ c .before .before .before .before .before .before .before .if4 .left)
     (y .last .0) (training-not (a .frame .now) (s .result) (s .ensures) (c .before .before .before .before .if5 .left))
     (vendor-read (a .frame .now) (a .vendor .now) (y .last .0) 4016 (c .before .before .before .before .before .before .before .before .before .before .before .if1 .left) (c .before .before .before .before .before .before .before .before .before .if3 .left) refl (y .ensures))
 

@@ -1,68 +1,54 @@
--- `recurrence::by_words` meets its contract. After k words the output has what comes out for them, and the window is the state after them, turned.
+-- `recurrence::by_words` meets its contract. After k turns k words are gone.
 use borrow.Author.Needs.{needs}
-use mathlib.Core.Path.{_≡_, sym, ap, subst, _∙_}
-use Prim.Native.Nat.{ℕ, _+_, _-_, _*_, _/_, _^_, _≤_, _<_}
+use mathlib.Core.Path.{_≡_, ap, subst, _∙_}
+use Prim.Native.Nat.{ℕ, _+_, _-_, _*_, _/_, _%_, _^_, _≤_}
 use native.Mathlib.Omega.{arith}
+use lib.Dec.{lit≤}
 use lib.ListN.{length}
 use Rattle.octets.specs.Bits.{digitsOf, bitsOf, part, laid}
-use Rattle.octets.proofs.Digits.{turned-lt}
-use Rattle.octets.proofs.Laws.{laid-none, laid-length}
-use Rattle.octets.proofs.Turn.{turnOf, turn-turn}
+use Rattle.octets.proofs.Laws.{laid-length}
 use Rattle.octets.proofs.Words.{field-digits}
-use Rattle.recurrence.specs.Run.{runOf, afterOf, wayOf}
-use Rattle.recurrence.proofs.Laws.{run-none}
-use Rattle.recurrence.proofs.Block.{state-more, out-more}
+use Rattle.recurrence.specs.Run.{wayOf}
+use Rattle.recurrence.specs.Window.{Gone}
+use Rattle.recurrence.proofs.Block.{gone-none, gone-word, gone-join}
 use Rattle.recurrence.proofs.by_words.Statement.{statement}
 use Rattle.recurrence.proofs.by_words.Tie as tie
 
 abbrev Inv-loop : tie.InvT-loop
-Inv-loop back tap start input at count output₀ window₀ k₀ output window k =
-    (k ≤ count) × (window < 2 ^ 23) × (turnOf 23 window ≡ afterOf (wayOf back) tap start (part at (32 * k) (bitsOf input)))
-    × (output ≡ laid output₀ at (runOf (wayOf back) tap start (part at (32 * k) (bitsOf input))))
+Inv-loop back tap start input i count output₀ window₀ k₀ output window k =
+    (k ≤ count) × Gone (wayOf back) tap start (part (8 * i) (64 * k) (bitsOf input)) output₀ (8 * i) window output
 
 abbrev μ-loop : tie.MeasureT-loop
-μ-loop back tap start input at count output₀ window₀ k₀ output window k = count - k
-
-turned-requires : tie.Need-turned-requires Inv-loop μ-loop
-turned-requires c κs = search needs
+μ-loop back tap start input i count output₀ window₀ k₀ output window k = count - k
 
 loop-holds : tie.Need-loop-holds Inv-loop μ-loop
 loop-holds c =
-    let z = c .before .before .before in
+    let z = c .before .before in
     let a = z .args in
-    let n = run-none (wayOf (a .back)) (a .tap) (a .start) in
-    let t = c .turned in (
-      omega arith,
-      subst (λ (x : ℕ). x < 2 ^ 23) (sym (t .ensures)) (turned-lt 23 (a .start)),
-      ap (turnOf 23) (t .ensures) ∙ turn-turn 23 (a .start) (z .pre .2) ∙ n .1,
-      laid-none (a .output .now) (a .at) (λ i. omega (arith, c .before .slice-known .given i)) ∙ ap (laid (a .output .now) (a .at)) (n .0),
-    )
+    (omega arith, gone-none (wayOf (a .back)) (a .tap) (a .start) (a .output .now) (8 * a .i) (z .pre .2) (λ i. omega (arith, c .slice-known .given i)))
 
-cast-place : tie.Need-cast-place Inv-loop μ-loop
-cast-place c = search needs
+mul-octet : tie.Need-mul-octet Inv-loop μ-loop
+mul-octet c = omega arith
 
-cast-place-2 : tie.Need-cast-place-2 Inv-loop μ-loop
-cast-place-2 c = search needs
+add-octet : tie.Need-add-octet Inv-loop μ-loop
+add-octet c = omega arith
 
-mul-place : tie.Need-mul-place Inv-loop μ-loop
-mul-place c = omega arith
-
-add-place : tie.Need-add-place Inv-loop μ-loop
-add-place c = omega arith
-
-field-requires : tie.Need-field-requires Inv-loop μ-loop
-field-requires c κs = search needs
+word-requires : tie.Need-word-requires Inv-loop μ-loop
+word-requires c κs = search needs
 
 word-out-requires : tie.Need-word-out-requires Inv-loop μ-loop
 word-out-requires c κs =
-    let z = c .before .before .before .before .before .before in
-    (z .pre .0, z .pre .1, c .before .before .loop .inv .1)
+    let z = c .before .before .before .before .before in
+    (z .pre .0, z .pre .1, c .before .before .loop .inv .1 .0)
 
-put-field-requires : tie.Need-put-field-requires Inv-loop μ-loop
-put-field-requires c κs = search needs
+put-word-requires : tie.Need-put-word-requires Inv-loop μ-loop
+put-word-requires c κs = search needs
 
 on-line-requires : tie.Need-on-line-requires Inv-loop μ-loop
 on-line-requires c κs = search needs
+
+later-requires : tie.Need-later-requires Inv-loop μ-loop
+later-requires c κs = (c .before .before .before .before .before .before .before .before .loop .inv .1 .0, lit≤ tt)
 
 add-k : tie.Need-add-k Inv-loop μ-loop
 add-k c = omega arith
@@ -72,45 +58,37 @@ loop-less c = omega arith
 
 loop-again : tie.Need-loop-again Inv-loop μ-loop
 loop-again c =
-    let u = c .before .before .before in
-    let v = u .before .before in
-    let f = v .before .field in
-    let l = v .before .before .before .loop in
-    let z = v .before .before .before .before .before .before .before in
+    let l = c .before .before .before .before .before .before .before .before .before .loop in
+    let z = c .before .before .before .before .before .before .before .before .before .before .before .before in
     let a = z .args in
     let s = a .input .now in
-    let w = wayOf (a .back) in
-    let m = 32 * l .k in
-    let e : m + 32 ≡ 32 * (l .k + 1) = omega arith in
-    let h : a .at + m ≤ 8 * length s = omega arith in
-    let fits : a .at + m + 32 ≤ 8 * length s = omega arith in
-    let bits : digitsOf 32 (f .result) ≡ part (a .at + m) 32 (bitsOf s) = ap (digitsOf 32) (f .ensures) ∙ field-digits s (a .at + m) 32 fits in
-    let out = v .word-out in (
+    let p = 8 * a .i in
+    let q = 8 * (a .i + 8 * l .k) in
+    let e : 64 * l .k + 64 ≡ 64 * (l .k + 1) = omega arith in
+    let f : p + 64 * l .k ≡ q = omega arith in
+    let way = wayOf (a .back) in
+    let word = c .before .before .before .before .before .before .before .word in
+    let out = c .before .before .before .before .before .before .word-out in
+    let put = c .before .before .before .before .put-word in
+    let digits : digitsOf 64 (word .result) ≡ part q 64 (bitsOf s) = ap (digitsOf 64) (word .ensures) ∙ field-digits s q 64 (omega arith) in (
       omega arith,
-      omega arith,
-      ap (λ (x : ℕ). turnOf 23 (x / 2 ^ 9)) (c .on-line .ensures) ∙ out .ensures .1
-          ∙ ap (afterOf w (a .tap) (turnOf 23 (l .window))) bits
-          ∙ state-more w (a .tap) (a .start) s (a .at) m 32 (32 * (l .k + 1)) e h (turnOf 23 (l .window)) (l .inv .2),
-      out-more w (a .tap) (a .start) s (a .at) m 32 (32 * (l .k + 1)) e h (turnOf 23 (l .window)) (l .inv .2) (a .output .now) (l .output) (u .put-field .last .0) (l .inv .3)
-          (u .put-field .ensures ∙ ap (laid (l .output) (a .at + m)) (out .ensures .0 ∙ ap (runOf w (a .tap) (turnOf 23 (l .window))) bits)),
+      gone-join way (a .tap) s p (64 * l .k) 64 (64 * (l .k + 1)) q (a .start) (l .window) (c .later .result) (a .output .now) (l .output) (put .last .0) e
+          (omega arith) f (l .inv .1)
+          (gone-word way (a .tap) (l .window) 64 (word .result) (out .result) (c .later .result) q (part q 64 (bitsOf s)) (l .output) (put .last .0)
+          (out .ensures 64 (lit≤ tt))
+          (c .later .ensures ∙ ap (λ (x : ℕ). (x * 2 ^ 23 + l .window) / 2 ^ 64 % 2 ^ 23) (c .before .on-line .ensures)) digits (put .ensures)),
     )
 
-turned-requires-2 : tie.Need-turned-requires-2 Inv-loop μ-loop
-turned-requires-2 c κs = search needs
-
 same-length : tie.Need-same-length Inv-loop μ-loop
-same-length c = let a = c .before .before .before .before .before .before .args in ap length (c .before .before .loop .inv .3) ∙ laid-length (a .output .now) (a .at) _
+same-length c = let a = c .before .before .before .before .args in ap length (c .before .loop .inv .1 .2) ∙ laid-length (a .output .now) (8 * a .i) _
 
 returns : tie.Need-returns Inv-loop μ-loop
 returns c =
-    let a = c .before .before .before .before .before .before .args in
-    let l = c .before .before .loop in
-    let B = bitsOf (a .input .now) in
-    let w = wayOf (a .back) in
-    let e : 32 * l .k ≡ 32 * a .count = omega arith in (
-      c .turned2 .ensures ∙ l .inv .2 ∙ ap (λ (n : ℕ). afterOf w (a .tap) (a .start) (part (a .at) n B)) e,
-      l .inv .3 ∙ ap (λ (n : ℕ). laid (a .output .now) (a .at) (runOf w (a .tap) (a .start) (part (a .at) n B))) e,
-    )
+    let a = c .before .before .before .before .args in
+    let l = c .before .loop in
+    let e : 64 * l .k ≡ 64 * a .count = omega arith in
+    subst (λ (n : ℕ). Gone (wayOf (a .back)) (a .tap) (a .start) (part (8 * a .i) n (bitsOf (a .input .now))) (a .output .now) (8 * a .i) (l .window) (l .output)) e
+    (l .inv .1)
 
 pub by-words-spec : {M : Type 1} → statement M
 by-words-spec =
@@ -118,19 +96,16 @@ by-words-spec =
     (tie.spec
     Inv-loop
     μ-loop
-    turned-requires
     loop-holds
-    cast-place
-    cast-place-2
-    mul-place
-    add-place
-    field-requires
+    mul-octet
+    add-octet
+    word-requires
     word-out-requires
-    put-field-requires
+    put-word-requires
     on-line-requires
+    later-requires
     add-k
     loop-less
     loop-again
-    turned-requires-2
     same-length
     returns)

@@ -1,0 +1,144 @@
+-- Our library with one function changed meets demand 1 where that function does. Assumes nothing.
+use mathlib.Core.Path.{refl, ap}
+use mathlib.Core.List.{List}
+use Prim.Native.Nat.{ℕ}
+use Rattle.answer.specs.Answer.{answer, held}
+use Rattle.answer.proofs.Laws.{kept}
+use Rattle.recurrence.specs.Run.{Way}
+use Rattle.supervisor.specs.declared.Supervisor.{Supervisor as State}
+use Rattle.host.specs.declared.supervising.Supervisor.{Supervisor}
+use Rattle.host.specs.Supervising.{stateIn, stateOf}
+use Rattle.demands.specs.Library.{Outcome, None, none, WriteCall, ReadCall, Fields, Rooms, RunCall, FrameCall, Line, EncodeRunCall, Codes}
+use Rattle.demands.specs.Library.{PrecodeCall, Signal, StepCall, Shown, Library}
+use Rattle.demands.specs.One.{Answers, One, writeChecks, readChecks, runChecks, frameChecks, encodeRunChecks, precodeChecks, stepChecks}
+use Rattle.demands.proofs.One.{answers, ordered, one}
+use Rattle.demands.proofs.Ours.{ours, ours-keep}
+
+-- ours meets it
+pub ours-one : One ours
+ours-one = one ours ours-keep
+
+-- the functions that are changed below, and the rest of ours
+pub record Parts : Type 0 where
+  pub write : WriteCall → Outcome None (List ℕ)
+  pub read : ReadCall → Outcome Fields Rooms
+  pub run : Way → RunCall → Outcome None Line
+  pub frame : Way → FrameCall → Outcome None Line
+  pub encode-run : EncodeRunCall → Outcome None Codes
+  pub precode : PrecodeCall → Outcome None Signal
+  pub decode : PrecodeCall → Outcome None Signal
+  pub step : StepCall → Outcome Shown Supervisor
+
+abbrev pub rebuilt : Parts → Library
+rebuilt p = record {
+  write = p .write;
+  check = ours .check;
+  read = p .read;
+  run = p .run;
+  frame = p .frame;
+  activation = ours .activation;
+  level = ours .level;
+  code = ours .code;
+  encode = ours .encode;
+  encode-run = p .encode-run;
+  precode = p .precode;
+  decode = p .decode;
+  shape = ours .shape;
+  start = ours .start;
+  step = p .step;
+  run-codes = ours .run-codes;
+}
+
+-- what demand 1 asks of them
+pub record PartsAnswer (p : Parts) : Type 0 where
+  pub write : Answers (p .write) writeChecks (λ c. c .frame) none
+  pub read : Answers (p .read) readChecks (λ c. record { coefficients = c .coefficients; vendor = c .vendor }) (record { kind = 0; a = 0; b = 0 })
+  pub run : (way : Way) → Answers (p .run way) runChecks (λ c. record { state = c .state; output = c .output }) none
+  pub frame : (way : Way) → Answers (p .frame way) frameChecks (λ c. record { state = c .state; output = c .output }) none
+  pub encode-run : Answers (p .encode-run) encodeRunChecks (λ c. record { register = c .register; codes = c .codes }) none
+  pub precode : Answers (p .precode) precodeChecks (λ c. record { history = c .history; room = c .room }) none
+  pub decode : Answers (p .decode) precodeChecks (λ c. record { history = c .history; room = c .room }) none
+  pub step : Answers (p .step) stepChecks (λ c. c .state) (record { phase = 0; attempt = 0 })
+
+pub rebuilt-one : (p : Parts) → PartsAnswer p → One (rebuilt p)
+rebuilt-one p a = record {
+  write = a .write;
+  check = ours-one .check;
+  read = a .read;
+  run = a .run;
+  frame = a .frame;
+  activation = ours-one .activation;
+  level = ours-one .level;
+  code = ours-one .code;
+  encode = ours-one .encode;
+  encode-run = a .encode-run;
+  precode = a .precode;
+  decode = a .decode;
+  shape = ours-one .shape;
+  start = ours-one .start;
+  step = a .step;
+  run-codes = ours-one .run-codes;
+}
+
+-- ---- one of them changed
+
+abbrev pub usual : Parts
+usual = record {
+  write = ours .write;
+  read = ours .read;
+  run = ours .run;
+  frame = ours .frame;
+  encode-run = ours .encode-run;
+  precode = ours .precode;
+  decode = ours .decode;
+  step = ours .step;
+}
+
+pub usual-answer : PartsAnswer usual
+usual-answer = record {
+  write = ours-one .write;
+  read = ours-one .read;
+  run = ours-one .run;
+  frame = ours-one .frame;
+  encode-run = ours-one .encode-run;
+  precode = ours-one .precode;
+  decode = ours-one .decode;
+  step = ours-one .step;
+}
+
+abbrev pub withStep : (StepCall → Outcome Shown Supervisor) → Parts
+withStep f = record {
+  write = usual .write;
+  read = usual .read;
+  run = usual .run;
+  frame = usual .frame;
+  encode-run = usual .encode-run;
+  precode = usual .precode;
+  decode = usual .decode;
+  step = f;
+}
+
+-- a step by other rules: f moves a state that is not refused, and t is the number of ticks that is shown
+abbrev pub stepping : (State → ℕ → State) → (State → ℕ) → StepCall → Outcome Shown Supervisor
+stepping f t c =
+    let s = stateIn (c .state) in
+    let n = answer (stepChecks c) in
+    let new = f s (c .code) in
+    record { answer = n; numbers = record { phase = held n 0 (new .phase); attempt = held n 0 (t new) }; memory = stateOf (held n s new) }
+
+pub stepping-one : (f : State → ℕ → State) (t : State → ℕ) → One (rebuilt (withStep (stepping f t)))
+stepping-one f t = rebuilt-one (withStep (stepping f t)) (record {
+  write = usual-answer .write;
+  read = usual-answer .read;
+  run = usual-answer .run;
+  frame = usual-answer .frame;
+  encode-run = usual-answer .encode-run;
+  precode = usual-answer .precode;
+  decode = usual-answer .decode;
+  step = answers (ordered .step) (λ c. refl)
+      (λ c h. λ i. record {
+        phase = kept (answer (stepChecks c)) 0 (f (stateIn (c .state)) (c .code) .phase) h i;
+        attempt = kept (answer (stepChecks c)) 0 (t (f (stateIn (c .state)) (c .code))) h i;
+      })
+      (λ c h. ap stateOf (kept (answer (stepChecks c)) (stateIn (c .state)) (f (stateIn (c .state)) (c .code)) h));
+})

@@ -1,0 +1,77 @@
+-- From what C can hand in to every call: a library that keeps the contracts there does what one does that keeps them everywhere. Assumes nothing.
+use mathlib.Core.Path.{_≡_, refl, sym, ap}
+use mathlib.Core.Bool.{Bool, true, false, cond}
+use Rattle.supervisor.proofs.Laws.{by-cases}
+use Rattle.demands.specs.Library.{Library}
+use Rattle.demands.specs.FromC.{fromC}
+use Rattle.demands.specs.Contracts.{KeepsFor, Keeps, SameFor, Widens}
+use Rattle.demands.proofs.Ours.{ours, ours-keep}
+
+-- where C can make the call x, and elsewhere ours
+abbrev widen : Library → Library
+widen x = record {
+  write = λ c. cond (fromC .write c) (x .write c) (ours .write c);
+  check = λ f. cond (fromC .check f) (x .check f) (ours .check f);
+  read = λ c. cond (fromC .read c) (x .read c) (ours .read c);
+  run = λ way c. cond (fromC .run c) (x .run way c) (ours .run way c);
+  frame = λ way c. cond (fromC .frame c) (x .frame way c) (ours .frame way c);
+  activation = λ b. cond (fromC .activation b) (x .activation b) (ours .activation b);
+  level = λ b. cond (fromC .level b) (x .level b) (ours .level b);
+  code = λ l. cond (fromC .code l) (x .code l) (ours .code l);
+  encode = λ c. cond (fromC .encode c) (x .encode c) (ours .encode c);
+  encode-run = λ c. cond (fromC .encode-run c) (x .encode-run c) (ours .encode-run c);
+  precode = λ c. cond (fromC .precode c) (x .precode c) (ours .precode c);
+  decode = λ c. cond (fromC .decode c) (x .decode c) (ours .decode c);
+  shape = λ y. cond (fromC .shape y) (x .shape y) (ours .shape y);
+  start = λ c. cond (fromC .start c) (x .start c) (ours .start c);
+  step = λ c. cond (fromC .step c) (x .step c) (ours .step c);
+  run-codes = λ c. cond (fromC .run-codes c) (x .run-codes c) (ours .run-codes c);
+}
+
+module _ (x : Library) (k : KeepsFor fromC x) where
+  keeps : Keeps (widen x)
+  keeps = record {
+    write = λ c h. by-cases (fromC .write c) (λ e. rw e (k .write c e)) (λ e. rw e (ours-keep .write c refl));
+    check = λ f h. by-cases (fromC .check f) (λ e. rw e (k .check f e)) (λ e. rw e (ours-keep .check f refl));
+    read = λ c h. by-cases (fromC .read c) (λ e. rw e (k .read c e)) (λ e. rw e (ours-keep .read c refl));
+    run = λ way c h. by-cases (fromC .run c) (λ e. rw e (k .run way c e)) (λ e. rw e (ours-keep .run way c refl));
+    frame = λ way c h. by-cases (fromC .frame c) (λ e. rw e (k .frame way c e)) (λ e. rw e (ours-keep .frame way c refl));
+    activation = λ b h. by-cases (fromC .activation b) (λ e. rw e (k .activation b e)) (λ e. rw e (ours-keep .activation b refl));
+    level = λ b h. by-cases (fromC .level b) (λ e. rw e (k .level b e)) (λ e. rw e (ours-keep .level b refl));
+    code = λ l h. by-cases (fromC .code l) (λ e. rw e (k .code l e)) (λ e. rw e (ours-keep .code l refl));
+    encode = λ c h. by-cases (fromC .encode c) (λ e. rw e (k .encode c e)) (λ e. rw e (ours-keep .encode c refl));
+    encode-run = λ c h. by-cases (fromC .encode-run c) (λ e. rw e (k .encode-run c e)) (λ e. rw e (ours-keep .encode-run c refl));
+    precode = λ c h. by-cases (fromC .precode c) (λ e. rw e (k .precode c e)) (λ e. rw e (ours-keep .precode c refl));
+    decode = λ c h. by-cases (fromC .decode c) (λ e. rw e (k .decode c e)) (λ e. rw e (ours-keep .decode c refl));
+    shape = λ y h. by-cases (fromC .shape y) (λ e. rw e (k .shape y e)) (λ e. rw e (ours-keep .shape y refl));
+    start = λ c h. by-cases (fromC .start c) (λ e. rw e (k .start c e)) (λ e. rw e (ours-keep .start c refl));
+    step = λ c h. by-cases (fromC .step c) (λ e. rw e (k .step c e)) (λ e. rw e (ours-keep .step c refl));
+    run-codes = λ c h. by-cases (fromC .run-codes c) (λ e. rw e (k .run-codes c e)) (λ e. rw e (ours-keep .run-codes c refl));
+  }
+
+  -- what is chosen where the test holds
+  chosen : {A : Type 0} (b : Bool) (u v : A) → b ≡ true → u ≡ cond b u v
+  chosen b u v e = sym (ap (λ (t : Bool). cond t u v) e)
+
+  same : SameFor fromC x (widen x)
+  same = record {
+    write = λ c e. chosen (fromC .write c) (x .write c) (ours .write c) e;
+    check = λ f e. chosen (fromC .check f) (x .check f) (ours .check f) e;
+    read = λ c e. chosen (fromC .read c) (x .read c) (ours .read c) e;
+    run = λ way c e. chosen (fromC .run c) (x .run way c) (ours .run way c) e;
+    frame = λ way c e. chosen (fromC .frame c) (x .frame way c) (ours .frame way c) e;
+    activation = λ b e. chosen (fromC .activation b) (x .activation b) (ours .activation b) e;
+    level = λ b e. chosen (fromC .level b) (x .level b) (ours .level b) e;
+    code = λ l e. chosen (fromC .code l) (x .code l) (ours .code l) e;
+    encode = λ c e. chosen (fromC .encode c) (x .encode c) (ours .encode c) e;
+    encode-run = λ c e. chosen (fromC .encode-run c) (x .encode-run c) (ours .encode-run c) e;
+    precode = λ c e. chosen (fromC .precode c) (x .precode c) (ours .precode c) e;
+    decode = λ c e. chosen (fromC .decode c) (x .decode c) (ours .decode c) e;
+    shape = λ y e. chosen (fromC .shape y) (x .shape y) (ours .shape y) e;
+    start = λ c e. chosen (fromC .start c) (x .start c) (ours .start c) e;
+    step = λ c e. chosen (fromC .step c) (x .step c) (ours .step c) e;
+    run-codes = λ c e. chosen (fromC .run-codes c) (x .run-codes c) (ours .run-codes c) e;
+  }
+
+pub widened : (x : Library) → Widens x
+widened x k = (widen x, keeps x k, same x k)

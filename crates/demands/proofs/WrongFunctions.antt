@@ -1,0 +1,404 @@
+-- The libraries that have to be rejected, built: ours with one other function, which meet demand 1. Assumes nothing.
+use mathlib.Core.Path.{_≡_, refl, sym, ap, _∙_, subst}
+use mathlib.Core.Bool.{Bool, true, false, cond}
+use mathlib.Core.List.{List, [], _∷_, reverse}
+use Prim.Native.Nat.{ℕ, zero, suc, _≤_, _<_}
+use native.Mathlib.Omega.{arith}
+use lib.Dec.{lit≤}
+use lib.ListN.{length, getD, take, replicate}
+use lib.Seq.{length-take-le}
+use Rattle.answer.specs.Answer.{answer, held}
+use Rattle.answer.proofs.Laws.{kept, given as held-given}
+use Rattle.octets.specs.Bits.{valueOf, bitsOf, laid}
+use Rattle.octets.proofs.Digits.{Bits, take-bits}
+use Rattle.octets.proofs.Laws.{bits-bits, bits-length}
+use Rattle.layout.specs.Places.{aField, bField}
+use Rattle.layout.specs.Frame.{trainingSync, fieldOf}
+use Rattle.layout.specs.Refusals.{hasSync}
+use Rattle.recurrence.specs.Line.{Scrambles}
+use Rattle.recurrence.specs.Run.{Way, scramble, descramble, outOf, runOf}
+use Rattle.recurrence.proofs.Laws.{run-bits}
+use Rattle.recurrence.proofs.Exactly.{run-scrambles}
+use Rattle.scrambler.specs.Ends.{tapOf}
+use Rattle.scrambler.specs.Promises.{given}
+use Rattle.scrambler.proofs.Laws.{tap-range}
+use Rattle.supervisor.proofs.Laws.{by-cases}
+use Rattle.demands.specs.Library.{Outcome, None, none, WriteCall, ReadCall, Fields, Rooms, RunCall, FrameCall, Line, EncodeRunCall, Codes}
+use Rattle.demands.specs.Library.{PrecodeCall, Signal}
+use Rattle.demands.specs.One.{Answers, One, writeChecks, readChecks, runChecks, frameChecks, encodeRunChecks, precodeChecks}
+use Rattle.demands.specs.Two.{Right}
+use Rattle.demands.specs.WrongLibraries.{Refuses, OneFrame, FrameUnwritten, CoefficientsUnwritten, VendorUnwritten, RunUnwritten, WholeUnwritten}
+use Rattle.demands.specs.WrongLibraries.{CodesUnwritten, PrecodedUnwritten, DecodedUnwritten, CopiesTheRest, TurnsA, TurnsB}
+use Rattle.demands.specs.NoStrawMan.{Built, OtherwiseAnswers, NoStrawMan}
+use Rattle.demands.proofs.One.{answers, ordered}
+use Rattle.demands.proofs.Two.{exact as exact-of}
+use Rattle.demands.proofs.Interwork.{laid-there, run-right}
+use Rattle.demands.proofs.Ours.{ours, ours-keep}
+use Rattle.demands.proofs.Rebuilt.{ours-one, Parts, PartsAnswer, rebuilt, rebuilt-one, usual, usual-answer}
+use Rattle.demands.proofs.WrongSteps.{moves-once-built, never-opens-built, calls-exception-built, same-ticks-built, counts-codes-built, gives-up-built, ends-too-late-built}
+
+-- ---- the writer
+
+abbrev withWrite : (WriteCall → Outcome None (List ℕ)) → Parts
+withWrite f = record {
+  write = f;
+  read = usual .read;
+  run = usual .run;
+  frame = usual .frame;
+  encode-run = usual .encode-run;
+  precode = usual .precode;
+  decode = usual .decode;
+  step = usual .step;
+}
+
+write-one : (f : WriteCall → Outcome None (List ℕ)) → Answers f writeChecks (λ c. c .frame) none → One (rebuilt (withWrite f))
+write-one f a = rebuilt-one (withWrite f) (record {
+  write = a;
+  read = usual-answer .read;
+  run = usual-answer .run;
+  frame = usual-answer .frame;
+  encode-run = usual-answer .encode-run;
+  precode = usual-answer .precode;
+  decode = usual-answer .decode;
+  step = usual-answer .step;
+})
+
+-- it writes zeros, or nothing
+abbrev zeros-always : WriteCall → Outcome None (List ℕ)
+zeros-always c = record { answer = answer (writeChecks c); numbers = none; memory = held (answer (writeChecks c)) (c .frame) (replicate 529 0) }
+
+one-frame-built : Built OneFrame
+one-frame-built = (
+  rebuilt (withWrite zeros-always),
+  write-one zeros-always (answers (ordered .write) (λ c. refl) (λ c h. refl) (λ c h. kept (answer (writeChecks c)) (c .frame) (replicate 529 0) h)),
+  (replicate 529 0, λ c h. held-given (answer (writeChecks c)) (c .frame) (replicate 529 0) h),
+)
+
+abbrev writes-nothing : WriteCall → Outcome None (List ℕ)
+writes-nothing c = record { answer = answer (writeChecks c); numbers = none; memory = c .frame }
+
+frame-built : Built FrameUnwritten
+frame-built =
+    (rebuilt (withWrite writes-nothing), write-one writes-nothing (answers (ordered .write) (λ c. refl) (λ c h. refl) (λ c h. refl)), λ c h. refl)
+
+-- ---- the reader
+
+abbrev withRead : (ReadCall → Outcome Fields Rooms) → Parts
+withRead f = record {
+  write = usual .write;
+  read = f;
+  run = usual .run;
+  frame = usual .frame;
+  encode-run = usual .encode-run;
+  precode = usual .precode;
+  decode = usual .decode;
+  step = usual .step;
+}
+
+abbrev ReadAnswers : (ReadCall → Outcome Fields Rooms) → Type 0
+ReadAnswers f = Answers f readChecks (λ c. record { coefficients = c .coefficients; vendor = c .vendor }) (record { kind = 0; a = 0; b = 0 })
+
+read-one : (f : ReadCall → Outcome Fields Rooms) → ReadAnswers f → One (rebuilt (withRead f))
+read-one f a = rebuilt-one (withRead f) (record {
+  write = usual-answer .write;
+  read = a;
+  run = usual-answer .run;
+  frame = usual-answer .frame;
+  encode-run = usual-answer .encode-run;
+  precode = usual-answer .precode;
+  decode = usual-answer .decode;
+  step = usual-answer .step;
+})
+
+-- our reader with other numbers and other rooms
+abbrev reading : (ReadCall → Fields) → (ReadCall → Rooms) → ReadCall → Outcome Fields Rooms
+reading n m c = record { answer = ours .read c .answer; numbers = n c; memory = m c }
+
+reading-answers : (n : ReadCall → Fields) (m : ReadCall → Rooms) → ((c : ReadCall) → (ours .read c .answer ≡ 0 → ⊥) → n c ≡ record { kind = 0; a = 0; b = 0 })
+    → ((c : ReadCall) → (ours .read c .answer ≡ 0 → ⊥) → m c ≡ record { coefficients = c .coefficients; vendor = c .vendor }) → ReadAnswers (reading n m)
+reading-answers n m h i = answers (ordered .read) (ours-one .read .first) h i
+
+abbrev no-coefficients : ReadCall → Rooms
+no-coefficients c = record { coefficients = c .coefficients; vendor = ours .read c .memory .vendor }
+
+coefficients-built : Built CoefficientsUnwritten
+coefficients-built = (
+  rebuilt (withRead (reading (λ c. ours .read c .numbers) no-coefficients)),
+  read-one (reading (λ c. ours .read c .numbers) no-coefficients) (reading-answers (λ c. ours .read c .numbers) no-coefficients (ours-one .read .no-numbers)
+      (λ c h. ap (λ (m : Rooms). record { coefficients = c .coefficients; vendor = m .vendor }) (ours-one .read .unchanged c h))),
+  λ c h. refl,
+)
+
+abbrev no-vendor : ReadCall → Rooms
+no-vendor c = record { coefficients = ours .read c .memory .coefficients; vendor = c .vendor }
+
+vendor-built : Built VendorUnwritten
+vendor-built = (
+  rebuilt (withRead (reading (λ c. ours .read c .numbers) no-vendor)),
+  read-one (reading (λ c. ours .read c .numbers) no-vendor) (reading-answers (λ c. ours .read c .numbers) no-vendor (ours-one .read .no-numbers)
+      (λ c h. ap (λ (m : Rooms). record { coefficients = m .coefficients; vendor = c .vendor }) (ours-one .read .unchanged c h))),
+  λ c h. refl,
+)
+
+-- a word of a training frame, last bit first
+abbrev turned : List ℕ → ReadCall → ℕ
+turned word c = held (answer (readChecks c)) 0 (cond (hasSync trainingSync (bitsOf (c .frame))) (valueOf (reverse word)) 0)
+
+turned-none : (word : List ℕ) (c : ReadCall) → (ours .read c .answer ≡ 0 → ⊥) → turned word c ≡ 0
+turned-none word c h = kept (answer (readChecks c)) 0 _ (λ e. h (ours-one .read .first c ∙ e))
+
+turned-given : (word : List ℕ) (c : ReadCall) → ours .read c .answer ≡ 0 → ours .read c .numbers .kind ≡ 0 → turned word c ≡ valueOf (reverse word)
+turned-given word c h e =
+    let r : Right (readChecks c) = sym (ours-one .read .first c) ∙ h in
+    held-given (answer (readChecks c)) 0 _ r
+    ∙ by-cases (hasSync trainingSync (bitsOf (c .frame))) (λ t. rw t)
+    (λ f. absurd (omega (arith, sym e ∙ ap (λ (o : Outcome Fields Rooms). o .numbers .kind) (exact-of ours ours-keep .frames .read-final c r f))))
+
+abbrev turns-a : ReadCall → Fields
+turns-a c = record { kind = ours .read c .numbers .kind; a = turned (fieldOf aField (bitsOf (c .frame))) c; b = ours .read c .numbers .b }
+
+turns-a-built : Built TurnsA
+turns-a-built = (
+  rebuilt (withRead (reading turns-a (λ c. ours .read c .memory))),
+  read-one (reading turns-a (λ c. ours .read c .memory)) (reading-answers turns-a (λ c. ours .read c .memory)
+      (λ c h. let e = ours-one .read .no-numbers c h in let z = turned-none (fieldOf aField (bitsOf (c .frame))) c h in
+      λ i. record { kind = e i .kind; a = z i; b = e i .b })
+      (ours-one .read .unchanged)),
+  λ c h e. turned-given (fieldOf aField (bitsOf (c .frame))) c h e,
+)
+
+abbrev turns-b : ReadCall → Fields
+turns-b c = record { kind = ours .read c .numbers .kind; a = ours .read c .numbers .a; b = turned (fieldOf bField (bitsOf (c .frame))) c }
+
+turns-b-built : Built TurnsB
+turns-b-built = (
+  rebuilt (withRead (reading turns-b (λ c. ours .read c .memory))),
+  read-one (reading turns-b (λ c. ours .read c .memory)) (reading-answers turns-b (λ c. ours .read c .memory)
+      (λ c h. let e = ours-one .read .no-numbers c h in let z = turned-none (fieldOf bField (bitsOf (c .frame))) c h in
+      λ i. record { kind = e i .kind; a = e i .a; b = z i })
+      (ours-one .read .unchanged)),
+  λ c h e. turned-given (fieldOf bField (bitsOf (c .frame))) c h e,
+)
+
+-- ---- runs
+
+abbrev withRun : (Way → RunCall → Outcome None Line) → Parts
+withRun f = record {
+  write = usual .write;
+  read = usual .read;
+  run = f;
+  frame = usual .frame;
+  encode-run = usual .encode-run;
+  precode = usual .precode;
+  decode = usual .decode;
+  step = usual .step;
+}
+
+run-one : (f : Way → RunCall → Outcome None Line) → ((way : Way) → Answers (f way) runChecks (λ c. record { state = c .state; output = c .output }) none)
+    → One (rebuilt (withRun f))
+run-one f a = rebuilt-one (withRun f) (record {
+  write = usual-answer .write;
+  read = usual-answer .read;
+  run = a;
+  frame = usual-answer .frame;
+  encode-run = usual-answer .encode-run;
+  precode = usual-answer .precode;
+  decode = usual-answer .decode;
+  step = usual-answer .step;
+})
+
+abbrev runs-idle : Way → RunCall → Outcome None Line
+runs-idle way c = record { answer = ours .run way c .answer; numbers = none; memory = record { state = ours .run way c .memory .state; output = c .output } }
+
+run-built : (way : Way) → Built (RunUnwritten way)
+run-built way = (
+  rebuilt (withRun runs-idle),
+  run-one runs-idle (λ way. answers (ordered .run) (ours-one .run way .first) (λ c h. refl)
+      (λ c h. ap (λ (m : Line). record { state = m .state; output = c .output }) (ours-one .run way .unchanged c h))),
+  λ c h. refl,
+)
+
+-- the first bit scrambled, the rest copied
+abbrev copied : ℕ → ℕ → List ℕ → List ℕ
+copied tap state [] = []
+copied tap state (b ∷ bs) = outOf tap state b ∷ bs
+
+copied-bits : (tap state : ℕ) (f : List ℕ) → Bits f → Bits (copied tap state f)
+unfolding runOf
+copied-bits tap state [] h i = h i
+copied-bits tap state (b ∷ bs) h zero = run-bits scramble tap state (b ∷ []) 0
+copied-bits tap state (b ∷ bs) h (suc i) = h (suc i)
+
+copied-length : (tap state : ℕ) (f : List ℕ) → length (copied tap state f) ≡ length f
+copied-length tap state [] = refl
+copied-length tap state (b ∷ bs) = refl
+
+copied-first : (tap state : ℕ) (f : List ℕ) → take 1 (copied tap state f) ≡ runOf scramble tap state (take 1 f)
+unfolding runOf
+copied-first tap state [] = refl
+copied-first tap state (b ∷ bs) = refl
+
+copied-rest : (tap state : ℕ) (f : List ℕ) (n : ℕ) → 1 ≤ n → getD (copied tap state f) n 0 ≡ getD f n 0
+copied-rest tap state [] n h = refl
+copied-rest tap state (b ∷ bs) zero h = absurd (omega arith)
+copied-rest tap state (b ∷ bs) (suc n) h = refl
+
+abbrev copiedOf : RunCall → List ℕ
+copiedOf c = copied (tapOf (c .end)) (c .state) (given (c .input) (c .bits))
+
+abbrev copier : Way → RunCall → Outcome None Line
+copier scramble c = record {
+  answer = answer (runChecks c);
+  numbers = none;
+  memory = record { state = ours .run scramble c .memory .state; output = held (answer (runChecks c)) (c .output) (laid (c .output) 0 (copiedOf c)) };
+}
+copier descramble c = ours .run descramble c
+
+copier-answers : (way : Way) → Answers (copier way) runChecks (λ c. record { state = c .state; output = c .output }) none
+copier-answers scramble = answers (ordered .run) (λ c. refl) (λ c h. refl)
+    (λ c h.
+    let e = ap (λ (m : Line). m .state) (ours-one .run scramble .unchanged c (λ z. h (sym (ours-one .run scramble .first c) ∙ z))) in
+    let o = kept (answer (runChecks c)) (c .output) (laid (c .output) 0 (copiedOf c)) h in
+    λ i. record { state = e i; output = o i })
+copier-answers descramble = ours-one .run descramble
+
+-- its output's bits
+copied-out : (c : RunCall) → answer (runChecks c) ≡ 0 → given (copier scramble c .memory .output) (c .bits) ≡ copiedOf c
+copied-out c h =
+    let r = run-right c (c .output) (c .output) h refl refl in
+    let g = given (c .input) (c .bits) in
+    let n : length (copiedOf c) ≡ c .bits = copied-length (tapOf (c .end)) (c .state) g
+    ∙ length-take-le (c .bits) (bitsOf (c .input)) (omega (arith, bits-length (c .input), r .0, r .1)) in
+    ap (λ (o : List ℕ). given o (c .bits)) (held-given (answer (runChecks c)) (c .output) (laid (c .output) 0 (copiedOf c)) h)
+    ∙ laid-there (c .output) (copiedOf c) (c .bits)
+    (copied-bits (tapOf (c .end)) (c .state) g (take-bits (c .bits) (bitsOf (c .input)) (bits-bits (c .input)))) n (r .1)
+
+copies-built : Built CopiesTheRest
+copies-built = (
+  rebuilt (withRun copier),
+  run-one copier copier-answers,
+  record {
+    first = λ c h.
+        let tap = tapOf (c .end) in
+        let g = given (c .input) (c .bits) in
+        let t = tap-range (c .end) in
+        let B = take-bits 1 g (take-bits (c .bits) (bitsOf (c .input)) (bits-bits (c .input))) in
+        subst (Scrambles tap (c .state) (take 1 g)) (sym (ap (take 1) (copied-out c h) ∙ copied-first tap (c .state) g))
+        (run-scrambles tap (t .0) (t .1) (c .state) (take 1 g) B);
+    rest = λ c n h i j. ap (λ (l : List ℕ). getD l n 0) (copied-out c h) ∙ copied-rest (tapOf (c .end)) (c .state) (given (c .input) (c .bits)) n i;
+  },
+)
+
+-- ---- whole frames, the encoder's runs, the precoder and its inverse
+
+abbrev frames-idle : Way → FrameCall → Outcome None Line
+frames-idle way c =
+    record { answer = ours .frame way c .answer; numbers = none; memory = record { state = ours .frame way c .memory .state; output = c .output } }
+
+abbrev codes-idle : EncodeRunCall → Outcome None Codes
+codes-idle c =
+    record { answer = ours .encode-run c .answer; numbers = none; memory = record { register = ours .encode-run c .memory .register; codes = c .codes } }
+
+abbrev precodes-idle : PrecodeCall → Outcome None Signal
+precodes-idle c = record { answer = ours .precode c .answer; numbers = none; memory = record { history = ours .precode c .memory .history; room = c .room } }
+
+abbrev decodes-idle : PrecodeCall → Outcome None Signal
+decodes-idle c = record { answer = ours .decode c .answer; numbers = none; memory = record { history = ours .decode c .memory .history; room = c .room } }
+
+abbrev withRest : (Way → FrameCall → Outcome None Line) → (EncodeRunCall → Outcome None Codes) → (PrecodeCall → Outcome None Signal)
+    → (PrecodeCall → Outcome None Signal) → Parts
+withRest f e p d = record {
+  write = usual .write;
+  read = usual .read;
+  run = usual .run;
+  frame = f;
+  encode-run = e;
+  precode = p;
+  decode = d;
+  step = usual .step;
+}
+
+module _ (f : Way → FrameCall → Outcome None Line) (e : EncodeRunCall → Outcome None Codes) (p d : PrecodeCall → Outcome None Signal) where
+  rest-one : ((way : Way) → Answers (f way) frameChecks (λ c. record { state = c .state; output = c .output }) none)
+      → Answers e encodeRunChecks (λ c. record { register = c .register; codes = c .codes }) none
+      → Answers p precodeChecks (λ c. record { history = c .history; room = c .room }) none
+      → Answers d precodeChecks (λ c. record { history = c .history; room = c .room }) none → One (rebuilt (withRest f e p d))
+  rest-one af ae ap ad = rebuilt-one (withRest f e p d) (record {
+    write = usual-answer .write;
+    read = usual-answer .read;
+    run = usual-answer .run;
+    frame = af;
+    encode-run = ae;
+    precode = ap;
+    decode = ad;
+    step = usual-answer .step;
+  })
+
+frame-idle-built : (way : Way) → Built (WholeUnwritten way)
+frame-idle-built way = (
+  rebuilt (withRest frames-idle (ours .encode-run) (ours .precode) (ours .decode)),
+  rest-one frames-idle (ours .encode-run) (ours .precode) (ours .decode)
+      (λ way. answers (ordered .frame) (ours-one .frame way .first) (λ c h. refl)
+      (λ c h. ap (λ (m : Line). record { state = m .state; output = c .output }) (ours-one .frame way .unchanged c h)))
+      (ours-one .encode-run) (ours-one .precode) (ours-one .decode),
+  λ c h. refl,
+)
+
+codes-built : Built CodesUnwritten
+codes-built = (
+  rebuilt (withRest (ours .frame) codes-idle (ours .precode) (ours .decode)),
+  rest-one (ours .frame) codes-idle (ours .precode) (ours .decode) (ours-one .frame)
+      (answers (ordered .encode-run) (ours-one .encode-run .first) (λ c h. refl)
+      (λ c h. ap (λ (m : Codes). record { register = m .register; codes = c .codes }) (ours-one .encode-run .unchanged c h)))
+      (ours-one .precode) (ours-one .decode),
+  λ c h. refl,
+)
+
+precoded-built : Built PrecodedUnwritten
+precoded-built = (
+  rebuilt (withRest (ours .frame) (ours .encode-run) precodes-idle (ours .decode)),
+  rest-one (ours .frame) (ours .encode-run) precodes-idle (ours .decode) (ours-one .frame) (ours-one .encode-run)
+      (answers (ordered .precode) (ours-one .precode .first) (λ c h. refl)
+      (λ c h. ap (λ (m : Signal). record { history = m .history; room = c .room }) (ours-one .precode .unchanged c h)))
+      (ours-one .decode),
+  λ c h. refl,
+)
+
+decoded-built : Built DecodedUnwritten
+decoded-built = (
+  rebuilt (withRest (ours .frame) (ours .encode-run) (ours .precode) decodes-idle),
+  rest-one (ours .frame) (ours .encode-run) (ours .precode) decodes-idle (ours-one .frame) (ours-one .encode-run) (ours-one .precode)
+      (answers (ordered .precode) (ours-one .decode .first) (λ c h. refl)
+      (λ c h. ap (λ (m : Signal). record { history = m .history; room = c .room }) (ours-one .decode .unchanged c h))),
+  λ c h. refl,
+)
+
+-- ---- all of them
+
+pub no-straw-man : NoStrawMan
+no-straw-man = record {
+  refuses = λ {C} {N} {M} before nothing. (
+    λ c. record { answer = 4; numbers = nothing; memory = before c },
+    λ c e. omega (arith, e),
+    record { in-table = λ c. lit≤ tt; no-numbers = λ c h. refl; unchanged = λ c h. refl },
+  );
+  one-frame = one-frame-built;
+  frame-unwritten = frame-built;
+  coefficients-unwritten = coefficients-built;
+  vendor-unwritten = vendor-built;
+  run-unwritten = run-built;
+  whole-unwritten = frame-idle-built;
+  codes-unwritten = codes-built;
+  precoded-unwritten = precoded-built;
+  decoded-unwritten = decoded-built;
+  copies-the-rest = copies-built;
+  turns-a = turns-a-built;
+  turns-b = turns-b-built;
+  moves-once = moves-once-built;
+  never-opens = never-opens-built;
+  calls-exception = calls-exception-built;
+  same-ticks = same-ticks-built;
+  counts-codes = counts-codes-built;
+  gives-up = gives-up-built;
+  ends-too-late = ends-too-late-built;
+}

@@ -1,0 +1,96 @@
+-- WHAT C CAN HAND IN, by the types of the exported functions' arguments; tests/contracts holds these to crates/host/src.
+use mathlib.Core.Bool.{Bool, true, _&&_}
+use mathlib.Core.List.{List, [], _∷_}
+use Prim.Native.Nat.{ℕ, _^_}
+use lib.Dec.{leb, ltb}
+use lib.IntN.{ℤ, pos, negsuc}
+use lib.ListN.{length}
+use Rattle.host.specs.declared.supervising.Supervisor.{Supervisor}
+use Rattle.demands.specs.Library.{WriteCall, ReadCall, RunCall, FrameCall, EncodeCall, EncodeRunCall, PrecodeCall, StartCall, StepCall, CodesCall}
+
+-- a uint32_t
+abbrev pub u32 : ℕ → Bool
+u32 n = ltb n (2 ^ 32)
+
+-- a size_t
+abbrev pub usize : ℕ → Bool
+usize n = ltb n (2 ^ 64)
+
+-- an int32_t; `negsuc n` is -(n + 1)
+abbrev pub i32 : ℤ → Bool
+i32 (pos n) = ltb n (2 ^ 31)
+i32 (negsuc n) = ltb n (2 ^ 31)
+
+-- octets
+abbrev pub octets : List ℕ → Bool
+octets [] = true
+octets (o ∷ os) = ltb o 256 && octets os
+
+-- a buffer
+abbrev pub buffer : List ℕ → Bool
+buffer s = usize (length s) && octets s
+
+-- a struct sdsl_supervisor
+abbrev pub supervisor : Supervisor → Bool
+supervisor s = u32 (s .end) && u32 (s .phase) && u32 (s .ticks) && u32 (s .attempt) && u32 (s .silence) && u32 (s .converged) && u32 (s .seen)
+
+-- which calls are meant, of each function
+pub record Calls : Type 0 where
+  pub write : WriteCall → Bool
+  pub check : List ℕ → Bool
+  pub read : ReadCall → Bool
+  pub run : RunCall → Bool
+  pub frame : FrameCall → Bool
+  pub activation : ℕ → Bool
+  pub level : ℕ → Bool
+  pub code : ℤ → Bool
+  pub encode : EncodeCall → Bool
+  pub encode-run : EncodeRunCall → Bool
+  pub precode : PrecodeCall → Bool
+  pub decode : PrecodeCall → Bool
+  pub shape : ℤ → Bool
+  pub start : StartCall → Bool
+  pub step : StepCall → Bool
+  pub run-codes : CodesCall → Bool
+
+-- those that C can make
+abbrev pub fromC : Calls
+fromC = record {
+  write = λ c. u32 (c .kind) && u32 (c .count) && buffer (c .coefficients) && u32 (c .a) && u32 (c .b) && buffer (c .vendor) && buffer (c .frame);
+  check = λ frame. buffer frame;
+  read = λ c. buffer (c .frame) && buffer (c .coefficients) && buffer (c .vendor);
+  run = λ c. u32 (c .end) && u32 (c .state) && buffer (c .input) && usize (c .bits) && buffer (c .output);
+  frame = λ c. u32 (c .end) && u32 (c .state) && buffer (c .frame) && buffer (c .output);
+  activation = λ bit. u32 bit;
+  level = λ code. u32 code;
+  code = λ sixteenths. i32 sixteenths;
+  encode = λ c. u32 (c .a) && u32 (c .b) && u32 (c .register) && u32 (c .symbol);
+  encode-run = λ c. u32 (c .a) && u32 (c .b) && u32 (c .register) && buffer (c .symbols) && buffer (c .codes);
+  precode = λ c. buffer (c .coefficients) && buffer (c .history) && buffer (c .symbols) && buffer (c .room);
+  decode = λ c. buffer (c .coefficients) && buffer (c .history) && buffer (c .symbols) && buffer (c .room);
+  shape = λ y. i32 y;
+  start = λ c. u32 (c .end) && u32 (c .silence);
+  step = λ c. supervisor (c .state) && u32 (c .code);
+  run-codes = λ c. supervisor (c .state) && buffer (c .codes);
+}
+
+-- every call, of any numbers and lists
+abbrev pub everyCall : Calls
+everyCall = record {
+  write = λ c. true;
+  check = λ frame. true;
+  read = λ c. true;
+  run = λ c. true;
+  frame = λ c. true;
+  activation = λ bit. true;
+  level = λ code. true;
+  code = λ sixteenths. true;
+  encode = λ c. true;
+  encode-run = λ c. true;
+  precode = λ c. true;
+  decode = λ c. true;
+  shape = λ y. true;
+  start = λ c. true;
+  step = λ c. true;
+  run-codes = λ c. true;
+}

@@ -1,0 +1,43 @@
+-- NO STRAW MAN: each version that has to be rejected can be built so that it meets demand 1 (theorem `no-straw-man`: ours with one function changed).
+use mathlib.Core.Path.{_≡_}
+use Prim.Native.Nat.{_≤_}
+use Rattle.recurrence.specs.Run.{Way}
+use Rattle.demands.specs.Library.{Outcome, Library}
+use Rattle.demands.specs.One.{One}
+use Rattle.demands.specs.Three.{supervisor}
+use Rattle.demands.specs.WrongLibraries.{Refuses, OneFrame, FrameUnwritten, CoefficientsUnwritten, VendorUnwritten, RunUnwritten, WholeUnwritten}
+use Rattle.demands.specs.WrongLibraries.{CodesUnwritten, PrecodedUnwritten, DecodedUnwritten, CopiesTheRest, TurnsA, TurnsB}
+use Rattle.demands.specs.WrongSupervisors.{MovesOnce, NeverOpens, CallsException, SameTicks, CountsCodes, GivesUp, EndsTooLate}
+
+-- such a version that meets demand 1
+abbrev pub Built : (Library → Type 0) → Type 0
+Built P = (x : Library) × One x × P x
+
+-- demand 1 but for "None is given otherwise", which already rules out refusing everything
+pub record OtherwiseAnswers {C N M : Type 0} (f : C → Outcome N M) (before : C → M) (nothing : N) : Type 0 where
+  pub in-table : (c : C) → f c .answer ≤ 8
+  pub no-numbers : (c : C) → (f c .answer ≡ 0 → ⊥) → f c .numbers ≡ nothing
+  pub unchanged : (c : C) → (f c .answer ≡ 0 → ⊥) → f c .memory ≡ before c
+
+-- each version has been built
+pub record NoStrawMan : Type 1 where
+  pub refuses : {C N M : Type 0} (before : C → M) (nothing : N) → (f : C → Outcome N M) × Refuses f × OtherwiseAnswers f before nothing
+  pub one-frame : Built OneFrame
+  pub frame-unwritten : Built FrameUnwritten
+  pub coefficients-unwritten : Built CoefficientsUnwritten
+  pub vendor-unwritten : Built VendorUnwritten
+  pub run-unwritten : (way : Way) → Built (RunUnwritten way)
+  pub whole-unwritten : (way : Way) → Built (WholeUnwritten way)
+  pub codes-unwritten : Built CodesUnwritten
+  pub precoded-unwritten : Built PrecodedUnwritten
+  pub decoded-unwritten : Built DecodedUnwritten
+  pub copies-the-rest : Built CopiesTheRest
+  pub turns-a : Built TurnsA
+  pub turns-b : Built TurnsB
+  pub moves-once : Built (λ x. MovesOnce (supervisor x))
+  pub never-opens : Built (λ x. NeverOpens (supervisor x))
+  pub calls-exception : Built (λ x. CallsException (supervisor x))
+  pub same-ticks : Built (λ x. SameTicks (supervisor x))
+  pub counts-codes : Built (λ x. CountsCodes (supervisor x))
+  pub gives-up : Built (λ x. GivesUp (supervisor x))
+  pub ends-too-late : Built (λ x. EndsTooLate (supervisor x))

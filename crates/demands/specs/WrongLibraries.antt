@@ -1,0 +1,102 @@
+-- LIBRARIES THAT HAVE TO BE REJECTED by demand 2 (SCOPE, "What the contracts owe"): what such a one does, over calls that are answered.
+use mathlib.Core.Path.{_≡_}
+use mathlib.Core.List.{List, reverse}
+use Prim.Native.Nat.{ℕ, _≤_, _<_}
+use lib.ListN.{getD, take}
+use Rattle.octets.specs.Bits.{valueOf, bitsOf}
+use Rattle.layout.specs.Places.{aField, bField}
+use Rattle.layout.specs.Frame.{fieldOf}
+use Rattle.recurrence.specs.Line.{Scrambles}
+use Rattle.recurrence.specs.Run.{Way, scramble}
+use Rattle.scrambler.specs.Ends.{tapOf}
+use Rattle.scrambler.specs.Promises.{given}
+use Rattle.demands.specs.Library.{Outcome, WriteCall, ReadCall, RunCall, Library}
+
+-- a function that refuses everything
+abbrev pub Refuses : {C N M : Type 0} → (C → Outcome N M) → Type 0
+Refuses {C} f = (c : C) → f c .answer ≡ 0 → ⊥
+
+-- a writer that returns one frame always
+abbrev pub OneFrame : Library → Type 0
+OneFrame x = (frame : List ℕ) × ((c : WriteCall) → x .write c .answer ≡ 0 → x .write c .memory ≡ frame)
+
+-- a function that leaves an output unwritten: afterwards it holds what it held
+abbrev pub Unwritten : {C N M A : Type 0} → (C → Outcome N M) → (M → A) → (C → A) → Type 0
+Unwritten {C} f output before = (c : C) → f c .answer ≡ 0 → output (f c .memory) ≡ before c
+
+-- the writer's frame
+abbrev pub FrameUnwritten : Library → Type 0
+FrameUnwritten x = Unwritten (x .write) (λ m. m) (λ c. c .frame)
+
+-- the reader's coefficients
+abbrev pub CoefficientsUnwritten : Library → Type 0
+CoefficientsUnwritten x = Unwritten (x .read) (λ m. m .coefficients) (λ c. c .coefficients)
+
+-- its vendor data
+abbrev pub VendorUnwritten : Library → Type 0
+VendorUnwritten x = Unwritten (x .read) (λ m. m .vendor) (λ c. c .vendor)
+
+-- what a scrambler or a descrambler puts out for a run
+abbrev pub RunUnwritten : Way → Library → Type 0
+RunUnwritten way x = Unwritten (x .run way) (λ m. m .output) (λ c. c .output)
+
+-- and for a whole frame
+abbrev pub WholeUnwritten : Way → Library → Type 0
+WholeUnwritten way x = Unwritten (x .frame way) (λ m. m .output) (λ c. c .output)
+
+-- the codes of an encoder's run
+abbrev pub CodesUnwritten : Library → Type 0
+CodesUnwritten x = Unwritten (x .encode-run) (λ m. m .codes) (λ c. c .codes)
+
+-- what the precoder puts out
+abbrev pub PrecodedUnwritten : Library → Type 0
+PrecodedUnwritten x = Unwritten (x .precode) (λ m. m .room) (λ c. c .room)
+
+-- and its inverse
+abbrev pub DecodedUnwritten : Library → Type 0
+DecodedUnwritten x = Unwritten (x .decode) (λ m. m .room) (λ c. c .room)
+
+-- "a scrambler right for its first bit and copying the rest"
+pub record CopiesTheRest (x : Library) : Type 0 where
+  pub first : (c : RunCall) → x .run scramble c .answer ≡ 0
+      → Scrambles (tapOf (c .end)) (c .state) (take 1 (given (c .input) (c .bits))) (take 1 (given (x .run scramble c .memory .output) (c .bits)))
+  pub rest : (c : RunCall) (n : ℕ) → x .run scramble c .answer ≡ 0 → 1 ≤ n → n < c .bits
+      → getD (given (x .run scramble c .memory .output) (c .bits)) n 0 ≡ getD (given (c .input) (c .bits)) n 0
+
+-- a reader with "A or B taken with the first bit as the highest", as the old bench program had it: A
+abbrev pub TurnsA : Library → Type 0
+TurnsA x = (c : ReadCall) → x .read c .answer ≡ 0 → x .read c .numbers .kind ≡ 0
+    → x .read c .numbers .a ≡ valueOf (reverse (fieldOf aField (bitsOf (c .frame))))
+
+-- or B
+abbrev pub TurnsB : Library → Type 0
+TurnsB x = (c : ReadCall) → x .read c .answer ≡ 0 → x .read c .numbers .kind ≡ 0
+    → x .read c .numbers .b ≡ valueOf (reverse (fieldOf bField (bitsOf (c .frame))))
+
+-- a library is none of these (theorem `rejected-by-two`: none that meets demand 2 is)
+pub record RejectedByTwo (x : Library) : Type 0 where
+  pub refuses-writing : Refuses (x .write) → ⊥
+  pub refuses-checking : Refuses (x .check) → ⊥
+  pub refuses-reading : Refuses (x .read) → ⊥
+  pub refuses-runs : (way : Way) → Refuses (x .run way) → ⊥
+  pub refuses-frames : (way : Way) → Refuses (x .frame way) → ⊥
+  pub refuses-activation : Refuses (x .activation) → ⊥
+  pub refuses-levels : Refuses (x .level) → ⊥
+  pub refuses-codes : Refuses (x .code) → ⊥
+  pub refuses-encoding : Refuses (x .encode) → ⊥
+  pub refuses-encoder-runs : Refuses (x .encode-run) → ⊥
+  pub refuses-precoding : Refuses (x .precode) → ⊥
+  pub refuses-decoding : Refuses (x .decode) → ⊥
+  pub refuses-shaping : Refuses (x .shape) → ⊥
+  pub one-frame : OneFrame x → ⊥
+  pub frame-unwritten : FrameUnwritten x → ⊥
+  pub coefficients-unwritten : CoefficientsUnwritten x → ⊥
+  pub vendor-unwritten : VendorUnwritten x → ⊥
+  pub run-unwritten : (way : Way) → RunUnwritten way x → ⊥
+  pub whole-unwritten : (way : Way) → WholeUnwritten way x → ⊥
+  pub codes-unwritten : CodesUnwritten x → ⊥
+  pub precoded-unwritten : PrecodedUnwritten x → ⊥
+  pub decoded-unwritten : DecodedUnwritten x → ⊥
+  pub copies-the-rest : CopiesTheRest x → ⊥
+  pub turns-a : TurnsA x → ⊥
+  pub turns-b : TurnsB x → ⊥
