@@ -28,7 +28,7 @@ use Rattle.symbol.specs.Levels.{placeIn}
 use Rattle.symbol.specs.Encoder.{symbolsIn}
 use Rattle.host.specs.declared.supervising.Supervisor.{Supervisor}
 use Rattle.precoder.specs.Precoder.{exactSum}
-use Rattle.precoder.specs.Runs.{outputsOf}
+use Rattle.precoder.proofs.Recipe.{turnedOf, outputsOf}
 use Rattle.precoder.proofs.Back.{sent-unique, outputs-sent}
 use Rattle.demands.specs.Library.{Outcome, None, WriteCall, ReadCall, Fields, Rooms, RunCall, FrameCall, Line, EncodeCall, EncodeRunCall, PrecodeCall, StartCall, StepCall, CodesCall, Signal, Library}
 use Rattle.demands.specs.One.{One, writeChecks, frameChecks, precodeChecks}
@@ -192,7 +192,7 @@ module _ (x : Library) (two : Two x) where
   copies-refuted w = omega (arith, sym (ap (λ (l : List ℕ). getD (bitsOf l) 5 0) (scrambled scramble .1)) ∙ w six-ones 5 (lit≤ tt) (lit≤ tt))
 
   precoded : (x .precode one-symbol .answer ≡ 0) × (x .precode one-symbol .memory .room ≡ 1 ∷ 0 ∷ 0 ∷ 0 ∷ [])
-  unfolding numbersOf numbersIn signedOf bitsOf digitsOf valueOf numberOctets numberBits twosOf octetsOf outputsOf exactSum
+  unfolding numbersOf numbersIn signedOf bitsOf digitsOf valueOf numberOctets numberBits twosOf octetsOf turnedOf exactSum
   precoded =
       let w = two .exact .precoding .precoded one-symbol symbol-right in
       let cs = numbersOf (zeros 720) in
