@@ -1,17 +1,18 @@
--- `precoder::decode_run` meets its contract. Assumes nothing.
+-- `precoder::run` meets its contract. Assumes nothing.
 use borrow.Author.Needs.{needs}
 use borrow.Author.Tests.{not-true, not-false}
 use mathlib.Core.Path.{_≡_, refl, sym, ap, _∙_}
 use mathlib.Core.Bool.{true, false}
-use mathlib.Core.List.{List}
+use mathlib.Core.List.{List, []}
 use Prim.Native.Nat.{ℕ, _/_, _%_}
+use native.Mathlib.Omega.{arith}
 use lib.ListN.{length}
 use Rattle.numbers.specs.Promises.{numbersOf, numberOctets}
 use Rattle.precoder.specs.Runs.{lengthsRight, rangesRight}
 use Rattle.numbers.proofs.Laws.{numbers-many, numbers-whole, put-whole}
 use Rattle.precoder.proofs.Turns.{lengths-are, past-length}
-use Rattle.precoder.proofs.decode_run.Statement.{statement}
-use Rattle.precoder.proofs.decode_run.Tie as tie
+use Rattle.precoder.proofs.run.Statement.{statement}
+use Rattle.precoder.proofs.run.Tie as tie
 
 -- what the check of the lengths has shown
 module _ (c : tie.Else1) where
@@ -22,10 +23,10 @@ module _ (c : tie.Else1) where
   history = c .before .before .before .before .before .before .before .before .args .history .now
 
   abbrev symbols : List ℕ
-  symbols = c .before .before .before .before .before .before .before .before .args .ys .now
+  symbols = c .before .before .before .before .before .before .before .before .args .symbols .now
 
   abbrev room : List ℕ
-  room = c .before .before .before .before .before .before .before .before .args .xs .now
+  room = c .before .before .before .before .before .before .before .before .args .room .now
 
   right : lengthsRight coefficients history symbols room ≡ true
   right = sym (c .before .lengths-right .ensures) ∙ not-false _ (c .if1 .left)
@@ -62,6 +63,8 @@ returns : tie.Need-returns
 returns c =
     record {
       answered = rw (sym (c .before .lengths-right .ensures) ∙ not-true _ (c .if1 .taken));
+      out = [];
+      turns = λ z. absurd (omega arith);
       written = refl;
       past = refl;
     }
@@ -88,18 +91,20 @@ returns-2 c =
     rw (taps-are (c .before), past-is (c .before)) at (sym (c .before .ranges-right .ensures) ∙ not-true _ (c .if2 .taken)) in
     record {
       answered = rw (right e, out);
+      out = [];
+      turns = λ z. absurd (omega arith);
       written = refl;
       past = refl;
     }
 
-receive-all-requires : tie.Need-receive-all-requires
-receive-all-requires c κs = let e = c .before .before .before in (in-range e, lengths (e .before .before .before .before .before .before .before) .2, lengths (e .before .before .before .before .before .before .before) .3)
+turn-all-requires : tie.Need-turn-all-requires
+turn-all-requires c κs = let e = c .before .before .before in (in-range e, lengths (e .before .before .before .before .before .before .before) .2, lengths (e .before .before .before .before .before .before .before) .3)
 
 slice-aggregate-put-numbers : tie.Need-slice-aggregate-put-numbers
 slice-aggregate-put-numbers c =
     let d = c .before .before .before .before .before .before .before .before .before in
     let e = d .before .before .before .before .before .before in
-    sym (ap length (c .before .before .before .before .receive-all .ensures .1) ∙ past-length _ _ (ap length (past-is d) ∙ numbers-many (history e) ∙ ap (λ (n : ℕ). n / 4) (lengths e .1)))
+    sym (ap length (c .before .before .before .before .turn-all .ensures .past-is) ∙ past-length _ _ (ap length (past-is d) ∙ numbers-many (history e) ∙ ap (λ (n : ℕ). n / 4) (lengths e .1)))
 
 put-numbers-requires : tie.Need-put-numbers-requires
 put-numbers-requires c κs = search needs
@@ -114,18 +119,20 @@ returns-3 : tie.Need-returns-3
 returns-3 c =
     let d = c .before .before .before .before .before .before .before .before .before .before .before in
     let e = d .before .before .before .before .before .before .before in
-    let run = c .before .before .before .before .before .before .before .receive-all in
+    let run = c .before .before .before .before .before .before .before .turn-all in
     let t = taps-are (d .before) in
     let p = past-is (d .before) in
-    let many = ap length (run .ensures .1) ∙ past-length _ _ (ap length p ∙ numbers-many (history e) ∙ ap (λ (n : ℕ). n / 4) (lengths e .1)) in
+    let many = ap length (run .ensures .past-is) ∙ past-length _ _ (ap length p ∙ numbers-many (history e) ∙ ap (λ (n : ℕ). n / 4) (lengths e .1)) in
     record {
       answered = rw (right e, values-in-range d);
-      written = rw (t, p) at (run .ensures .0);
-      past = c .before .before .put-numbers .ensures ∙ put-whole (history e) (lengths e .1) _ many ∙ ap numberOctets (rw p at (run .ensures .1));
+      out = run .ensures .out;
+      turns = λ z. rw (t, p) at (run .ensures .turns);
+      written = run .ensures .written;
+      past = c .before .before .put-numbers .ensures ∙ put-whole (history e) (lengths e .1) _ many ∙ ap numberOctets (rw p at (run .ensures .past-is));
     }
 
-pub decode-run-spec : {M : Type 1} → statement M
-decode-run-spec =
+pub run-spec : {M : Type 1} → statement M
+run-spec =
     tie.close
     (tie.spec
     lengths-right-requires
@@ -138,7 +145,7 @@ decode-run-spec =
     same-length-3
     same-length-4
     returns-2
-    receive-all-requires
+    turn-all-requires
     slice-aggregate-put-numbers
     put-numbers-requires
     same-length-5
