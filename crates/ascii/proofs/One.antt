@@ -4,6 +4,7 @@ use mathlib.Core.List.{List, _++_}
 use Prim.Native.Nat.{ℕ}
 use lib.ListN.{take, drop}
 use Rattle.ascii.specs.Promises.{Put, Told}
+use Rattle.ascii.specs.Plain.{TextLength}
 
 -- put, put_word, put_decimal, put_signed, put_hex and put_hexes: each promises `Put` of a text that its arguments give
 pub put-one : (room : List ℕ) (at : ℕ) (text : List ℕ) (r r′ : ℕ) (t t′ : List ℕ) → Put room at text r t → Put room at text r′ t′ → (r ≡ r′) × (t ≡ t′)
@@ -14,3 +15,7 @@ pub told-one : (text room : List ℕ) (r r′ : ℕ) (t t′ : List ℕ) → Tol
 told-one text room r r′ t t′ p q =
     let e : r ≡ r′ = p .count ∙ sym (q .count) in
     (e, p .room-left ∙ ap (λ (n : ℕ). take n text ++ drop n room) e ∙ sym (q .room-left))
+
+-- how many octets of a field are text
+pub text-length-one : (os : List ℕ) (r r′ : ℕ) → TextLength os r → TextLength os r′ → r ≡ r′
+text-length-one os r r′ p q = p ∙ sym q

@@ -3,9 +3,11 @@
 ghost use mathlib.Core.Path.{_≡_};
 ghost use mathlib.Core.List.{_∷_, []};
 ghost use Prim.Native.Nat.{_<_};
+ghost use lib.ListN.{drop};
 ghost use Rattle.ascii.specs.Text.{decimal, signed, hex, hexes};
 ghost use Rattle.ascii.specs.Text.{digit as digitOf};
 ghost use Rattle.ascii.specs.Promises.{Put};
+ghost use Rattle.ascii.specs.Plain.{isPrintable, printables, allZeros, TextLength};
 
 // One octet of text.
 pub fn put(room: &mut [u8], at: usize, octet: u8) -> usize
@@ -81,4 +83,54 @@ pub fn put_hexes(room: &mut [u8], at: usize, octets: &[u8]) -> usize
         k += 1;
     }
     next
+}
+
+// Whether an octet is a printable character.
+fn is_printable(octet: u8) -> bool
+    ensures { λ r. ⌜ r ≡ isPrintable octet ⌝ }
+{
+    if octet < b' ' {
+        return false;
+    }
+    octet <= b'~'
+}
+
+// How many printable octets stand at the front.
+fn printables(octets: &[u8]) -> usize
+    ensures { λ r. ⌜ r ≡ printables (now (octets .entry)) ⌝ }
+{
+    let mut k = 0;
+    while k < octets.len() {
+        if is_printable(octets[k]) {
+            k += 1;
+        } else {
+            return k;
+        }
+    }
+    k
+}
+
+// Whether all octets from a place on are zero.
+fn is_zero_from(octets: &[u8], at: usize) -> bool
+    ensures { λ r. ⌜ r ≡ allZeros (drop at (now (octets .entry))) ⌝ }
+{
+    let mut k = at;
+    while k < octets.len() {
+        if octets[k] != 0 {
+            return false;
+        }
+        k += 1;
+    }
+    true
+}
+
+// How many octets of a field are text: printable ones at its front, where only zeros follow; else 0.
+pub fn text_length(octets: &[u8]) -> usize
+    ensures { λ r. ⌜ TextLength (now (octets .entry)) r ⌝ }
+{
+    let n = printables(octets);
+    if is_zero_from(octets, n) {
+        return n;
+    }
+    0
 }

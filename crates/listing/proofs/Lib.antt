@@ -1,4 +1,6 @@
 pub mod Laws
+pub mod Wording
 pub mod Fits
+pub mod WordsFit
 pub mod One
 pub mod Example

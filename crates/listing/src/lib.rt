@@ -1,7 +1,9 @@
 // The bench listing (SCOPE): a frame's text, put into a lent room. What the text is, is specs/Listing.antt.
 ghost use mathlib.Core.Path.{_≡_};
+ghost use mathlib.Core.Bool.{cond};
 ghost use mathlib.Core.List.{_∷_, [], _++_};
 ghost use Prim.Native.Nat.{_<_, _≤_};
+ghost use lib.Dec.{eqb, ltb};
 ghost use lib.ListN.{length, take};
 ghost use Rattle.octets.specs.Bits.{bitsOf};
 ghost use Rattle.remainder.specs.Division.{polynomial};
@@ -11,6 +13,7 @@ ghost use Rattle.ascii.specs.Text.{hexes};
 ghost use Rattle.ascii.specs.Promises.{Put};
 ghost use Rattle.listing.specs.Listing.{numberLine, coefficientLine, coefficientLines, vendorLine, checkLine, trainingText, finalText};
 ghost use Rattle.listing.specs.Promises.{Listed};
+ghost use Rattle.listing.specs.Words.{lengthWords, reasonWords, refusalWords, vendorWords, Worded};
 
 // The line of coefficient number k.
 fn put_coefficient_line(room: &mut [u8], at: usize, k: u32, c: i32) -> usize
@@ -111,5 +114,101 @@ pub fn list(frame: &[u8], room: &mut [u8]) -> usize
         put_training(room, &cs, found.a, found.b, &vendor, check)
     } else {
         put_final(room, &vendor, check)
+    }
+}
+
+// Why a file of so many octets is no frame.
+fn put_length(room: &mut [u8], at: usize, octets: usize) -> usize
+    ensures { λ r. ⌜ Put (now (room .entry)) at (lengthWords octets) r (now (room .exit)) ⌝ }
+{
+    if layout::FRAME_OCTETS < octets {
+        return ascii::put_word(
+            room,
+            at,
+            b"the file has more than 529 octets, a frame has 529: a file holds one frame; capture it again",
+        );
+    }
+    if octets == 1 {
+        return ascii::put_word(
+            room,
+            at,
+            b"the file has 1 octet, a frame has 529: it is cut short; capture it again",
+        );
+    }
+    forms::put_form(
+        room,
+        at,
+        b"the file has # octets, a frame has 529: it is cut short; capture it again",
+        &[octets as u32],
+    )
+}
+
+// The row of a refusal's words: its number, 0 where it is none.
+fn reason_row(n: u32) -> u32
+    ensures { λ r. ⌜ r ≡ cond (ltb 8 n) 0 n ⌝ }
+{
+    if answer::RESERVED < n { 0 } else { n }
+}
+
+// Why a frame is refused.
+fn put_reason(room: &mut [u8], at: usize, n: u32) -> usize
+    ensures { λ r. ⌜ Put (now (room .entry)) at (reasonWords n) r (now (room .exit)) ⌝ }
+{
+    forms::put_row(
+        room,
+        at,
+        b"\n\n\n\n\n\
+          the sync word is neither of the two: this is no descrambled frame, or its octets hold the first bit highest; capture it again\n\
+          a pad bit is not zero: the last octet holds more than the end of a frame; capture it again\n\
+          the check bits differ: the frame is damaged; capture it again\n\
+          a reserved bit is not zero: the card sets bits that a training frame leaves zero; do not ship it, ask its maker\n",
+        reason_row(n),
+    )
+}
+
+// The same, or why the file is none.
+fn put_either(room: &mut [u8], at: usize, n: u32, octets: usize) -> usize
+    ensures { λ r. ⌜ Put (now (room .entry)) at (cond (eqb n 1) (lengthWords octets) (reasonWords n)) r (now (room .exit)) ⌝ }
+{
+    if n == answer::LENGTH {
+        put_length(room, at, octets)
+    } else {
+        put_reason(room, at, n)
+    }
+}
+
+// The line of a refusal.
+fn put_refusal(room: &mut [u8], n: u32, octets: usize) -> usize
+    ensures { λ r. ⌜ Put (now (room .entry)) 0 (refusalWords n octets) r (now (room .exit)) ⌝ }
+{
+    let mut at = ascii::put_word(room, 0, b"lister: ");
+    at = put_either(room, at, n, octets);
+    ascii::put(room, at, b'\n')
+}
+
+// The line of vendor data, where it is text.
+fn put_vendor(room: &mut [u8], vendor: &[u8]) -> usize
+    ensures { λ r. ⌜ Put (now (room .entry)) 0 (vendorWords (now (vendor .entry))) r (now (room .exit)) ⌝ }
+{
+    let n = ascii::text_length(vendor);
+    if n == 0 {
+        return 0;
+    }
+    let mut at = ascii::put_word(room, 0, b"lister: vendor data as text: ");
+    at = ascii::put_word(room, at, &vendor[..n]);
+    ascii::put(room, at, b'\n')
+}
+
+// What is said of the octets read, and how much of the room it takes.
+pub fn words(frame: &[u8], room: &mut [u8]) -> usize
+    ensures { λ r. ⌜ Worded (now (frame .entry)) (now (room .entry)) r (now (room .exit)) ⌝ }
+{
+    let mut cs = [0i32; layout::COEFFICIENTS];
+    let mut vendor = [0u8; layout::VENDOR_OCTETS];
+    let found = reader::read(frame, &mut cs, &mut vendor);
+    if found.answer == answer::DONE {
+        put_vendor(room, &vendor)
+    } else {
+        put_refusal(room, found.answer, frame.len())
     }
 }

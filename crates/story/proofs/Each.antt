@@ -26,7 +26,7 @@ use Rattle.story.specs.Events.{kindWith, sinceOpening}
 -- ---- an event by its number
 
 -- startup's event, by its three tests
-abbrev eventBy : Bool → Bool → Bool → ℕ
+abbrev pub eventBy : Bool → Bool → Bool → ℕ
 eventBy a c d = cond a (cond c 0 (cond d 2 3)) (cond c 1 0)
 
 opening-event : (a c d : Bool) → eventBy a c d ≡ 1 → (a ≡ false) × (c ≡ true)
@@ -74,6 +74,8 @@ pub record Turn (s : Supervisor) (k : Card) (l : List ℕ) (p : ℕ) : Type 0 wh
   pub in-data : (attemptEvent (after s l p .phase) (after s l (suc p) .phase) ≡ 2) ↔ ((m : ℕ) × OpensAt k l m × EndsInData k l m p)
   pub in-exception : (attemptEvent (after s l p .phase) (after s l (suc p) .phase) ≡ 3) ↔ ((m : ℕ) × OpensAt k l m × EndsInException k l m p)
   pub ticks : (m : ℕ) → OpensAt k l m → StillOpen k l m p → sinceOpening (after s l p) (at l p) ≡ count 0 l m (suc p)
+  -- those of an attempt that it ends in data mode too
+  pub data-ticks : (m : ℕ) → OpensAt k l m → EndsInData k l m p → sinceOpening (after s l p) (at l p) ≡ count 0 l m (suc p)
 
 module _ (b : Bool) (sil : ℕ) (lo : 2000 ≤ sil) (hi : sil ≤ 60000) (l : List ℕ) (p : ℕ) where
   abbrev k : Card
@@ -145,6 +147,7 @@ module _ (b : Bool) (sil : ℕ) (lo : 2000 ≤ sil) (hi : sil ≤ 60000) (l : Li
     in-data = (data-there, λ w. event-data (w .0) (w .1) (w .2));
     in-exception = (exception-there, λ w. event-exception (w .0) (w .1) (w .2));
     ticks = ticks-there;
+    data-ticks = λ m o d. ticks-there m o (data-open k sd l m p d);
   }
 
 -- from a start of either end

@@ -1,6 +1,6 @@
 -- Laws of events. Assumes nothing.
 use mathlib.Core.Path.{_≡_, sym, ap, _∙_}
-use mathlib.Core.Bool.{Bool, true, false}
+use mathlib.Core.Bool.{Bool, true, false, cond}
 use Prim.Native.Nat.{ℕ, _+_, _≤_, _<_}
 use native.Mathlib.Omega.{arith}
 use borrow.Author.Tests.{eq-eqb, ne-eqb, le-leb, lt-leb}
@@ -13,9 +13,10 @@ use Rattle.supervisor.specs.Step.{stepOf, stateRefusals}
 use Rattle.supervisor.proofs.Laws.{legal}
 use Rattle.startup.specs.Attempts.{one}
 use Rattle.startup.specs.Run.{eventOf as attemptEvent}
+use Rattle.story.specs.declared.Outcome.{Outcome}
 use Rattle.story.specs.declared.Story.{Story}
 use Rattle.story.specs.declared.Event.{Event}
-use Rattle.story.specs.Events.{story, refusedWith, kindWith, kindOf, sinceOpening, numberOf, told, eventWith, startWith}
+use Rattle.story.specs.Events.{most, outcome, story, beginning, refusedWith, kindWith, kindOf, sinceOpening, numberOf, told, eventWith, startWith}
 
 -- ---- what there is to tell
 
@@ -44,12 +45,26 @@ module _ (s t : Supervisor) (c e : ℕ) (q : e ≡ attemptEvent (s .phase) (t .p
       pub kind-seen : s .converged ≡ t .converged → (s .seen ≡ t .seen → ⊥) → 6 ≡ kindOf s t c
       kind-seen m h =
           as-kind 6
-          (simp (eq-eqb e 0 z, eq-eqb (s .phase) (t .phase) p, ne-eqb c 0 k, ne-eqb c 8 l, eq-eqb (s .converged) (t .converged) m, ne-eqb (s .seen) (t .seen) h))
+          (simp (
+            eq-eqb e 0 z,
+            eq-eqb (s .phase) (t .phase) p,
+            ne-eqb c 0 k,
+            ne-eqb c 8 l,
+            eq-eqb (s .converged) (t .converged) m,
+            ne-eqb (s .seen) (t .seen) h,
+          ))
 
       pub kind-ignored : s .converged ≡ t .converged → s .seen ≡ t .seen → 7 ≡ kindOf s t c
       kind-ignored m h =
           as-kind 7
-          (simp (eq-eqb e 0 z, eq-eqb (s .phase) (t .phase) p, ne-eqb c 0 k, ne-eqb c 8 l, eq-eqb (s .converged) (t .converged) m, eq-eqb (s .seen) (t .seen) h))
+          (simp (
+            eq-eqb e 0 z,
+            eq-eqb (s .phase) (t .phase) p,
+            ne-eqb c 0 k,
+            ne-eqb c 8 l,
+            eq-eqb (s .converged) (t .converged) m,
+            eq-eqb (s .seen) (t .seen) h,
+          ))
 
 -- ---- an event
 
@@ -63,14 +78,14 @@ module _ (g : Answer) (s : Story) (c : ℕ) where
   event-refused r h e = simp (ne-eqb (g .answer) 0 h) (e ∙ sym (kept (g .answer) (refusedWith s (g .answer)) (told s (g .state) c) h))
 
   module _ (z : g .answer ≡ 0) where
-    pub event-late : (r : Event) → 1000000000 ≤ s .clock → r ≡ refusedWith s 4 → r ≡ eventWith g s c
-    event-late r h e = simp (z, le-leb 1000000000 (s .clock) h) e
+    pub event-late : (r : Event) → most ≤ s .clock → r ≡ refusedWith s 4 → r ≡ eventWith g s c
+    event-late r h e = simp (z, le-leb most (s .clock) h) e
 
-    pub event-many : (r : Event) → s .clock < 1000000000 → 1000000000 ≤ s .attempts → r ≡ refusedWith s 4 → r ≡ eventWith g s c
-    event-many r l h e = simp (z, lt-leb 1000000000 (s .clock) l, le-leb 1000000000 (s .attempts) h) e
+    pub event-many : (r : Event) → s .clock < most → most ≤ s .attempts → r ≡ refusedWith s 4 → r ≡ eventWith g s c
+    event-many r l h e = simp (z, lt-leb most (s .clock) l, le-leb most (s .attempts) h) e
 
-    pub event-told : (r : Event) → s .clock < 1000000000 → s .attempts < 1000000000 → r ≡ told s (g .state) c → r ≡ eventWith g s c
-    event-told r l h e = simp (z, lt-leb 1000000000 (s .clock) l, lt-leb 1000000000 (s .attempts) h) e
+    pub event-told : (r : Event) → s .clock < most → s .attempts < most → r ≡ told s (g .state) c → r ≡ eventWith g s c
+    event-told r l h e = simp (z, lt-leb most (s .clock) l, lt-leb most (s .attempts) h) e
 
 -- a test counts 1 at most
 pub one-small : (b : Bool) (n : ℕ) → n ≡ one b → n ≤ 1
@@ -78,18 +93,21 @@ one-small true n e = omega arith
 one-small false n e = omega arith
 
 -- the parts of an event
-pub told-is : (s : Story) (t : Supervisor) (c e o o′ k n u : ℕ) → e ≡ attemptEvent (s .state .phase) (t .phase) → o ≡ one (eqb c 0) → o′ ≡ one (eqb e 1)
-    → k ≡ kindOf (s .state) t c → n ≡ numberOf (s .state .phase) e (s .attempts + o′) → u ≡ sinceOpening (s .state) c
-    → _≡_ {A = Event} (record { answer = 0; kind = k; code = c; attempt = n; ticks = u; story = story t (s .clock + o) (s .attempts + o′) }) (told s t c)
-told-is s t c e o o′ k n u qe qo qo′ qk qn qu = rw (qk, qn, qu, qo, qo′, qe)
+pub told-is : (s : Story) (t : Supervisor) (c e o o′ u i k n : ℕ) (w : Outcome) → e ≡ attemptEvent (s .state .phase) (t .phase)
+    → u ≡ sinceOpening (s .state) c → o ≡ one (eqb c 0) → o′ ≡ one (eqb e 1) → w ≡ cond (ltb 1 e) (outcome e u (s .state .phase) c) (s .last)
+    → i ≡ cond (eqb (s .state .phase) (t .phase)) (s .entered) (s .clock + o) → k ≡ kindOf (s .state) t c
+    → n ≡ numberOf (s .state .phase) e (s .attempts + o′)
+    → _≡_ {A = Event} (record { answer = 0; kind = k; code = c; attempt = n; ticks = u; story = story t (s .clock + o) (s .attempts + o′) i w }) (told s t c)
+told-is s t c e o o′ u i k n w qe qu qo qo′ qw qi qk qn = rw (qk, qn, qi, qw, qu, qo, qo′, qe)
 
 -- ---- a start
 
-pub start-refused : (g : Answer) (r : Event) → (g .answer ≡ 0 → ⊥) → r ≡ refusedWith (story (g .state) 0 0) (g .answer) → r ≡ startWith g
+pub start-refused : (g : Answer) (r : Event) → (g .answer ≡ 0 → ⊥) → r ≡ refusedWith (beginning (g .state)) (g .answer) → r ≡ startWith g
 start-refused g r h e =
     e
-    ∙ sym (kept (g .answer) (refusedWith (story (g .state) 0 0) (g .answer)) (record { answer = 0; kind = 4; code = 0; attempt = 0; ticks = 0; story = story (g .state) 0 0 }) h)
+    ∙ sym (kept (g .answer) (refusedWith (beginning (g .state)) (g .answer))
+    (record { answer = 0; kind = 4; code = 0; attempt = 0; ticks = 0; story = beginning (g .state) }) h)
 
 pub start-told : (g : Answer) → g .answer ≡ 0
-    → _≡_ {A = Event} (record { answer = 0; kind = 4; code = 0; attempt = 0; ticks = 0; story = story (g .state) 0 0 }) (startWith g)
+    → _≡_ {A = Event} (record { answer = 0; kind = 4; code = 0; attempt = 0; ticks = 0; story = beginning (g .state) }) (startWith g)
 start-told g z = simp z

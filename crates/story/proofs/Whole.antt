@@ -28,18 +28,22 @@ use Rattle.startup.proofs.Three.{open-run, in-run, meant-range, started, demand
 use Rattle.startup.proofs.Agreement.{run-agrees}
 use Rattle.story.specs.declared.Story.{Story}
 use Rattle.story.specs.declared.Event.{Event}
-use Rattle.story.specs.Events.{story, refusedWith, told, eventOf, startWith, startOf, storyOf}
+use Rattle.story.specs.Events.{most, story, beginning, refusedWith, told, eventOf, startWith, startOf, storyOf}
 use Rattle.story.specs.Whole.{Tells, TellsEvent}
 use Rattle.story.proofs.Laws.{event-told}
 use Rattle.story.proofs.Each.{kind-from, kind-to, turn-either}
+use Rattle.story.proofs.Last.{lastAt, enteredBy, ended-by, since-by}
 
 -- ---- code by code
 
 -- the story of a start
-start-story : (g : Answer) → startWith g .story ≡ story (g .state) 0 0
+start-story : (g : Answer) → startWith g .story ≡ beginning (g .state)
 start-story g = go (g .answer)
   where
-    go : (n : ℕ) → held n (refusedWith (story (g .state) 0 0) n) (record { answer = 0; kind = 4; code = 0; attempt = 0; ticks = 0; story = story (g .state) 0 0 }) .story ≡ story (g .state) 0 0
+    b : Story
+    b = beginning (g .state)
+
+    go : (n : ℕ) → held n (refusedWith b n) (record { answer = 0; kind = 4; code = 0; attempt = 0; ticks = 0; story = b }) .story ≡ b
     go zero = refl
     go (suc n) = refl
 
@@ -64,6 +68,10 @@ few-ticks l (suc n) = omega (arith, few-ticks l n, one-or-none (eqb (at l n) 0))
 few-openings : (s : Supervisor) (l : List ℕ) (n : ℕ) → openings s l n ≤ n
 few-openings s l zero = omega arith
 few-openings s l (suc n) = omega (arith, few-openings s l n, one-or-none (eqb (attemptEvent (after s l n .phase) (after s l (suc n) .phase)) 1))
+
+-- the story at the moment n
+abbrev storyAt : Supervisor → List ℕ → ℕ → Story
+storyAt s l n = story (after s l n) (upto 0 l n) (openings s l n) (enteredBy s l n) (lastAt s l n)
 
 -- ---- the run's attempts are those openings
 
@@ -121,7 +129,7 @@ summary-attempts s (a ∷ log) = refl
 
 -- ---- the whole
 
-module _ (end silence : ℕ) (known : end ≤ 1) (t : Taken silence) (l : List ℕ) (codes : (p : ℕ) → p < length l → at l p ≤ 8) (small : length l ≤ 1000000000) where
+module _ (end silence : ℕ) (known : end ≤ 1) (t : Taken silence) (l : List ℕ) (codes : (p : ℕ) → p < length l → at l p ≤ 8) (small : length l ≤ most) where
   abbrev s₀ : Supervisor
   s₀ = supervisorStart end silence .state
 
@@ -129,27 +137,32 @@ module _ (end silence : ℕ) (known : end ≤ 1) (t : Taken silence) (l : List �
   k = card end (meant silence)
 
   -- one event of the story, from the moment n
-  told-at : (n : ℕ) → n < length l → (s : Story) → s ≡ story (after s₀ l n) (upto 0 l n) (openings s₀ l n)
-      → eventOf s (at l n) ≡ told (story (after s₀ l n) (upto 0 l n) (openings s₀ l n)) (after s₀ l (suc n)) (at l n)
+  told-at : (n : ℕ) → n < length l → (s : Story) → s ≡ storyAt s₀ l n
+      → eventOf s (at l n) ≡ told (storyAt s₀ l n) (after s₀ l (suc n)) (at l n)
   told-at n h s e =
       let g = stepOf (after s₀ l n) (at l n) in
-      let v = story (after s₀ l n) (upto 0 l n) (openings s₀ l n) in
+      let v = storyAt s₀ l n in
       ap (λ (x : Story). eventOf x (at l n)) e
-      ∙ sym (event-told g v (at l n) (demand3 end silence known t l .answered n (codes n h) .0) (told v (g .state) (at l n)) (omega (arith, few-ticks l n)) (omega (arith, few-openings s₀ l n)) refl)
+      ∙ sym (event-told g v (at l n) (demand3 end silence known t l .answered n (codes n h) .0) (told v (g .state) (at l n))
+      (omega (arith, few-ticks l n)) (omega (arith, few-openings s₀ l n)) refl)
       ∙ ap (λ (x : Supervisor). told v x (at l n)) (sym (after-suc s₀ l n))
 
   -- the story at the moment n
-  pub at-moment : (n : ℕ) → n ≤ length l → storyOf (startOf end silence .story) (take n l) ≡ story (after s₀ l n) (upto 0 l n) (openings s₀ l n)
+  pub at-moment : (n : ℕ) → n ≤ length l → storyOf (startOf end silence .story) (take n l) ≡ storyAt s₀ l n
   at-moment zero h = start-story (supervisorStart end silence)
   at-moment (suc n) h =
       ap (storyOf (startOf end silence .story)) (take-suc l n 9 h)
       ∙ story-more (startOf end silence .story) (take n l) (at l n)
       ∙ ap (λ (x : Event). x .story) (told-at n h (storyOf (startOf end silence .story) (take n l)) (at-moment n (omega arith)))
 
-  at-end : storyOf (startOf end silence .story) l ≡ story (steps s₀ l) (upto 0 l (length l)) (openings s₀ l (length l))
+  -- and its parts at the end
+  abbrev ends-with : Supervisor → Story
+  ends-with s = story s (upto 0 l (length l)) (openings s₀ l (length l)) (enteredBy s₀ l (length l)) (lastAt s₀ l (length l))
+
+  at-end : storyOf (startOf end silence .story) l ≡ ends-with (steps s₀ l)
   at-end =
       ap (storyOf (startOf end silence .story)) (sym (take-length l)) ∙ at-moment (length l) (omega arith)
-      ∙ ap (λ (xs : List ℕ). story (steps s₀ xs) (upto 0 l (length l)) (openings s₀ l (length l))) (take-length l)
+      ∙ ap (λ (xs : List ℕ). ends-with (steps s₀ xs)) (take-length l)
 
   openings-are : openings s₀ l (length l) ≡ length (attemptsOf k l)
   openings-are =
@@ -161,7 +174,8 @@ module _ (end silence : ℕ) (known : end ≤ 1) (t : Taken silence) (l : List �
   -- an attempt that the list has open, and the state's
   abbrev Open : Supervisor → Card → Type 0
   Open s c =
-      ((m : ℕ) → OpensAt c l m → StillOpen c l m (length l) → (inAttempt (after s l (length l) .phase) ≡ true) × (after s l (length l) .attempt ≡ count 0 l m (length l)))
+      ((m : ℕ) → OpensAt c l m → StillOpen c l m (length l) → (inAttempt (after s l (length l) .phase) ≡ true)
+      × (after s l (length l) .attempt ≡ count 0 l m (length l)))
       × (inAttempt (after s l (length l) .phase) ≡ true → (m : ℕ) × OpensAt c l m × StillOpen c l m (length l))
 
   open-either : Open s₀ k
@@ -184,8 +198,13 @@ module _ (end silence : ℕ) (known : end ≤ 1) (t : Taken silence) (l : List �
         state = refl;
         clock = refl;
         attempts = openings-are;
-        trying = (λ a. open-either .1 (subst (λ (xs : List ℕ). inAttempt (steps s₀ xs .phase) ≡ true) (sym (take-length l)) a), λ w. subst (λ (xs : List ℕ). inAttempt (steps s₀ xs .phase) ≡ true) (take-length l) (open-either .0 (w .0) (w .1) (w .2) .0));
+        trying = (
+          λ a. open-either .1 (subst (λ (xs : List ℕ). inAttempt (steps s₀ xs .phase) ≡ true) (sym (take-length l)) a),
+          λ w. subst (λ (xs : List ℕ). inAttempt (steps s₀ xs .phase) ≡ true) (take-length l) (open-either .0 (w .0) (w .1) (w .2) .0),
+        );
         used = λ m o x. subst (λ (xs : List ℕ). steps s₀ xs .attempt ≡ count 0 l m (length l)) (take-length l) (open-either .0 m o x .1);
+        last = ended-by end silence known t l (length l);
+        since = since-by s₀ l (length l);
       })
 
   -- AND SO DOES EACH EVENT OF IT

@@ -12,6 +12,7 @@ use Rattle.startup.specs.Three.{steps, after}
 use Rattle.startup.specs.Scan.{attempts as attemptsOf}
 use Rattle.story.specs.declared.Story.{Story}
 use Rattle.story.specs.declared.Event.{Event}
+use Rattle.story.specs.Ended.{Ended, Since}
 
 -- the story s of the list l, from a start with this end and silence
 pub record Tells (end silence : ℕ) (l : List ℕ) (s : Story) : Type 0 where
@@ -22,9 +23,15 @@ pub record Tells (end silence : ℕ) (l : List ℕ) (s : Story) : Type 0 where
   -- the attempts are those that the list opens
   pub attempts : s .attempts ≡ length (attemptsOf (card end (meant silence)) l)
   -- it is told as still trying exactly where the list has an attempt open at its end
-  pub trying : (inAttempt (s .state .phase) ≡ true) ↔ ((m : ℕ) × OpensAt (card end (meant silence)) l m × StillOpen (card end (meant silence)) l m (length l))
+  pub trying : (inAttempt (s .state .phase) ≡ true)
+      ↔ ((m : ℕ) × OpensAt (card end (meant silence)) l m × StillOpen (card end (meant silence)) l m (length l))
   -- and the ticks told as used are those of the list since that attempt opened
-  pub used : (m : ℕ) → OpensAt (card end (meant silence)) l m → StillOpen (card end (meant silence)) l m (length l) → s .state .attempt ≡ count 0 l m (length l)
+  pub used : (m : ℕ) → OpensAt (card end (meant silence)) l m → StillOpen (card end (meant silence)) l m (length l)
+      → s .state .attempt ≡ count 0 l m (length l)
+  -- the last attempt that ended is told as the list has it: in data mode or in the exception state, by which code, and after how many ticks
+  pub last : Ended (card end (meant silence)) l (length l) (s .last)
+  -- and the phase is told to last since the clock showed what it did when the phase was entered
+  pub since : Since (supervisorStart end silence .state) l (length l) (s .entered)
 
 -- the event e of the code at the place p of that list
 pub record TellsEvent (end silence : ℕ) (l : List ℕ) (p : ℕ) (e : Event) : Type 0 where
@@ -37,4 +44,5 @@ pub record TellsEvent (end silence : ℕ) (l : List ℕ) (p : ℕ) (e : Event) :
   pub in-data : (e .kind ≡ 2) ↔ ((m : ℕ) × OpensAt (card end (meant silence)) l m × EndsInData (card end (meant silence)) l m p)
   pub in-exception : (e .kind ≡ 3) ↔ ((m : ℕ) × OpensAt (card end (meant silence)) l m × EndsInException (card end (meant silence)) l m p)
   -- and in an attempt its ticks are those of the list since the opening, this one too
-  pub ticks : (m : ℕ) → OpensAt (card end (meant silence)) l m → StillOpen (card end (meant silence)) l m p → e .ticks ≡ count 0 l m (suc p)
+  pub ticks : (m : ℕ) → OpensAt (card end (meant silence)) l m → StillOpen (card end (meant silence)) l m p
+      → e .ticks ≡ count 0 l m (suc p)

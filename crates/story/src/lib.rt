@@ -1,13 +1,28 @@
 // The story of a start-up log: what each code did, as an event (specs/Events.antt). The text of it is crate storytext's.
 ghost use mathlib.Core.Path.{_≡_};
+ghost use mathlib.Core.Bool.{cond};
 ghost use Prim.Native.Nat.{_≤_, _<_};
+ghost use lib.Dec.{eqb, ltb};
 ghost use Rattle.startup.specs.Attempts.{one};
-ghost use Rattle.story.specs.Events.{refusedWith, kindOf, sinceOpening, numberOf, told, startOf, eventOf};
+ghost use Rattle.story.specs.Events.{most, outcome, beginning, refusedWith, kindOf, sinceOpening, numberOf, told};
+ghost use Rattle.story.specs.Events.{startOf, eventOf};
 use startup::Run;
 use supervisor::Supervisor;
 use supervisor::code;
 
 pub mod kind;
+
+// How an attempt ended.
+pub struct Outcome {
+    // In data mode or in the exception state (startup's Run::DATA and EXCEPTION), and NONE where none has ended.
+    pub how: u32,
+    // The ticks that it took.
+    pub ticks: u32,
+    // The phase that it was in.
+    pub phase: u32,
+    // The code that ended it.
+    pub code: u32,
+}
 
 // How far a log has been told.
 pub struct Story {
@@ -16,6 +31,10 @@ pub struct Story {
     pub clock: u32,
     // How many attempts have opened.
     pub attempts: u32,
+    // The clock when the phase was entered.
+    pub entered: u32,
+    // The last attempt that has ended.
+    pub last: Outcome,
 }
 
 // What a code did. With any answer but 0 the other numbers are 0 and the story is the one handed in.
@@ -42,12 +61,7 @@ impl Story {
         ensures { λ r. ⌜ r ≡ startOf end silence ⌝ }
     {
         let given = Supervisor::start(end, silence);
-        let state = given.state;
-        let story = Story {
-            state,
-            clock: 0,
-            attempts: 0,
-        };
+        let story = Self::begun(given.state);
         if given.answer != answer::DONE {
             return story.refused(given.answer);
         }
@@ -58,6 +72,25 @@ impl Story {
             attempt: 0,
             ticks: 0,
             story,
+        }
+    }
+
+    // No code has come yet.
+    fn begun(state: Supervisor) -> Story
+        ensures { λ r. ⌜ r ≡ beginning state ⌝ }
+    {
+        let last = Outcome {
+            how: Run::NONE,
+            ticks: 0,
+            phase: 0,
+            code: 0,
+        };
+        Story {
+            state,
+            clock: 0,
+            attempts: 0,
+            entered: 0,
+            last,
         }
     }
 
@@ -96,25 +129,56 @@ impl Story {
 
     // The event of a code that the supervisor took, with its next state.
     fn told(self, next: Supervisor, code: u32) -> Event
-        requires { ⌜ (self .clock < 1000000000) × (self .attempts < 1000000000) × (self .state .attempt ≤ 14999) ⌝ }
+        requires { ⌜ (self .clock < most) × (self .attempts < most) × (self .state .attempt ≤ 14999) ⌝ }
         ensures { λ r. ⌜ r ≡ told self next code ⌝ }
     {
         let state = self.state;
         let event = startup::event(state.phase, next.phase);
+        let ticks = since_opening(state, code);
+        let clock = self.clock + one(code == code::TICK);
+        let attempts = self.attempts + one(event == Run::OPEN);
+        let before = self.last;
+        let last = before.then(event, ticks, state.phase, code);
         let story = Story {
             state: next,
-            clock: self.clock + one(code == code::TICK),
-            attempts: self.attempts + one(event == Run::OPEN),
+            clock,
+            attempts,
+            entered: entered_at(state.phase, next.phase, self.entered, clock),
+            last,
         };
         Event {
             answer: answer::DONE,
             kind: kind_of(state, next, code),
             code,
-            attempt: number_of(state.phase, event, story.attempts),
-            ticks: since_opening(state, code),
+            attempt: number_of(state.phase, event, attempts),
+            ticks,
             story,
         }
     }
+}
+
+impl Outcome {
+    // The last attempt that has ended, after this event: another one, where it ended an attempt.
+    fn then(self, event: u32, ticks: u32, phase: u32, code: u32) -> Outcome
+        ensures { λ r. ⌜ r ≡ cond (ltb 1 event) (outcome event ticks phase code) self ⌝ }
+    {
+        if Run::OPEN < event {
+            return Outcome {
+                how: event,
+                ticks,
+                phase,
+                code,
+            };
+        }
+        self
+    }
+}
+
+// The clock when the phase was entered: the present one, where another was entered.
+fn entered_at(before: u32, after: u32, entered: u32, clock: u32) -> u32
+    ensures { λ r. ⌜ r ≡ cond (eqb before after) entered clock ⌝ }
+{
+    if before == after { entered } else { clock }
 }
 
 // 1 where a test holds, else 0.

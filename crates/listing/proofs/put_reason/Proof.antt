@@ -1,0 +1,31 @@
+-- `listing::put_reason` meets its contract.
+use borrow.Author.Needs.{needs}
+use mathlib.Core.Path.{ap, _∙_}
+use Rattle.forms.specs.Forms.{rowOf}
+use Rattle.ascii.proofs.Room.{put-as}
+use Rattle.listing.proofs.Wording.{reasons, reason-told}
+use Rattle.listing.proofs.put_reason.Statement.{statement}
+use Rattle.listing.proofs.put_reason.Tie as tie
+
+slice-aggregate-put-row : tie.Need-slice-aggregate-put-row
+slice-aggregate-put-row c = search needs
+
+reason-row-requires : tie.Need-reason-row-requires
+reason-row-requires c κs = search needs
+
+put-row-requires : tie.Need-put-row-requires
+put-row-requires c κs = search needs
+
+same-length : tie.Need-same-length
+same-length c = search needs
+
+returns : tie.Need-returns
+returns c =
+    let b3 = c .before .before .before in
+    let b7 = b3 .before .before .before .before in
+    put-as (c .before .before .put-row .ensures) (ap (rowOf reasons) (b3 .reason-row .ensures) ∙ reason-told (b7 .args .n))
+
+pub put-reason-spec : {M : Type 1} → statement M
+put-reason-spec =
+    tie.close
+    (tie.spec slice-aggregate-put-row reason-row-requires put-row-requires same-length returns)

@@ -1,0 +1,8 @@
+-- One result per call. Assumes nothing.
+use mathlib.Core.Path.{_≡_, sym, _∙_}
+use mathlib.Core.List.{List}
+use Prim.Native.Nat.{ℕ}
+use Rattle.options.specs.Options.{Says}
+
+pub read-one : (w : List ℕ) (r r′ : ℕ) → Says w r → Says w r′ → r ≡ r′
+read-one w r r′ p q = p ∙ sym q
