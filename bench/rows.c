@@ -81,7 +81,7 @@ static void make_frames(void)
         }
     }
     for (uint32_t end = SDSL_LTU; end <= SDSL_NTU; end++) {
-        uint32_t state = SDSL_SCRAMBLER_START;
+        uint32_t state = sdsl_scrambler_start(end).state;
         for (size_t i = 0; i < BATCH; i++) {
             state = ref_scramble_frame(end, state, training[i], SDSL_FRAME_OCTETS, line[end][i], SDSL_FRAME_OCTETS).state;
         }
@@ -183,7 +183,7 @@ static void read_cards(const struct library *library)
 /* Every frame through the scrambler or the descrambler, the state handed on. */
 static void through(__typeof__(sdsl_scramble_frame) *pass, uint32_t end, uint8_t (*frames)[SDSL_FRAME_OCTETS])
 {
-    struct sdsl_scrambled next = {0, SDSL_SCRAMBLER_START};
+    struct sdsl_scrambled next = sdsl_scrambler_start(end);
     for (size_t i = 0; i < BATCH; i++) {
         next = pass(end, next.state, frames[i], SDSL_FRAME_OCTETS, results.octets + i * SDSL_FRAME_OCTETS, SDSL_FRAME_OCTETS);
         results.numbers[2 * i] = next.answer;
@@ -213,14 +213,15 @@ static void descramble_ntu(const struct library *library)
 
 static void encode_run(const struct library *library)
 {
-    struct sdsl_encoded_run run = library->encode_run(word_a, word_b, SDSL_REGISTER_START, symbols, RUN, results.octets, RUN);
+    uint32_t start = sdsl_encoder_start(word_a, word_b).reg;
+    struct sdsl_encoded_run run = library->encode_run(word_a, word_b, start, symbols, RUN, results.octets, RUN);
     results.numbers[0] = run.answer;
     results.numbers[1] = run.reg;
 }
 
 static void encode_each(const struct library *library)
 {
-    uint32_t reg = SDSL_REGISTER_START;
+    uint32_t reg = sdsl_encoder_start(word_a, word_b).reg;
     for (size_t m = 0; m < RUN; m++) {
         struct sdsl_encoded one = library->encode(word_a, word_b, reg, symbols[m]);
         reg = one.reg;

@@ -214,14 +214,47 @@ uint32_t sdsl_frame_check(const uint8_t *frame, size_t frame_len);
 
 /* ---- The scrambler (clause 4.1.5; part 1, clause 7.1.6) ---- */
 
-#define SDSL_SCRAMBLER_START 0u     /* the state that either end starts with */
 #define SDSL_SCRAMBLER_MAX 8388607u /* the largest state, 2^23 - 1 */
 
-/* The answer, and the state after the last bit: the last 23 scrambled bits, the newest at weight 1. */
+/* The answer, and the state for the next call: the last 23 scrambled bits, the newest at weight 1. */
 struct sdsl_scrambled {
     uint32_t answer; /* enum sdsl_answer */
-    uint32_t state;  /* for the next call; after a refusal the one that was passed in */
+    uint32_t state;  /* after a refusal the one that was passed in, if there was one, else 0 */
 };
+
+/*
+ * The state that an end starts with, SDSL_LTU or SDSL_NTU.
+ * Answers 0, 2 (end).
+ *
+ * Example:
+ *     struct sdsl_scrambled start = sdsl_scrambler_start(SDSL_LTU);
+ *     struct sdsl_scrambled_bit first = sdsl_scramble_bit(SDSL_LTU, start.state, 1);
+ *     struct sdsl_scrambled_bit heard = sdsl_descramble_bit(SDSL_LTU, start.state, first.bit);
+ *     assert(first.answer == SDSL_DONE && first.bit == 1 && heard.bit == 1 && heard.state == first.state);
+ */
+struct sdsl_scrambled sdsl_scrambler_start(uint32_t end);
+
+/* What one bit gives: the answer, the bit that comes out, and the state for the next call. */
+struct sdsl_scrambled_bit {
+    uint32_t answer; /* enum sdsl_answer */
+    uint32_t bit;    /* 0 or 1 */
+    uint32_t state;  /* after a refusal the one that was passed in */
+};
+
+/*
+ * Scrambles one bit.
+ *   end    the end that sends, SDSL_LTU or SDSL_NTU
+ *   state  0 to SDSL_SCRAMBLER_MAX
+ *   bit    0 or 1
+ * Answers 0, 2 (end), 4 (state or bit).
+ */
+struct sdsl_scrambled_bit sdsl_scramble_bit(uint32_t end, uint32_t state, uint32_t bit);
+
+/*
+ * Undoes sdsl_scramble_bit, given the sender's end and the state that the sender had before the bit.
+ * Answers 0, 2 (end), 4 (state or bit).
+ */
+struct sdsl_scrambled_bit sdsl_descramble_bit(uint32_t end, uint32_t state, uint32_t bit);
 
 /*
  * Scrambles the first `bits` bits of `in` into `out`, which has the same length. The other bits of `out` stay as they were.
@@ -233,9 +266,10 @@ struct sdsl_scrambled {
  * Example:
  *     const uint8_t ones[4] = {0xFF, 0xFF, 0xFF, 0x01};
  *     uint8_t sent[4] = {0}, heard[4] = {0};
- *     struct sdsl_scrambled there = sdsl_scramble(SDSL_LTU, SDSL_SCRAMBLER_START, ones, 4, 25, sent, 4);
+ *     uint32_t start = sdsl_scrambler_start(SDSL_LTU).state;
+ *     struct sdsl_scrambled there = sdsl_scramble(SDSL_LTU, start, ones, 4, 25, sent, 4);
  *     assert(there.answer == SDSL_DONE && sent[0] == 0x1F); // 11111000.. on the line, first bit first
- *     struct sdsl_scrambled back = sdsl_descramble(SDSL_LTU, SDSL_SCRAMBLER_START, sent, 4, 25, heard, 4);
+ *     struct sdsl_scrambled back = sdsl_descramble(SDSL_LTU, start, sent, 4, 25, heard, 4);
  *     assert(back.state == there.state && memcmp(heard, ones, 4) == 0);
  */
 struct sdsl_scrambled sdsl_scramble(uint32_t end, uint32_t state,
@@ -279,7 +313,6 @@ struct sdsl_scrambled sdsl_descramble_frame(uint32_t end, uint32_t state,
 
 #define SDSL_SYMBOL_MAX 7u         /* three bits X1 X2 X3, X1 at weight 4 */
 #define SDSL_CODE_MAX 15u          /* four bits Y3 Y2 Y1 Y0, Y3 at weight 8 */
-#define SDSL_REGISTER_START 0u     /* the encoder's register at the start */
 #define SDSL_REGISTER_MAX 1048575u /* the largest register, 2^20 - 1 */
 #define SDSL_SIXTEENTH 8192        /* steps of the precoder in a sixteenth: x = sixteenths * SDSL_SIXTEENTH */
 
@@ -319,7 +352,19 @@ struct sdsl_level sdsl_data_level(uint32_t code);
  */
 struct sdsl_symbol_code sdsl_level_code(int32_t sixteenths);
 
-/* What encoding a symbol gives: its code, its level, and the register for the next symbol (20 bits, the newest X1 at weight 1). */
+/* The answer, and the register for the next symbol: the last 20 X1, the newest at weight 1. */
+struct sdsl_encoded_run {
+    uint32_t answer; /* enum sdsl_answer */
+    uint32_t reg;    /* after a refusal the one that was passed in, if there was one, else 0 */
+};
+
+/*
+ * The register that an encoder with the words a and b, 0 to SDSL_WORD_MAX, starts with.
+ * Answers 0, 4 (a or b).
+ */
+struct sdsl_encoded_run sdsl_encoder_start(uint32_t a, uint32_t b);
+
+/* What encoding a symbol gives: its code, its level, and the register for the next symbol. */
 struct sdsl_encoded {
     uint32_t answer; /* enum sdsl_answer */
     uint32_t code;   /* 0 to SDSL_CODE_MAX */
@@ -336,17 +381,12 @@ struct sdsl_encoded {
  * Answers 0, 4.
  *
  * Example:
- *     struct sdsl_encoded first = sdsl_encode(1, 2, SDSL_REGISTER_START, 5); // bits 101
- *     struct sdsl_encoded then = sdsl_encode(1, 2, first.reg, 3);            // bits 011
+ *     struct sdsl_encoded_run start = sdsl_encoder_start(1, 2);
+ *     struct sdsl_encoded first = sdsl_encode(1, 2, start.reg, 5); // bits 101
+ *     struct sdsl_encoded then = sdsl_encode(1, 2, first.reg, 3);  // bits 011
  *     assert(first.sixteenths == 13 && then.sixteenths == 3 && then.reg == 2);
  */
 struct sdsl_encoded sdsl_encode(uint32_t a, uint32_t b, uint32_t reg, uint32_t symbol);
-
-/* The answer, and the register after the last symbol. */
-struct sdsl_encoded_run {
-    uint32_t answer; /* enum sdsl_answer */
-    uint32_t reg;    /* after a refusal the one that was passed in */
-};
 
 /*
  * Encodes many symbols. Each takes an octet of `symbols` (0 to 7), and its code an octet of `codes` (0 to 15). The two have the same
@@ -356,7 +396,7 @@ struct sdsl_encoded_run {
  * Example:
  *     const uint8_t symbols[2] = {5, 3};
  *     uint8_t codes[2];
- *     struct sdsl_encoded_run run = sdsl_encode_run(1, 2, SDSL_REGISTER_START, symbols, 2, codes, 2);
+ *     struct sdsl_encoded_run run = sdsl_encode_run(1, 2, sdsl_encoder_start(1, 2).reg, symbols, 2, codes, 2);
  *     assert(run.answer == SDSL_DONE && codes[0] == 10 && codes[1] == 13 && run.reg == 2);
  */
 struct sdsl_encoded_run sdsl_encode_run(uint32_t a, uint32_t b, uint32_t reg,
@@ -372,20 +412,32 @@ struct sdsl_encoded_run sdsl_encode_run(uint32_t a, uint32_t b, uint32_t reg,
 #define SDSL_SAMPLE_OCTETS 4      /* one sample of a run */
 
 /*
+ * Makes the history that a precoder starts with: 180 outputs, all zero.
+ *   history  720 octets, written
+ * Answers 0, 1.
+ *
+ * Example:
+ *     uint8_t history[SDSL_HISTORY_OCTETS];
+ *     assert(sdsl_history_start(history, sizeof history) == SDSL_DONE && sdsl_get_number(history, 179) == 0);
+ */
+uint32_t sdsl_history_start(uint8_t *history, size_t history_len);
+
+/*
  * Precodes a run of samples, xs to ys. A single symbol is a run of four octets.
  *   coefficients  720 octets: the 180 of the far card's frame, unused ones zero, each from -2097152 to 2097151
- *   history       720 octets: the last 180 outputs, newest first, all zero at the start; the run brings it up to date
+ *   history       720 octets: the last 180 outputs, newest first, from sdsl_history_start on; the run brings it up to date
  *   xs, ys        of the same length, a multiple of 4, which may be 0
  * Each x, each y and each number of the history lies from -131072 to 131071. Everything is checked before anything is written.
  * Answers 0, 1, 4.
  *
  * Example:
- *     uint8_t coefficients[SDSL_COEFFICIENT_OCTETS] = {0}, history[SDSL_HISTORY_OCTETS] = {0}, past[SDSL_HISTORY_OCTETS] = {0};
+ *     uint8_t coefficients[SDSL_COEFFICIENT_OCTETS] = {0}, history[SDSL_HISTORY_OCTETS], past[SDSL_HISTORY_OCTETS];
  *     uint8_t x[SDSL_SAMPLE_OCTETS], y[SDSL_SAMPLE_OCTETS], heard[SDSL_SAMPLE_OCTETS];
- *     sdsl_put_number(coefficients, 0, SDSL_STEPS / 2);   // C(1) is one half
- *     sdsl_put_number(history, 0, 9 * SDSL_SIXTEENTH);    // y(m-1) = 73728, that is 9/16
- *     sdsl_put_number(past, 0, 9 * SDSL_SIXTEENTH);       // the far end has the same past
- *     sdsl_put_number(x, 0, 9 * SDSL_SIXTEENTH);
+ *     sdsl_put_number(coefficients, 0, SDSL_STEPS / 2); // C(1) is one half
+ *     sdsl_put_number(x, 0, 9 * SDSL_SIXTEENTH);        // x is 73728, that is 9/16
+ *     sdsl_history_start(history, sizeof history);
+ *     sdsl_put_number(history, 0, 9 * SDSL_SIXTEENTH);  // the output before it was 9/16
+ *     memcpy(past, history, sizeof past);               // the far end has the same past
  *     assert(sdsl_precode(coefficients, sizeof coefficients, history, sizeof history, x, 4, y, 4) == SDSL_DONE);
  *     assert(sdsl_get_number(y, 0) == 36864);
  *     assert(sdsl_unprecode(coefficients, sizeof coefficients, past, sizeof past, y, 4, heard, 4) == SDSL_DONE);

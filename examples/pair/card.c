@@ -58,12 +58,19 @@ void card_start(struct card *card, uint32_t end, uint64_t seed)
     card->name = end == SDSL_LTU ? "LTU" : "NTU";
     card->end = end;
     card->state = started.state;
-    card->send.scrambler = SDSL_SCRAMBLER_START;
+    struct sdsl_scrambled scrambler = sdsl_scrambler_start(end);
+    must(scrambler.answer, "sdsl_scrambler_start");
+    card->send.scrambler = scrambler.state;
     card->send.bit = SDSL_FRAME_BITS;
-    card->send.reg = SDSL_REGISTER_START;
     card->send.chance = seed * 2 + end + 1;
-    card->hear.reg = SDSL_REGISTER_START;
     make_wishes(&card->own, end, card->send.chance);
+    /* The register starts alike with any words; those that the far card asks for are not known yet. */
+    struct sdsl_encoded_run encoder = sdsl_encoder_start(card->own.a, card->own.b);
+    must(encoder.answer, "sdsl_encoder_start");
+    card->send.reg = encoder.reg;
+    card->hear.reg = encoder.reg;
+    must(sdsl_history_start(card->send.history, sizeof card->send.history), "sdsl_history_start");
+    must(sdsl_history_start(card->hear.history, sizeof card->hear.history), "sdsl_history_start");
 }
 
 const char *card_phase(const struct card *card)

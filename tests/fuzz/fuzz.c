@@ -319,6 +319,32 @@ static uint32_t scrambled(struct sdsl_scrambled r, uint32_t state, bool moved)
     return r.answer;
 }
 
+static uint32_t try_scrambler_start(void)
+{
+    struct sdsl_scrambled r = sdsl_scrambler_start(number(SDSL_LTU, SDSL_NTU));
+    want(r.state == 0, "starts with a state that is not 0");
+    return r.answer;
+}
+
+static uint32_t try_bit(struct sdsl_scrambled_bit (*f)(uint32_t, uint32_t, uint32_t))
+{
+    uint32_t end = number(SDSL_LTU, SDSL_NTU), state = number(0, SDSL_SCRAMBLER_MAX);
+    struct sdsl_scrambled_bit r = f(end, state, number(0, 1));
+    want(r.answer == SDSL_DONE ? r.bit <= 1 && r.state <= SDSL_SCRAMBLER_MAX : r.bit == 0 && r.state == state,
+         "gives a wrong bit or state");
+    return r.answer;
+}
+
+static uint32_t try_scramble_bit(void)
+{
+    return try_bit(sdsl_scramble_bit);
+}
+
+static uint32_t try_descramble_bit(void)
+{
+    return try_bit(sdsl_descramble_bit);
+}
+
 static uint32_t try_run(run_function *f)
 {
     uint32_t end = number(SDSL_LTU, SDSL_NTU), state = number(0, SDSL_SCRAMBLER_MAX);
@@ -390,6 +416,14 @@ static uint32_t try_level_code(void)
     return r.answer;
 }
 
+static uint32_t try_encoder_start(void)
+{
+    uint32_t a = number(0, SDSL_WORD_MAX), b = number(0, SDSL_WORD_MAX);
+    struct sdsl_encoded_run r = sdsl_encoder_start(a, b);
+    want(r.reg == 0, "starts with a register that is not 0");
+    return r.answer;
+}
+
 static uint32_t try_encode(void)
 {
     uint32_t a = number(0, SDSL_WORD_MAX), b = number(0, SDSL_WORD_MAX), reg = number(0, SDSL_REGISTER_MAX);
@@ -417,6 +451,18 @@ static uint32_t try_encode_run(void)
     struct sdsl_encoded_run r = sdsl_encode_run(a, b, reg, symbols->p, symbols->len, codes->p, codes->len);
     want(r.answer == SDSL_DONE ? r.reg <= SDSL_REGISTER_MAX : r.reg == reg, "gives a wrong register");
     return r.answer;
+}
+
+static uint32_t try_history_start(void)
+{
+    struct lent *h = lend(length(SDSL_HISTORY_OCTETS), true);
+    fill(h);
+    keep();
+    uint32_t answer = sdsl_history_start(h->p, h->len);
+    for (size_t i = 0; answer == SDSL_DONE && i < h->len; i++) {
+        want(h->p[i] == 0, "leaves an output that is not 0");
+    }
+    return answer;
 }
 
 static uint32_t try_samples(uint32_t (*f)(const uint8_t *, size_t, uint8_t *, size_t, const uint8_t *, size_t, uint8_t *, size_t))
@@ -532,9 +578,10 @@ static const struct {
     uint32_t (*call)(void);
 } tries[] = {
 #define TRY(function) {"sdsl_" #function, try_##function}
-    TRY(frame_write), TRY(frame_read), TRY(frame_check), TRY(scramble), TRY(descramble), TRY(scramble_frame), TRY(descramble_frame),
-    TRY(activation_level), TRY(data_level), TRY(level_code), TRY(encode), TRY(encode_run), TRY(precode), TRY(unprecode), TRY(shaper),
-    TRY(start), TRY(step), TRY(run_codes),
+    TRY(frame_write), TRY(frame_read), TRY(frame_check), TRY(scrambler_start), TRY(scramble_bit), TRY(descramble_bit), TRY(scramble),
+    TRY(descramble), TRY(scramble_frame), TRY(descramble_frame), TRY(activation_level), TRY(data_level), TRY(level_code),
+    TRY(encoder_start), TRY(encode), TRY(encode_run), TRY(history_start), TRY(precode), TRY(unprecode), TRY(shaper), TRY(start), TRY(step),
+    TRY(run_codes),
 };
 
 static uint64_t seen[ITEMS(fuzz_functions)][ANSWERS];

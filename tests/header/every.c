@@ -38,10 +38,24 @@ static void runs(void)
 {
     const uint8_t ones[3] = {0xFF, 0xFF, 0xFF}, line[3] = {0xFF, 0xFF, 0x83};
     uint8_t out[3];
-    struct sdsl_scrambled sent = sdsl_scramble(SDSL_NTU, SDSL_SCRAMBLER_START, ones, 3, 24, out, 3);
+    struct sdsl_scrambled start = sdsl_scrambler_start(SDSL_NTU);
+    look(start.answer == SDSL_DONE && start.state == 0 && sdsl_scrambler_start(SDSL_NTU + 1).answer == SDSL_UNKNOWN,
+         "sdsl_scrambler_start");
+    struct sdsl_scrambled sent = sdsl_scramble(SDSL_NTU, start.state, ones, 3, 24, out, 3);
     look(sent.answer == SDSL_DONE && memcmp(out, line, 3) == 0, "sdsl_scramble");
-    look(sdsl_descramble(SDSL_NTU, SDSL_SCRAMBLER_START, line, 3, 24, out, 3).state == sent.state && memcmp(out, ones, 3) == 0,
+    look(sdsl_descramble(SDSL_NTU, start.state, line, 3, 24, out, 3).state == sent.state && memcmp(out, ones, 3) == 0,
          "sdsl_descramble");
+    int bits = 1, back = 1;
+    uint32_t sending = start.state, hearing = start.state;
+    for (int i = 0; i < 24; i++) {
+        struct sdsl_scrambled_bit one = sdsl_scramble_bit(SDSL_NTU, sending, 1), heard = sdsl_descramble_bit(SDSL_NTU, hearing, one.bit);
+        bits = bits && one.answer == SDSL_DONE && one.bit == (line[i / 8] >> (i % 8) & 1u);
+        back = back && heard.answer == SDSL_DONE && heard.bit == 1;
+        sending = one.state;
+        hearing = heard.state;
+    }
+    look(bits && sending == sent.state && sdsl_scramble_bit(SDSL_LTU, 0, 2).answer == SDSL_OUT_OF_RANGE, "sdsl_scramble_bit");
+    look(back && hearing == sent.state, "sdsl_descramble_bit");
 }
 
 /* Examples 9, 10 and 11. */
@@ -52,13 +66,19 @@ static void symbols(void)
     look(sdsl_activation_level(1).sixteenths == 9, "sdsl_activation_level");
     look(sdsl_data_level(SDSL_CODE_MAX).sixteenths == 7, "sdsl_data_level");
     look(sdsl_level_code(7).code == SDSL_CODE_MAX, "sdsl_level_code");
-    look(sdsl_encode(1, 2, SDSL_REGISTER_START, 5).sixteenths == 13, "sdsl_encode");
-    look(sdsl_encode_run(1, 2, SDSL_REGISTER_START, two, 2, codes, 2).reg == 2 && codes[0] == 10 && codes[1] == 13, "sdsl_encode_run");
+    struct sdsl_encoded_run start = sdsl_encoder_start(1, 2);
+    look(start.answer == SDSL_DONE && start.reg == 0 && sdsl_encoder_start(SDSL_WORD_MAX, SDSL_WORD_MAX).answer == SDSL_DONE &&
+         sdsl_encoder_start(0, SDSL_WORD_MAX + 1).answer == SDSL_OUT_OF_RANGE, "sdsl_encoder_start");
+    look(sdsl_encode(1, 2, start.reg, 5).sixteenths == 13, "sdsl_encode");
+    look(sdsl_encode_run(1, 2, start.reg, two, 2, codes, 2).reg == 2 && codes[0] == 10 && codes[1] == 13, "sdsl_encode_run");
 
     uint8_t coefficients[SDSL_COEFFICIENT_OCTETS] = {0, 0, 1, 0};
     uint8_t history[SDSL_HISTORY_OCTETS] = {0, 0x20, 1, 0}, past[SDSL_HISTORY_OCTETS] = {0, 0x20, 1, 0};
     const uint8_t x[SDSL_SAMPLE_OCTETS] = {0, 0x20, 1, 0}, y[SDSL_SAMPLE_OCTETS] = {0, 0x90, 0, 0};
-    uint8_t out[SDSL_SAMPLE_OCTETS];
+    uint8_t out[SDSL_SAMPLE_OCTETS], zeros[SDSL_HISTORY_OCTETS] = {0}, made[SDSL_HISTORY_OCTETS];
+    memset(made, 0xA5, sizeof made);
+    look(sdsl_history_start(made, sizeof made - 1) == SDSL_BAD_LENGTH && made[0] == 0xA5 &&
+         sdsl_history_start(made, sizeof made) == SDSL_DONE && memcmp(made, zeros, sizeof made) == 0, "sdsl_history_start");
     look(sdsl_precode(coefficients, sizeof coefficients, history, sizeof history, x, sizeof x, out, sizeof out) == SDSL_DONE &&
          memcmp(out, y, sizeof y) == 0, "sdsl_precode");
     look(sdsl_unprecode(coefficients, sizeof coefficients, past, sizeof past, y, sizeof y, out, sizeof out) == SDSL_DONE &&

@@ -1,4 +1,7 @@
-"""docs/RESULTS.md against the sources: every public function has a row, a contract for every input, and a theorem that its result is the only one."""
+"""docs/RESULTS.md against the sources: every public function has a row, a contract for every input, and a theorem that its result is the only one.
+
+A public function is reached by another crate, or exported and called by a test in C. `results.py --callers` lists by which.
+"""
 import pathlib
 import re
 import sys
@@ -36,6 +39,29 @@ def statement(crate, theorem):
     return None
 
 
+def callers(found):
+    """For each public function: the other crates that call it, and the C tests that call it where it is exported."""
+    text, named = {}, {}
+    for source in sorted((ROOT / "crates").glob("*/src/**/*.rt")):
+        crate = source.relative_to(ROOT / "crates").parts[0]
+        text[crate] = text.get(crate, "") + re.sub(r"^\s*//.*", "", source.read_text(), flags=re.M)
+    for line in (ROOT / "crates.txt").read_text().splitlines():
+        if m := re.match(r"(\w+):(.*)", line):
+            named[m[1]] = m[2].split()
+    tests = {}
+    for file in sorted((ROOT / "tests").glob("*/*.c")):
+        if file.name != "mock.c":  # which stands in for the library
+            tests["tests/" + file.parent.name] = tests.get("tests/" + file.parent.name, "") + file.read_text()
+    for name, contract in found.items():
+        crate, *owner, function = name.split("::")
+        if owner:  # a method: x.function(..) or Owner::function(..) in a crate that names this one
+            call = rf"(?:\.|\b{owner[0]}::){function}\("
+        else:
+            call = rf"\b{crate}::{function}\(|^use {crate}::{function};"
+        yield name, [c for c in text if c != crate and crate in named[c] and re.search(call, text[c], re.M)] + [
+            test for test, body in tests.items() if 'extern "C"' in contract and re.search(rf"\b{function}\b", body)]
+
+
 rows = {}
 for line in (ROOT / "docs/RESULTS.md").read_text().split("\n"):
     if m := re.match(r"\| `([\w:]+)` \| `(\w+)` \| `([\w]+): ([^`]+)` \|$", line):
@@ -67,9 +93,19 @@ for name in rows:
     if name not in found:
         wrong.append(f"{name} is not a public function")
 
+reached = dict(callers(found))
+for name, by in reached.items():
+    if not by:
+        wrong.append(f"{name} is public and nothing reaches it")
+if sys.argv[1:] == ["--callers"]:
+    for name, by in reached.items():
+        print(f"{name}: {', '.join(by) or 'nothing'}")
+    sys.exit()
+
 for w in wrong:
     print(f"  {w}")
 if wrong or not found:
     print(f"FAIL: docs/RESULTS.md, {len(wrong)} wrong")
     sys.exit(1)
 print(f"pass: one result per call: {len(found)} public functions, each with a contract for every input and its theorem")
+print(f"pass: each is reached by another crate or by a test in C, {sum(map(len, reached.values()))} callers in all (results.py --callers lists them)")

@@ -25,6 +25,21 @@ uint32_t sdsl_frame_check(const uint8_t *frame, size_t frame_len)
     return ref_frame_check(frame, frame_len);
 }
 
+struct sdsl_scrambled sdsl_scrambler_start(uint32_t end)
+{
+    return ref_scrambler_start(end);
+}
+
+struct sdsl_scrambled_bit sdsl_scramble_bit(uint32_t end, uint32_t state, uint32_t bit)
+{
+    return ref_scramble_bit(end, state, bit);
+}
+
+struct sdsl_scrambled_bit sdsl_descramble_bit(uint32_t end, uint32_t state, uint32_t bit)
+{
+    return ref_descramble_bit(end, state, bit);
+}
+
 struct sdsl_scrambled sdsl_scramble(uint32_t end, uint32_t state,
                                     const uint8_t *in, size_t in_len, size_t bits,
                                     uint8_t *out, size_t out_len)
@@ -68,6 +83,11 @@ struct sdsl_symbol_code sdsl_level_code(int32_t sixteenths)
     return ref_level_code(sixteenths);
 }
 
+struct sdsl_encoded_run sdsl_encoder_start(uint32_t a, uint32_t b)
+{
+    return ref_encoder_start(a, b);
+}
+
 struct sdsl_encoded sdsl_encode(uint32_t a, uint32_t b, uint32_t reg, uint32_t symbol)
 {
     return ref_encode(a, b, reg, symbol);
@@ -78,6 +98,11 @@ struct sdsl_encoded_run sdsl_encode_run(uint32_t a, uint32_t b, uint32_t reg,
                                         uint8_t *codes, size_t codes_len)
 {
     return ref_encode_run(a, b, reg, symbols, symbols_len, codes, codes_len);
+}
+
+uint32_t sdsl_history_start(uint8_t *history, size_t history_len)
+{
+    return ref_history_start(history, history_len);
 }
 
 uint32_t sdsl_precode(const uint8_t *coefficients, size_t coefficients_len,

@@ -415,6 +415,40 @@ static struct sdsl_scrambled run_frame(bits_run *run, uint32_t end, uint32_t sta
     return result;
 }
 
+/* One bit is a run of one. */
+static struct sdsl_scrambled_bit run_bit(bits_run *run, uint32_t end, uint32_t state, uint32_t bit)
+{
+    struct sdsl_scrambled_bit result = {0, 0, state};
+    uint8_t in[2] = {0, (uint8_t)(bit % 2)};
+    uint8_t out[2] = {0, 0};
+    result.answer = judge_scrambler(end, state);
+    if (result.answer == SDSL_DONE && bit > 1) {
+        result.answer = SDSL_OUT_OF_RANGE;
+    }
+    if (result.answer == SDSL_DONE) {
+        result.state = run(end, state, in, 1, out);
+        result.bit = out[1];
+    }
+    return result;
+}
+
+/* The starting state is 0. */
+struct sdsl_scrambled ref_scrambler_start(uint32_t end)
+{
+    struct sdsl_scrambled result = {end == SDSL_LTU || end == SDSL_NTU ? SDSL_DONE : SDSL_UNKNOWN, 0};
+    return result;
+}
+
+struct sdsl_scrambled_bit ref_scramble_bit(uint32_t end, uint32_t state, uint32_t bit)
+{
+    return run_bit(scramble_bits, end, state, bit);
+}
+
+struct sdsl_scrambled_bit ref_descramble_bit(uint32_t end, uint32_t state, uint32_t bit)
+{
+    return run_bit(descramble_bits, end, state, bit);
+}
+
 struct sdsl_scrambled ref_scramble(uint32_t end, uint32_t state,
                                    const uint8_t *in, size_t in_len, size_t bits,
                                    uint8_t *out, size_t out_len)
@@ -526,6 +560,16 @@ static uint32_t encode_all(uint32_t a, uint32_t b, uint32_t reg, const uint8_t *
     }
     free(x1);
     return after;
+}
+
+/* No X1 has been sent yet. */
+struct sdsl_encoded_run ref_encoder_start(uint32_t a, uint32_t b)
+{
+    struct sdsl_encoded_run result = {0, 0};
+    if (a > 2097151 || b > 2097151) {
+        result.answer = SDSL_OUT_OF_RANGE;
+    }
+    return result;
 }
 
 struct sdsl_encoded ref_encode(uint32_t a, uint32_t b, uint32_t reg, uint32_t symbol)
@@ -652,6 +696,18 @@ static uint32_t run_precoder(bool receiving, const uint8_t *coefficients, size_t
         put_number(history, k - 1, y[180 + count - k]);
     }
     free(y);
+    return SDSL_DONE;
+}
+
+/* All zero at first. */
+uint32_t ref_history_start(uint8_t *history, size_t history_len)
+{
+    if (history_len != 720) {
+        return SDSL_BAD_LENGTH;
+    }
+    for (size_t i = 0; i < 720; i++) {
+        history[i] = 0;
+    }
     return SDSL_DONE;
 }
 

@@ -21,6 +21,9 @@ struct sdsl_frame_fields ref_frame_read(const uint8_t *frame, size_t frame_len,
 uint32_t ref_frame_check(const uint8_t *frame, size_t frame_len);
 
 /* The scrambler. */
+struct sdsl_scrambled ref_scrambler_start(uint32_t end);
+struct sdsl_scrambled_bit ref_scramble_bit(uint32_t end, uint32_t state, uint32_t bit);
+struct sdsl_scrambled_bit ref_descramble_bit(uint32_t end, uint32_t state, uint32_t bit);
 struct sdsl_scrambled ref_scramble(uint32_t end, uint32_t state,
                                    const uint8_t *in, size_t in_len, size_t bits,
                                    uint8_t *out, size_t out_len);
@@ -38,10 +41,12 @@ struct sdsl_scrambled ref_descramble_frame(uint32_t end, uint32_t state,
 struct sdsl_level ref_activation_level(uint32_t bit);
 struct sdsl_level ref_data_level(uint32_t code);
 struct sdsl_symbol_code ref_level_code(int32_t sixteenths);
+struct sdsl_encoded_run ref_encoder_start(uint32_t a, uint32_t b);
 struct sdsl_encoded ref_encode(uint32_t a, uint32_t b, uint32_t reg, uint32_t symbol);
 struct sdsl_encoded_run ref_encode_run(uint32_t a, uint32_t b, uint32_t reg,
                                        const uint8_t *symbols, size_t symbols_len,
                                        uint8_t *codes, size_t codes_len);
+uint32_t ref_history_start(uint8_t *history, size_t history_len);
 uint32_t ref_precode(const uint8_t *coefficients, size_t coefficients_len,
                      uint8_t *history, size_t history_len,
                      const uint8_t *xs, size_t xs_len,

@@ -1,4 +1,4 @@
-/* second_scrambler.c: the group `scrambler`: sdsl_scramble, sdsl_descramble and the two on whole frames. */
+/* second_scrambler.c: the group `scrambler`: its start, a bit, a run and a whole frame, and back. */
 #include "harness.h"
 
 #ifdef SECOND_SCRAMBLER
@@ -7,6 +7,9 @@
 
 #include <string.h>
 
+static struct tally starts = {"sdsl_scrambler_start", 0, 0};
+static struct tally bit_scrambles = {"sdsl_scramble_bit", 0, 0};
+static struct tally bit_descrambles = {"sdsl_descramble_bit", 0, 0};
 static struct tally scrambles = {"sdsl_scramble", 0, 0};
 static struct tally descrambles = {"sdsl_descramble", 0, 0};
 static struct tally frame_scrambles = {"sdsl_scramble_frame", 0, 0};
@@ -16,12 +19,16 @@ static struct tally examples = {"examples 6 to 8", 0, 0};
 
 #define LAST_STATE 8388607u
 
+typedef struct sdsl_scrambled_bit bit_step(uint32_t end, uint32_t state, uint32_t bit);
 typedef struct sdsl_scrambled octets_run(uint32_t end, uint32_t state, const uint8_t *in, size_t in_len, size_t bits,
                                          uint8_t *out, size_t out_len);
 typedef struct sdsl_scrambled frame_run(uint32_t end, uint32_t state, const uint8_t *in, size_t in_len, uint8_t *out, size_t out_len);
 
 /* The two directions, each with both sides' functions. */
 static const struct direction {
+    bit_step *lib_bit;
+    bit_step *ref_bit;
+    struct tally *bit_tally;
     octets_run *lib;
     octets_run *ref;
     struct tally *tally;
@@ -29,8 +36,10 @@ static const struct direction {
     frame_run *ref_frame;
     struct tally *frame_tally;
 } directions[2] = {
-    {sdsl_scramble, ref_scramble, &scrambles, sdsl_scramble_frame, ref_scramble_frame, &frame_scrambles},
-    {sdsl_descramble, ref_descramble, &descrambles, sdsl_descramble_frame, ref_descramble_frame, &frame_descrambles},
+    {sdsl_scramble_bit, ref_scramble_bit, &bit_scrambles, sdsl_scramble, ref_scramble, &scrambles,
+     sdsl_scramble_frame, ref_scramble_frame, &frame_scrambles},
+    {sdsl_descramble_bit, ref_descramble_bit, &bit_descrambles, sdsl_descramble, ref_descramble, &descrambles,
+     sdsl_descramble_frame, ref_descramble_frame, &frame_descrambles},
 };
 
 /* ---- One comparison each ---- */
@@ -76,6 +85,30 @@ static void try_frame(const struct direction *direction, uint32_t end, uint32_t 
     give_back(&out);
 }
 
+static void try_start(uint32_t end)
+{
+    struct sdsl_scrambled lib = sdsl_scrambler_start(end);
+    struct sdsl_scrambled ref = ref_scrambler_start(end);
+    struct comparison comparison = {NULL};
+    want(&comparison, lib.answer == ref.answer, "answers differ");
+    want(&comparison, lib.state == ref.state, "states differ");
+    settle(comparison, &starts, "end %u: library %u state 0x%x, reference %u state 0x%x", end, lib.answer, lib.state, ref.answer,
+           ref.state);
+}
+
+static void try_bit(const struct direction *direction, uint32_t end, uint32_t state, uint32_t bit)
+{
+    struct sdsl_scrambled_bit lib = direction->lib_bit(end, state, bit);
+    struct sdsl_scrambled_bit ref = direction->ref_bit(end, state, bit);
+    struct comparison comparison = {NULL};
+    want(&comparison, lib.answer == ref.answer, "answers differ");
+    want(&comparison, lib.bit == ref.bit, "bits differ");
+    want(&comparison, lib.state == ref.state, "states differ");
+    want(&comparison, lib.answer == 0 || (lib.bit == 0 && lib.state == state), "a refused call gave a bit or changed the state");
+    settle(comparison, direction->bit_tally, "end %u state 0x%x bit %u: library %u bit %u state 0x%x, reference %u bit %u state 0x%x", end,
+           state, bit, lib.answer, lib.bit, lib.state, ref.answer, ref.bit, ref.state);
+}
+
 /* ---- Runs ---- */
 
 static const uint32_t ends[] = {0, 1, 2, 3, 5, 18, 255, 256, 257, 65536, 65537, 2147483648, 2147483649, 4294967295};
@@ -84,6 +117,32 @@ static const uint32_t states[] = {0, 1, 2, 16, 131072, 4194304, 8388606, 8388607
 static uint32_t random_state(void)
 {
     return (uint32_t)below(LAST_STATE + 1);
+}
+
+/* Every end with every state and every bit, and each single bit of the state. */
+static void bit_edges(const struct direction *direction)
+{
+    static const uint32_t bits[] = {0, 1, 2, 3, 255, 256, 257, 65537, 2147483648, 4294967295};
+    for (size_t e = 0; e < ITEMS(ends); e++) {
+        try_start(ends[e]);
+        for (size_t s = 0; s < ITEMS(states); s++) {
+            for (size_t b = 0; b < ITEMS(bits); b++) {
+                try_bit(direction, ends[e], states[s], bits[b]);
+            }
+        }
+    }
+    for (uint32_t end = 0; end < 2; end++) {
+        for (uint32_t bit = 0; bit < 2; bit++) {
+            for (uint32_t place = 0; place < 23; place++) {
+                try_bit(direction, end, 1u << place, bit);
+                try_bit(direction, end, LAST_STATE - (1u << place), bit);
+            }
+        }
+    }
+    for (size_t i = 0; i < scaled(20000); i++) {
+        try_start(random32());
+        try_bit(direction, (uint32_t)below(2), random_state(), (uint32_t)below(2));
+    }
 }
 
 /* Every end with every state, on a few lengths and counts; 0 bits and no octets among them. */
@@ -329,6 +388,7 @@ void second_scrambler(void)
     paper_examples(sdsl_scramble, "library");
     paper_examples(ref_scramble, "reference");
     for (size_t i = 0; i < 2; i++) {
+        bit_edges(&directions[i]);
         run_edges(&directions[i]);
         run_lengths(&directions[i]);
         run_single_bits(&directions[i]);
@@ -339,7 +399,8 @@ void second_scrambler(void)
         random_frames(&directions[i]);
     }
     round_trip();
-    const struct tally tallies[] = {scrambles, descrambles, frame_scrambles, frame_descrambles, round_trips, examples};
+    const struct tally tallies[] = {starts, bit_scrambles, bit_descrambles, scrambles, descrambles, frame_scrambles, frame_descrambles,
+                                    round_trips, examples};
     print_group("scrambler", tallies, ITEMS(tallies));
 }
 

@@ -10,8 +10,10 @@
 static struct tally activation_levels = {"sdsl_activation_level", 0, 0};
 static struct tally data_levels = {"sdsl_data_level", 0, 0};
 static struct tally level_codes = {"sdsl_level_code", 0, 0};
+static struct tally encoder_starts = {"sdsl_encoder_start", 0, 0};
 static struct tally encodes = {"sdsl_encode", 0, 0};
 static struct tally encode_runs = {"sdsl_encode_run", 0, 0};
+static struct tally history_starts = {"sdsl_history_start", 0, 0};
 static struct tally precodes = {"sdsl_precode", 0, 0};
 static struct tally unprecodes = {"sdsl_unprecode", 0, 0};
 static struct tally shapers = {"sdsl_shaper", 0, 0};
@@ -86,6 +88,17 @@ static void levels(void)
 
 /* ---- The encoder ---- */
 
+static void try_encoder_start(uint32_t a, uint32_t b)
+{
+    struct sdsl_encoded_run lib = sdsl_encoder_start(a, b);
+    struct sdsl_encoded_run ref = ref_encoder_start(a, b);
+    struct comparison comparison = {NULL};
+    want(&comparison, lib.answer == ref.answer, "answers differ");
+    want(&comparison, lib.reg == ref.reg, "registers differ");
+    settle(comparison, &encoder_starts, "a 0x%x b 0x%x: library %u register 0x%x, reference %u register 0x%x", a, b, lib.answer, lib.reg,
+           ref.answer, ref.reg);
+}
+
 static void try_encode(uint32_t a, uint32_t b, uint32_t reg, uint32_t symbol)
 {
     struct sdsl_encoded lib = sdsl_encode(a, b, reg, symbol);
@@ -146,6 +159,7 @@ static void encoder_edges(void)
     /* Every set of faults is among these. */
     for (size_t i = 0; i < ITEMS(words); i++) {
         for (size_t k = 0; k < ITEMS(words); k++) {
+            try_encoder_start(words[i], words[k]);
             for (size_t r = 0; r < ITEMS(registers); r++) {
                 for (size_t s = 0; s < ITEMS(symbols); s++) {
                     try_encode(words[i], words[k], registers[r], symbols[s]);
@@ -194,6 +208,7 @@ static void random_encoding(void)
 {
     uint8_t run[300];
     for (size_t i = 0; i < scaled(100000); i++) {
+        try_encoder_start(random_word(), random_word());
         try_encode(random_word(), random_word(), random_register(), (uint32_t)below(8));
     }
     for (size_t i = 0; i < scaled(5000); i++) {
@@ -204,6 +219,23 @@ static void random_encoding(void)
 }
 
 /* ---- The precoder ---- */
+
+/* Every length up to a little too long, over whatever the memory held. */
+static void start_histories(void)
+{
+    for (size_t len = 0; len <= SDSL_HISTORY_OCTETS + 40; len++) {
+        for (unsigned turn = 0; turn < (len == SDSL_HISTORY_OCTETS ? 100u : 2u); turn++) {
+            struct pair history = lend_junk(len);
+            uint32_t lib = sdsl_history_start(history.lib, history.len);
+            uint32_t ref = ref_history_start(history.ref, history.len);
+            struct comparison comparison = {NULL};
+            want(&comparison, lib == ref, "answers differ");
+            want_written(&comparison, &history, lib, "histories differ");
+            settle(comparison, &history_starts, "length %zu: library %u, reference %u", len, lib, ref);
+            give_back(&history);
+        }
+    }
+}
 
 #define SAMPLES 400
 
@@ -596,6 +628,7 @@ void second_symbols(void)
     levels();
     encoder_edges();
     random_encoding();
+    start_histories();
     precoder_edges();
     halves();
     precoder_ranges();
@@ -604,8 +637,8 @@ void second_symbols(void)
     random_precoding();
     round_trip();
     shaper();
-    const struct tally tallies[] = {activation_levels, data_levels, level_codes, encodes, encode_runs, precodes, unprecodes, shapers,
-                                    round_trips, examples};
+    const struct tally tallies[] = {activation_levels, data_levels, level_codes, encoder_starts, encodes, encode_runs, history_starts,
+                                    precodes, unprecodes, shapers, round_trips, examples};
     print_group("symbols", tallies, ITEMS(tallies));
 }
 

@@ -102,12 +102,16 @@ mutant "the count of octets runs over" -e 's/^    size_t octets_needed = .*/    
 mutant "bits past the count cleared" -e '/^static struct sdsl_scrambled run_octets/,/^}/s/^    pack(out_bits, bits, out);/    if (bits % 8) out[bits \/ 8] = 0; pack(out_bits, bits, out);/'
 mutant "a refused call hands back 0 as the state" -e '/^static struct sdsl_scrambled run_octets/,/^}/s/^    struct sdsl_scrambled result = {0, state};/    struct sdsl_scrambled result = {0, 0};/'
 mutant "right for the first bit, the rest copied" -e '/^static uint32_t scramble_bits/,/^}/s/^        out\[n\] = s\[22 + n\];/        out[n] = n == 1 ? s[22 + n] : f[n];/'
+mutant "a scrambler that starts with a one" -e '/^struct sdsl_scrambled ref_scrambler_start/,/^}/s/SDSL_UNKNOWN, 0};/SDSL_UNKNOWN, 1};/'
+mutant "a bit of 2 taken" -e '/^static struct sdsl_scrambled_bit run_bit/,/^}/s/bit > 1/bit > 2/'
 mutant "descrambling keeps a plain bit in the state" -e '/^static uint32_t descramble_bits/,/^}/s/state_after(s, count)/state_after(s, count) ^ (count > 0 ? out[count] ^ s[22 + count] : 0)/'
 
 echo "-- symbols"
 mutant "codes 8 to 15 rising in order" -e 's/^    9, 11, 13, 15,  .*/    1, 3, 5, 7, 9, 11, 13, 15,/'
 mutant "A and B exchanged" -e 's/2 \* (left_by_a % 2) + left_by_b % 2/2 * (left_by_b % 2) + left_by_a % 2/'
 mutant "the oldest X1 not masked by a20" -e 's/^        x1\[20 + m\] = symbols\[m\] \/ 4;/        x1[20 + m] = symbols[m] \/ 4; a \&= 1048575;/'
+mutant "an encoder that starts with any words" -e '/^struct sdsl_encoded_run ref_encoder_start/,/^}/s/a > 2097151 || b > 2097151/a > 2097151/'
+mutant "a history whose last octet is not cleared" -e '/^uint32_t ref_history_start/,/^}/s/i < 720; i++/i < 719; i++/'
 mutant "v cut toward zero" -e '/^static int64_t rounded/,/^}/s/^    return v;/    return sum \/ 131072;/'
 mutant "halves downward" -e 's/2 \* 131072 \* higher <= 2 \* sum + 131072/2 * 131072 * higher < 2 * sum + 131072/'
 mutant "y allowed to be +131,072" -e 's/^    while (u > 131071) {/    while (u > 131072) {/'

@@ -65,7 +65,7 @@ pub fn put_signed(room: &mut [u8], at: usize, v: i32) -> usize
 }
 
 // An octet as two hex digits, the high one first.
-pub fn put_hex(room: &mut [u8], at: usize, octet: u8) -> usize
+fn put_hex(room: &mut [u8], at: usize, octet: u8) -> usize
     ensures { λ r. ⌜ Put (now (room .entry)) at (hex octet) r (now (room .exit)) ⌝ }
 {
     let next = put(room, at, digit(octet / 16));

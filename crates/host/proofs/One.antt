@@ -1,14 +1,15 @@
 -- One result per call, and the order of the checks. Assumes nothing.
 use mathlib.Core.Path.{_≡_, refl, sym, ap, _∙_}
 use mathlib.Core.Bool.{true}
-use mathlib.Core.List.{List, _∷_}
+use mathlib.Core.List.{List, [], _∷_}
 use Prim.Native.Nat.{ℕ}
 use lib.IntN.{ℤ}
 use Rattle.answer.specs.Answer.{wrongLength, held, inOrder}
 use Rattle.layout.specs.Refusals.{writeRefusals}
-use Rattle.numbers.specs.Promises.{numbersOf}
+use Rattle.numbers.specs.Promises.{numbersOf, numberOctets}
 use Rattle.writer.specs.Promises.{frameOctets}
-use Rattle.symbol.proofs.One.{activation-level-one, data-level-one, level-code-one, step-one, run-one}
+use Rattle.symbol.proofs.One.{activation-level-one, data-level-one, level-code-one, start-one as encoder-start-one, step-one, run-one}
+use Rattle.samples.specs.Samples.{atStart}
 use Rattle.samples.proofs.One.{shaper-one}
 use Rattle.precoder.specs.Runs.{PrecodesRun, DecodesRun}
 use Rattle.precoder.proofs.One.{precode-run-one, decode-run-one}
@@ -22,16 +23,18 @@ use Rattle.host.specs.declared.supervising.Supervisor.{Supervisor}
 use Rattle.host.specs.declared.supervising.Stepped.{Stepped}
 use Rattle.host.specs.declared.supervising.Run.{Run}
 use Rattle.host.specs.Frames.{FrameWritten, FrameRead, frameReadRefusals}
-use Rattle.host.specs.Symbols.{ActivationLevelGiven, DataLevelGiven, CodeGiven, SymbolEncoded, SymbolsEncoded, SampleShaped, asLevel, encoder}
+use Rattle.host.specs.Symbols.{ActivationLevelGiven, DataLevelGiven, CodeGiven, EncoderStarted, SymbolEncoded, SymbolsEncoded}
+use Rattle.host.specs.Symbols.{HistoryStarted, SampleShaped, asLevel, encoder}
 use Rattle.host.specs.Supervising.{Started, StateStepped, CodesRun}
 use Rattle.recurrence.specs.Run.{Way}
-use Rattle.scrambler.proofs.One.{run-one as scrambler-run-one, frame-one}
+use Rattle.scrambler.proofs.One.{start-one, step-one as bit-one, run-one as scrambler-run-one, frame-one}
 use Rattle.host.specs.declared.scrambling.Scrambled.{Scrambled}
-use Rattle.host.specs.Scrambling.{crossing, ScrambledRun, ScrambledFrame}
+use Rattle.host.specs.declared.scrambling.ScrambledBit.{ScrambledBit}
+use Rattle.host.specs.Scrambling.{crossing, bitCrossing, ScramblerStarted, BitScrambled, ScrambledRun, ScrambledFrame}
 
 module _ (kind count : ℕ) (os : List ℕ) (a b : ℕ) (vendor frame : List ℕ) where
-  pub sdsl-frame-write-one : (r r′ : ℕ) (t t′ : List ℕ) → FrameWritten kind count os a b vendor frame r t → FrameWritten kind count os a b vendor frame r′ t′
-      → (r ≡ r′) × (t ≡ t′)
+  pub sdsl-frame-write-one : (r r′ : ℕ) (t t′ : List ℕ)
+      → FrameWritten kind count os a b vendor frame r t → FrameWritten kind count os a b vendor frame r′ t′ → (r ≡ r′) × (t ≡ t′)
   sdsl-frame-write-one r r′ t t′ p q =
       let e : r ≡ r′ = p .answered ∙ sym (q .answered) in
       (e, p .left ∙ ap (λ (n : ℕ). held n frame (frameOctets kind count (numbersOf os) a b vendor)) e ∙ sym (q .left))
@@ -65,6 +68,11 @@ sdsl-level-code-one level r r′ p q =
     let e = level-code-one level _ _ p q in
     λ i. record { answer = e i .answer; code = e i .code }
 
+pub sdsl-encoder-start-one : (a b : ℕ) (r r′ : EncodedRun) → EncoderStarted a b r → EncoderStarted a b r′ → r ≡ r′
+sdsl-encoder-start-one a b r r′ p q =
+    let e = encoder-start-one a b _ _ p q in
+    λ i. record { answer = e i .answer; register = e i .next .register }
+
 module _ (a b register : ℕ) where
   pub sdsl-encode-one : (symbol : ℕ) (r r′ : Encoded) → SymbolEncoded a b register symbol r → SymbolEncoded a b register symbol r′ → r ≡ r′
   sdsl-encode-one symbol r r′ p q =
@@ -76,6 +84,16 @@ module _ (a b register : ℕ) where
   sdsl-encode-run-one symbols codes r r′ d d′ p q =
       let e = run-one (encoder a b register) symbols codes _ _ d d′ p q in
       (λ i. record { answer = e .0 i .answer; register = e .0 i .next .register }, e .1)
+
+module _ (history : List ℕ) where
+  pub sdsl-history-start-one : (r r′ : ℕ) (h h′ : List ℕ) → HistoryStarted history r h → HistoryStarted history r′ h′ → (r ≡ r′) × (h ≡ h′)
+  sdsl-history-start-one r r′ h h′ p q =
+      let e : r ≡ r′ = p .answered ∙ sym (q .answered) in
+      (e, p .left ∙ ap (λ (n : ℕ). held n history (numberOctets atStart)) e ∙ sym (q .left))
+
+  pub history-start-order : inOrder 1 (wrongLength history 720 ∷ []) ≡ true
+  unfolding inOrder
+  history-start-order = refl
 
 pub sdsl-precode-one : (coefficients history xs ys : List ℕ) (r r′ : ℕ) (h h′ d d′ : List ℕ)
     → PrecodesRun coefficients history xs ys r h d → PrecodesRun coefficients history xs ys r′ h′ d′ → (r ≡ r′) × (h ≡ h′) × (d ≡ d′)
@@ -98,6 +116,17 @@ sdsl-step-one s code r r′ p q = p ∙ sym q
 
 pub sdsl-run-codes-one : (s : Supervisor) (codes : List ℕ) (r r′ : Run) → CodesRun s codes r → CodesRun s codes r′ → r ≡ r′
 sdsl-run-codes-one s codes r r′ p q = p ∙ sym q
+
+pub sdsl-scrambler-start-one : (end : ℕ) (r r′ : Scrambled) → ScramblerStarted end r → ScramblerStarted end r′ → r ≡ r′
+sdsl-scrambler-start-one end r r′ p q =
+    p .crossed ∙ ap crossing (start-one end (p .ran) (q .ran) (p .promise) (q .promise)) ∙ sym (q .crossed)
+
+-- sdsl_scramble_bit and sdsl_descramble_bit
+pub sdsl-scramble-bit-one : (way : Way) (end state bit : ℕ) (r r′ : ScrambledBit)
+    → BitScrambled way end state bit r → BitScrambled way end state bit r′ → r ≡ r′
+sdsl-scramble-bit-one way end state bit r r′ p q =
+    let e = bit-one way (record { end = end; state = state }) bit (p .step) (q .step) (p .promise) (q .promise) in
+    p .crossed ∙ ap bitCrossing e ∙ sym (q .crossed)
 
 -- sdsl_scramble and sdsl_descramble
 pub sdsl-scramble-one : (way : Way) (end state : ℕ) (input : List ℕ) (bits : ℕ) (output : List ℕ) (r r′ : Scrambled) (t t′ : List ℕ)

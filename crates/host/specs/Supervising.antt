@@ -1,4 +1,5 @@
--- What the exported supervisor promises: a start and a step of supervisor and a run of startup, with the same numbers in the structs that cross.
+-- What the exported supervisor promises: what supervisor promises of a start and a step, and startup of a run, with the same numbers in the
+-- structs that cross.
 use mathlib.Core.Path.{_≡_}
 use mathlib.Core.List.{List}
 use Prim.Native.Nat.{ℕ}
@@ -25,7 +26,8 @@ steppedOf r = record { answer = r .answer; phase = r .phase; attempt = r .attemp
 
 -- struct sdsl_run: `opened` is how many attempts opened, `ended` what became of the last one
 abbrev pub runFieldsOf : StartupRun → Run
-runFieldsOf r = record { answer = r .answer; opened = r .attempts; «opened_at» = r .«opened_at»; ended = r .outcome; «ended_at» = r .«ended_at»; state = stateOf (r .state) }
+runFieldsOf r =
+    record { answer = r .answer; opened = r .attempts; «opened_at» = r .«opened_at»; ended = r .outcome; «ended_at» = r .«ended_at»; state = stateOf (r .state) }
 
 -- sdsl_start
 abbrev pub Started : ℕ → ℕ → Stepped → Type 0

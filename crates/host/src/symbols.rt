@@ -1,6 +1,11 @@
-// Symbols for C (clauses 4.1.6, 4.3.3, 4.3.4): levels, the encoder, the precoder and the shaper's float. Each export is a function of a crate below, on the same numbers.
+// Symbols for C (clauses 4.1.6, 4.3.3, 4.3.4): levels, the encoder, the precoder and the shaper's float. Each export is a function of a
+// crate below, on the same numbers.
 ghost use Rattle.precoder.specs.Runs.{PrecodesRun, DecodesRun};
-ghost use Rattle.host.specs.Symbols.{ActivationLevelGiven, DataLevelGiven, CodeGiven, SymbolEncoded, SymbolsEncoded, SampleShaped};
+ghost use Rattle.host.specs.Symbols.{ActivationLevelGiven, DataLevelGiven, CodeGiven};
+ghost use Rattle.host.specs.Symbols.{EncoderStarted, SymbolEncoded, SymbolsEncoded, HistoryStarted, SampleShaped};
+
+// A history's octets.
+const HISTORY_OCTETS: usize = 720;
 
 // A level in sixteenths, with the answer first.
 #[repr(C)]
@@ -25,7 +30,7 @@ pub struct Encoded {
     pub register: u32,
 }
 
-// What many symbols give, beside their codes.
+// What a start and many symbols give, beside their codes.
 #[repr(C)]
 pub struct EncodedRun {
     pub answer: u32,
@@ -75,6 +80,19 @@ pub extern "C" fn sdsl_level_code(sixteenths: i32) -> Code
     }
 }
 
+// The register that an encoder with these words starts with.
+#[no_mangle]
+pub extern "C" fn sdsl_encoder_start(a: u32, b: u32) -> EncodedRun
+    ensures { λ r. ⌜ EncoderStarted a b r ⌝ }
+{
+    let start = symbol::Encoder::start(a, b);
+    let first = start.next;
+    EncodedRun {
+        answer: start.answer,
+        register: first.register,
+    }
+}
+
 // One symbol.
 #[no_mangle]
 pub extern "C" fn sdsl_encode(a: u32, b: u32, register: u32, symbol: u32) -> Encoded
@@ -109,6 +127,19 @@ pub extern "C" fn sdsl_encode_run(
     }
 }
 
+// The history before the first symbol.
+#[no_mangle]
+pub extern "C" fn sdsl_history_start(history: &mut [u8]) -> u32
+    ensures { λ r. ⌜ HistoryStarted (now (history .entry)) r (now (history .exit)) ⌝ }
+{
+    if history.len() != HISTORY_OCTETS {
+        return answer::LENGTH;
+    }
+    let past = samples::start();
+    numbers::put_numbers(history, &past);
+    answer::DONE
+}
+
 // Precodes samples, four octets each; the history moves on.
 #[no_mangle]
 pub extern "C" fn sdsl_precode(
@@ -117,7 +148,8 @@ pub extern "C" fn sdsl_precode(
     xs: &[u8],
     ys: &mut [u8],
 ) -> u32
-    ensures { λ r. ⌜ PrecodesRun (now (coefficients .entry)) (now (history .entry)) (now (xs .entry)) (now (ys .entry)) r (now (history .exit)) (now (ys .exit)) ⌝ }
+    ensures { λ r. ⌜ PrecodesRun (now (coefficients .entry)) (now (history .entry)) (now (xs .entry)) (now (ys .entry)) r (now (history .exit))
+        (now (ys .exit)) ⌝ }
 {
     precoder::precode_run(coefficients, history, xs, ys)
 }
@@ -130,7 +162,8 @@ pub extern "C" fn sdsl_unprecode(
     ys: &[u8],
     xs: &mut [u8],
 ) -> u32
-    ensures { λ r. ⌜ DecodesRun (now (coefficients .entry)) (now (history .entry)) (now (ys .entry)) (now (xs .entry)) r (now (history .exit)) (now (xs .exit)) ⌝ }
+    ensures { λ r. ⌜ DecodesRun (now (coefficients .entry)) (now (history .entry)) (now (ys .entry)) (now (xs .entry)) r (now (history .exit))
+        (now (xs .exit)) ⌝ }
 {
     precoder::decode_run(coefficients, history, ys, xs)
 }

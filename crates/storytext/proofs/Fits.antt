@@ -156,9 +156,11 @@ unfolding whyText causeText
 why-length o =
     either-length (eqb (o .how) 2) [] _ 35 (lit≤ tt)
     (simp length-append
-    (omega
-    (arith, short-length (o .phase),
-    either-length (eqb (o .code) 0) (text ": time was up in ") (text ": code 8, abnormal, came in ") 28 (lit≤ tt) (lit≤ tt))))
+    (omega (
+      arith,
+      short-length (o .phase),
+      either-length (eqb (o .code) 0) (text ": time was up in ") (text ": code 8, abnormal, came in ") 28 (lit≤ tt) (lit≤ tt),
+    )))
 
 -- ---- the lines
 

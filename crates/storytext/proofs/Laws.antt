@@ -44,11 +44,22 @@ unfolding rowOf rowBy nameOf
 name-told end p =
     each (λ (n : ℕ). rowOf names (cond (ltb 12 n) 14 (cond (eqb n 5) (cond (eqb end 1) 13 n) n)) ≡ nameOf end n) 13
     (refl, (refl, (refl, (refl, (refl, (quiet (eqb end 1), (refl, (refl, (refl, (refl, (refl, (refl, (refl, tt)))))))))))))
-    (λ n h. simp
-    (lt-ltb 12 n h, ne-eqb n 0 (λ e. omega arith), ne-eqb n 1 (λ e. omega arith), ne-eqb n 2 (λ e. omega arith), ne-eqb n 3 (λ e. omega arith),
-    ne-eqb n 4 (λ e. omega arith), ne-eqb n 5 (λ e. omega arith), ne-eqb n 6 (λ e. omega arith), ne-eqb n 7 (λ e. omega arith),
-    ne-eqb n 8 (λ e. omega arith), ne-eqb n 9 (λ e. omega arith), ne-eqb n 10 (λ e. omega arith), ne-eqb n 11 (λ e. omega arith),
-    ne-eqb n 12 (λ e. omega arith))) p
+    (λ n h. simp (
+      lt-ltb 12 n h,
+      ne-eqb n 0 (λ e. omega arith),
+      ne-eqb n 1 (λ e. omega arith),
+      ne-eqb n 2 (λ e. omega arith),
+      ne-eqb n 3 (λ e. omega arith),
+      ne-eqb n 4 (λ e. omega arith),
+      ne-eqb n 5 (λ e. omega arith),
+      ne-eqb n 6 (λ e. omega arith),
+      ne-eqb n 7 (λ e. omega arith),
+      ne-eqb n 8 (λ e. omega arith),
+      ne-eqb n 9 (λ e. omega arith),
+      ne-eqb n 10 (λ e. omega arith),
+      ne-eqb n 11 (λ e. omega arith),
+      ne-eqb n 12 (λ e. omega arith),
+    )) p
   where
     quiet : (b : Bool) → rowOf names (cond b 13 5) ≡ cond b (text "Quiet (1.500 s)") (text "Quiet (0.500 s)")
     quiet true = refl
@@ -63,9 +74,17 @@ unfolding rowOf rowBy reportName
 report-told =
     each (λ (n : ℕ). rowOf reports (cond (ltb 8 n) 0 n) ≡ reportName n) 9
     (refl, (refl, (refl, (refl, (refl, (refl, (refl, (refl, (refl, tt)))))))))
-    (λ n h. simp
-    (lt-ltb 8 n h, ne-eqb n 1 (λ e. omega arith), ne-eqb n 2 (λ e. omega arith), ne-eqb n 3 (λ e. omega arith), ne-eqb n 4 (λ e. omega arith),
-    ne-eqb n 5 (λ e. omega arith), ne-eqb n 6 (λ e. omega arith), ne-eqb n 7 (λ e. omega arith), ne-eqb n 8 (λ e. omega arith)))
+    (λ n h. simp (
+      lt-ltb 8 n h,
+      ne-eqb n 1 (λ e. omega arith),
+      ne-eqb n 2 (λ e. omega arith),
+      ne-eqb n 3 (λ e. omega arith),
+      ne-eqb n 4 (λ e. omega arith),
+      ne-eqb n 5 (λ e. omega arith),
+      ne-eqb n 6 (λ e. omega arith),
+      ne-eqb n 7 (λ e. omega arith),
+      ne-eqb n 8 (λ e. omega arith),
+    ))
 
 abbrev pub shorts : List ℕ
 shorts = text "\n\n\nC_r\nHearing\nQuiet\nS_c\nS_r\nT_c\nT_r\nF_c\n"
@@ -75,9 +94,17 @@ unfolding rowOf rowBy shortName
 short-told =
     each (λ (n : ℕ). rowOf shorts (cond (ltb 10 n) 0 n) ≡ shortName n) 11
     (refl, (refl, (refl, (refl, (refl, (refl, (refl, (refl, (refl, (refl, (refl, tt)))))))))))
-    (λ n h. simp
-    (lt-ltb 10 n h, ne-eqb n 3 (λ e. omega arith), ne-eqb n 4 (λ e. omega arith), ne-eqb n 5 (λ e. omega arith), ne-eqb n 6 (λ e. omega arith),
-    ne-eqb n 7 (λ e. omega arith), ne-eqb n 8 (λ e. omega arith), ne-eqb n 9 (λ e. omega arith), ne-eqb n 10 (λ e. omega arith)))
+    (λ n h. simp (
+      lt-ltb 10 n h,
+      ne-eqb n 3 (λ e. omega arith),
+      ne-eqb n 4 (λ e. omega arith),
+      ne-eqb n 5 (λ e. omega arith),
+      ne-eqb n 6 (λ e. omega arith),
+      ne-eqb n 7 (λ e. omega arith),
+      ne-eqb n 8 (λ e. omega arith),
+      ne-eqb n 9 (λ e. omega arith),
+      ne-eqb n 10 (λ e. omega arith),
+    ))
 
 abbrev pub verbs : List ℕ
 verbs =
@@ -89,9 +116,15 @@ unfolding rowOf rowBy verbOf
 verb-told kind c =
     each (λ (n : ℕ). rowOf verbs (cond (ltb 7 n) 0 (cond (eqb n 3) (cond (eqb c 0) 8 n) n)) ≡ verbOf n c) 8
     (refl, (refl, (refl, (late (eqb c 0), (refl, (refl, (refl, (refl, tt))))))))
-    (λ n h. simp
-    (lt-ltb 7 n h, ne-eqb n 1 (λ e. omega arith), ne-eqb n 2 (λ e. omega arith), ne-eqb n 3 (λ e. omega arith), ne-eqb n 5 (λ e. omega arith),
-    ne-eqb n 6 (λ e. omega arith), ne-eqb n 7 (λ e. omega arith))) kind
+    (λ n h. simp (
+      lt-ltb 7 n h,
+      ne-eqb n 1 (λ e. omega arith),
+      ne-eqb n 2 (λ e. omega arith),
+      ne-eqb n 3 (λ e. omega arith),
+      ne-eqb n 5 (λ e. omega arith),
+      ne-eqb n 6 (λ e. omega arith),
+      ne-eqb n 7 (λ e. omega arith),
+    )) kind
   where
     late : (b : Bool) → rowOf verbs (cond b 8 3) ≡ cond b (text "time is up, ends in exception: ") (text "ends in exception: ")
     late true = refl
