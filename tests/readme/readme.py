@@ -39,6 +39,9 @@ def blocks(text, name):
     return re.findall(rf"^```{name}\n(.*?)^```$", text, re.M | re.S)
 
 
+if subprocess.run(["make", "-s", "all"], stdout=subprocess.DEVNULL).returncode != 0:
+    print("FAIL: make")
+    sys.exit(1)
 readme = open("README.md", encoding="utf-8").read()
 commands = [(command, text) for command, text in COMMAND.findall(readme) if command not in NOT_TYPED]
 say(len(commands) >= 10, f"README has {len(commands)} commands with what they print")

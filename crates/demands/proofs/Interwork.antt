@@ -10,7 +10,7 @@ use lib.Dec.{eqb, ltb, leb, lit≤}
 use lib.IntN.{ℤ}
 use lib.ListN.{length, drop}
 use lib.Seq.{sets-eq, take-at, length-take-le}
-use Rattle.answer.specs.Answer.{answer, held}
+use Rattle.answer.specs.Answer.{answer}
 use Rattle.answer.proofs.Laws.{none as none-applies, passed, given as held-given}
 use Rattle.octets.specs.Bits.{valueOf, bitsOf, octetsOf, part, laid}
 use Rattle.octets.proofs.Digits.{Bits, take-bits, drop-bits, value-part}
@@ -29,12 +29,9 @@ use Rattle.recurrence.proofs.Laws.{run-bits}
 use Rattle.scrambler.proofs.Laws.{tap-range}
 use Rattle.recurrence.proofs.Exactly.{scrambles-run, descrambles-run, back as comes-back}
 use Rattle.scrambler.proofs.Frames.{received, pad-out, frame-back}
-use Rattle.ranges.specs.Ranges.{every}
-use Rattle.samples.specs.Samples.{isSignal, pastAfter}
-use Rattle.ranges.proofs.Laws.{both}
-use Rattle.precoder.specs.Runs.{SendsAll, outputsOf, inputsOf, pastAfterAll, PrecodesRun, DecodesRun}
-use Rattle.precoder.proofs.Signals.{input-is}
-use Rattle.precoder.proofs.Back.{outputs-sent, sent-unique, outputs-length, run-done, run-back as run-back-of}
+use Rattle.precoder.specs.Runs.{pastAfterAll, PrecodesRun}
+use Rattle.precoder.proofs.Recipe.{outputsOf, inputsOf}
+use Rattle.precoder.proofs.Back.{outputs-sent, sent-unique, inputs-are, outputs-length, run-done, runs, run-back as run-back-of}
 use Rattle.precoder.proofs.Turns.{lengths-are}
 use Rattle.numbers.proofs.Laws.{octets-many, octets-kept}
 use Rattle.demands.specs.Library.{Outcome, None, none, WriteCall, ReadCall, RunCall, FrameCall, Line, PrecodeCall, Signal, Library}
@@ -164,16 +161,6 @@ module _ (x y : Library) (ex : Scrambling x) (ey : Scrambling y) where
 
 -- ---- precoding
 
--- the xs in range that go out as ys are those computed from them
-inputs-are : (coefficients past xs ys : List ℤ) → SendsAll coefficients past xs ys → every isSignal xs ≡ true → xs ≡ inputsOf coefficients past ys
-unfolding SendsAll inputsOf every
-inputs-are coefficients past [] [] s h = refl
-inputs-are coefficients past [] (y ∷ ys) s h = absurd s
-inputs-are coefficients past (x ∷ xs) [] s h = absurd s
-inputs-are coefficients past (x ∷ xs) (y ∷ ys) s h =
-    let p = both (isSignal x) (every isSignal xs) h in
-    ap₂ (λ (a : ℤ) (l : List ℤ). a ∷ l) (input-is coefficients past y x (record { signal = p .0; sends = s .0 })) (inputs-are coefficients (pastAfter past y) xs ys (s .1) (p .1))
-
 module _ (x y : Library) (ex : Precoding x) (ey : Precoding y) where
   precoded-back : (c : PrecodeCall) (room : List ℕ) → Right (precodeChecks c) → Octets (c .symbols) → length room ≡ length (c .symbols)
       → y .decode (record { coefficients = c .coefficients; history = c .history; symbols = x .precode c .memory .room; room = room })
@@ -188,15 +175,15 @@ module _ (x y : Library) (ex : Precoding x) (ey : Precoding y) where
       let call : List ℕ → PrecodeCall = λ s. record { coefficients = c .coefficients; history = c .history; symbols = s; room = room } in
       let Y = numberOctets ys in
       let n = answer (precodeChecks (call Y)) in
-      let p : PrecodesRun (c .coefficients) (c .history) (c .symbols) (c .room) 0 (numberOctets (pastAfterAll past ys)) Y = record { answered = sym h; written = refl; past = refl } in
-      let q : DecodesRun (c .coefficients) (c .history) Y room n (held n (c .history) (numberOctets (pastAfterAll past (numbersOf Y)))) (held n room (numberOctets (inputsOf cs past (numbersOf Y)))) =
-      record { answered = refl; written = refl; past = refl } in
+      let p : PrecodesRun (c .coefficients) (c .history) (c .symbols) (c .room) 0 (numberOctets (pastAfterAll past ys)) Y =
+      record { answered = sym h; out = ys; turns = λ z. outputs-sent cs past xs; written = refl; past = refl } in
+      let q = runs true (c .coefficients) (c .history) Y room in
       let d = run-done (c .coefficients) (c .history) (c .symbols) (c .room) h in
       let again : numberOctets xs ≡ c .symbols = octets-kept (c .symbols) o (lengths-are (c .coefficients) (c .history) (c .symbols) (c .room) (d .0) .2) in
       let m : length room ≡ length Y = omega (arith, l, ap length again, octets-many xs, octets-many ys, outputs-length cs past xs) in
       let b = run-back-of (c .coefficients) (c .history) (c .symbols) (c .room) room 0 n _ Y _ _ o p refl q m in
       let v = ey .decoded (call Y) (b .0) in
-      let f : v .0 ≡ inputsOf cs past (numbersOf Y) = inputs-are cs past (v .0) (numbersOf Y) (v .1) (v .2) in
+      let f : v .0 ≡ inputsOf cs past (numbersOf Y) = inputs-are cs past (numbersOf Y) (v .0) (record { signals = v .2; sends = v .1 }) in
       let room-is : numberOctets (v .0) ≡ c .symbols = ap numberOctets f ∙ sym (held-given n room (numberOctets (inputsOf cs past (numbersOf Y))) (b .0)) ∙ b .1 in
       let past-is : numberOctets (pastAfterAll past (numbersOf Y)) ≡ numberOctets (pastAfterAll past ys) = sym (held-given n (c .history) (numberOctets (pastAfterAll past (numbersOf Y))) (b .0)) ∙ b .2 in
       ap (λ (m : Outcome None Signal). y .decode (call (m .memory .room))) (w .2) ∙ ap (λ (z : List ℤ). y .decode (call (numberOctets z))) is ∙ v .3

@@ -1,6 +1,6 @@
 -- The three demands together; and a library that keeps our contracts exists, so no theorem here is about nothing. Assumes nothing.
 use mathlib.Core.Path.{_≡_, refl}
-use mathlib.Core.Bool.{not}
+use mathlib.Core.Bool.{true, false, not}
 use mathlib.Core.List.{[], _∷_}
 use Prim.Native.Nat.{ℕ, zero, suc}
 use borrow.Author.Tests.{not-false}
@@ -23,7 +23,9 @@ use Rattle.symbol.specs.Encoder.{codeOf, codesOf, x1, sentAfter, heldIn, regist
 use Rattle.samples.specs.Samples.{isSignal}
 use Rattle.samples.specs.Shaper.{Exactly, shaperTests}
 use Rattle.samples.proofs.Exact.{signal-abs, exact, exact-zero}
-use Rattle.precoder.specs.Runs.{outputsOf, inputsOf, pastAfterAll}
+use Rattle.precoder.specs.Runs.{pastAfterAll}
+use Rattle.precoder.proofs.Recipe.{outputsOf, inputsOf}
+use Rattle.precoder.proofs.Back.{runs}
 use Rattle.supervisor.specs.Step.{startOf, stepOf}
 use Rattle.startup.specs.Run.{runOf as codesRun}
 use Rattle.host.specs.Frames.{coefficientOctets}
@@ -158,8 +160,8 @@ ours-keep = record {
   code = λ l h. record { answered = refl; code = refl };
   encode = λ c h. record { answered = refl; code = refl; level = refl; next = either-register (answer (encodeChecks c)) _ _ _ _ };
   encode-run = λ c h. record { answered = refl; written = refl; next = either-register (answer (encodeRunChecks c)) _ _ _ _ };
-  precode = λ c h. record { answered = refl; written = refl; past = refl };
-  decode = λ c h. record { answered = refl; written = refl; past = refl };
+  precode = λ c h. runs false (c .coefficients) (c .history) (c .symbols) (c .room);
+  decode = λ c h. runs true (c .coefficients) (c .history) (c .symbols) (c .room);
   shape = λ y h. record { answered = refl; value = samples y };
   start = λ c h. refl;
   step = λ c h. refl;

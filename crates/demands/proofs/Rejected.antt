@@ -28,7 +28,7 @@ use Rattle.ranges.specs.Ranges.{every}
 use Rattle.symbol.specs.Levels.{placeIn}
 use Rattle.symbol.specs.Encoder.{symbolsIn, onesLeft, sentAfter, codesOf}
 use Rattle.precoder.specs.Precoder.{exactSum}
-use Rattle.precoder.specs.Runs.{outputsOf}
+use Rattle.precoder.proofs.Recipe.{turnedOf, outputsOf}
 use Rattle.precoder.proofs.Back.{sent-unique, outputs-sent}
 use Rattle.demands.specs.Library.{Outcome, None, none, WriteCall, ReadCall, Fields, Rooms, RunCall, FrameCall, Line, EncodeCall, EncodeRunCall, Symbol}
 use Rattle.demands.specs.Library.{Codes, PrecodeCall, Signal, Library}
@@ -247,7 +247,7 @@ module _ (x : Library) (two : Two x) where
       omega (arith, ap (λ (l : List ℕ). getD l 0 0) e)
 
   precoded : (x .precode one-symbol .answer ≡ 0) × (x .precode one-symbol .memory .room ≡ 1 ∷ 0 ∷ 0 ∷ 0 ∷ [])
-  unfolding numbersOf numbersIn signedOf bitsOf digitsOf valueOf numberOctets numberBits twosOf octetsOf outputsOf exactSum
+  unfolding numbersOf numbersIn signedOf bitsOf digitsOf valueOf numberOctets numberBits twosOf octetsOf turnedOf exactSum
   precoded =
       let w = two .exact .precoding .precoded one-symbol symbol-right in
       let cs = numbersOf (zeros 720) in

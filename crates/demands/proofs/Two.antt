@@ -1,11 +1,10 @@
 -- The first sentence of demand 2 holds of every library that keeps our contracts. Assumes nothing.
 use mathlib.Core.Path.{_≡_, refl, ap, _∙_, subst}
-use mathlib.Core.Bool.{Bool, true, cond}
-use mathlib.Core.List.{List, [], _∷_}
+use mathlib.Core.Bool.{Bool, cond}
+use mathlib.Core.List.{List, []}
 use Prim.Native.Nat.{ℕ}
 use borrow.Author.Tests.{le-ltb}
 use lib.Dec.{eqb, ltb}
-use lib.IntN.{ℤ}
 use lib.ListN.{drop}
 use Rattle.answer.specs.Answer.{answer}
 use Rattle.answer.proofs.Laws.{given as held-given, passed}
@@ -24,14 +23,7 @@ use Rattle.recurrence.proofs.Exactly.{run-scrambles, run-descrambles, scrambled
 use Rattle.symbol.specs.declared.Encoder.{Encoder}
 use Rattle.symbol.specs.Levels.{dataLevels, levelAt}
 use Rattle.symbol.proofs.Levels.{code-of-level}
-use Rattle.ranges.specs.Ranges.{every}
-use Rattle.samples.specs.Samples.{isSignal, pastAfter}
 use Rattle.samples.specs.Shaper.{Exactly}
-use Rattle.ranges.proofs.Laws.{both}
-use Rattle.precoder.specs.Runs.{SendsAll, outputsOf, inputsOf}
-use Rattle.precoder.proofs.Signals.{receives-input}
-use Rattle.precoder.proofs.Back.{outputs-sent, run-done}
-use Rattle.precoder.proofs.Turns.{ranges-are}
 use Rattle.host.specs.declared.scrambling.Scrambled.{Scrambled}
 use Rattle.host.specs.declared.frames.FrameFields.{FrameFields}
 use Rattle.host.specs.Frames.{fieldsOf, coefficientOctets}
@@ -59,16 +51,6 @@ readAs s bits old =
 -- bits of octets
 part-of-bits : (s : List ℕ) (at n : ℕ) → Bits (part at n (bitsOf s))
 part-of-bits s at n = take-bits n (drop at (bitsOf s)) (drop-bits at (bitsOf s) (bits-bits s))
-
--- the inputs that go out as ys in range are in range too
-inputs-sent : (coefficients past ys : List ℤ) → every isSignal ys ≡ true → SendsAll coefficients past (inputsOf coefficients past ys) ys × (every isSignal (inputsOf coefficients past ys) ≡ true)
-unfolding SendsAll inputsOf every
-inputs-sent coefficients past [] h = (tt, refl)
-inputs-sent coefficients past (y ∷ ys) h =
-    let p = both (isSignal y) (every isSignal ys) h in
-    let g = receives-input coefficients past y (p .0) in
-    let r = inputs-sent coefficients (pastAfter past y) ys (p .1) in
-    ((g .sends, r .0), rw (g .signal) (r .1))
 
 module _ (x : Library) (k : Keeps x) where
   write-training : (c : WriteCall) → c .kind ≡ 0 → Right (writeChecks c) → x .write c ≡ done none (octetsOf 529 (trainingBits (c .count) (numbersOf (c .coefficients)) (c .a) (c .b) (c .vendor)))
@@ -187,20 +169,17 @@ module _ (x : Library) (k : Keeps x) where
   pub precoding : Precoding x
   precoding = record {
     precoded = λ c h.
-        let z = k .precode c refl .answered ∙ h in
-        let m = k .precode c refl .past ∙ held-given _ _ _ z in
-        let w = k .precode c refl .written ∙ held-given _ _ _ z in (
-          outputsOf (numbersOf (c .coefficients)) (numbersOf (c .history)) (numbersOf (c .symbols)),
-          outputs-sent (numbersOf (c .coefficients)) (numbersOf (c .history)) (numbersOf (c .symbols)),
-          same z (only _) (λ i. record { history = m i; room = w i }),
-        );
+        let p = k .precode c refl in
+        let z = p .answered ∙ h in
+        let m = p .past ∙ held-given _ _ _ z in
+        let w = p .written ∙ held-given _ _ _ z in
+        (p .out, p .turns z, same z (only _) (λ i. record { history = m i; room = w i }));
     decoded = λ c h.
-        let z = k .decode c refl .answered ∙ h in
-        let m = k .decode c refl .past ∙ held-given _ _ _ z in
-        let w = k .decode c refl .written ∙ held-given _ _ _ z in
-        let r = ranges-are (numbersOf (c .coefficients)) (numbersOf (c .history)) (numbersOf (c .symbols)) (run-done (c .coefficients) (c .history) (c .symbols) (c .room) h .1) in
-        let s = inputs-sent (numbersOf (c .coefficients)) (numbersOf (c .history)) (numbersOf (c .symbols)) (r .2) in
-        (inputsOf (numbersOf (c .coefficients)) (numbersOf (c .history)) (numbersOf (c .symbols)), s .0, s .1, same z (only _) (λ i. record { history = m i; room = w i }));
+        let p = k .decode c refl in
+        let z = p .answered ∙ h in
+        let m = p .past ∙ held-given _ _ _ z in
+        let w = p .written ∙ held-given _ _ _ z in
+        (p .out, p .turns z .sends, p .turns z .signals, same z (only _) (λ i. record { history = m i; room = w i }));
     shaped = λ y h. let z = k .shape y refl .answered ∙ h in (z, subst (Exactly (x .shape y .numbers)) (held-given _ _ _ z) (k .shape y refl .value));
   }
 

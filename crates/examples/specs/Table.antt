@@ -9,15 +9,17 @@ use lib.Ieee.{Float, fin}
 use Rattle.octets.specs.Bits.{octetsOf}
 use Rattle.remainder.specs.Division.{checkBits, generator}
 use Rattle.remainder.specs.Register.{registerOf}
+use Rattle.layout.specs.Places.{reservedWidth, checkWidth, vendorLength}
 use Rattle.layout.specs.Frame.{trainingSync, finalSync, message, checkOf}
 use Rattle.scrambler.specs.Ends.{tapOf}
 use Rattle.recurrence.specs.Run.{scramble, runOf}
 use Rattle.symbol.specs.Levels.{levelAt, dataLevels}
 use Rattle.symbol.specs.Encoder.{codesOf, sentAfter, heldIn}
 use Rattle.symbol.specs.Encoder.{registerOf as encoderRegister}
-use Rattle.samples.specs.Samples.{nearest}
+use Rattle.ranges.specs.Ranges.{coefficientCount, lowestCoefficient}
+use Rattle.samples.specs.Samples.{one, isSignal, Rounds}
 use Rattle.samples.specs.Shaper.{Exactly}
-use Rattle.precoder.specs.Precoder.{exactSum, outputOf}
+use Rattle.precoder.specs.Precoder.{exactSum, Sends}
 
 -- what an example calls, and on what
 pub data Call : Type 0 where
@@ -33,10 +35,6 @@ pub data Call : Type 0 where
   scrambled : ℕ → ℕ → List ℕ → Call
   -- the levels in sixteenths, then the register: A, B, register, symbols
   encoded : ℕ → ℕ → ℕ → List ℕ → Call
-  -- v: coefficients, past outputs
-  rounded : List ℤ → List ℤ → Call
-  -- y: coefficients, past outputs, x
-  precoded : List ℤ → List ℤ → ℤ → Call
 
 -- the numbers of the bits that are not 0, the first having number n
 unfoldable pub onesFrom : ℕ → List ℕ → List ℕ
@@ -61,37 +59,44 @@ places cs = whole cs ++ whole (map (λ (c : ℕ). 4211 + c) cs)
 -- the exponents of a polynomial of degree below 16, the highest first; c1 is the bit of D^15
 unfoldable pub exponents : List ℕ → List ℕ
 exponents [] = []
-exponents (c ∷ cs) = (16 - c) ∷ exponents cs
+exponents (c ∷ cs) = (checkWidth - c) ∷ exponents cs
 
 -- what the definitions give
 unfoldable pub given : Call → List ℤ
 given training = whole (octetsOf 2 trainingSync)
 given final = whole (octetsOf 2 finalSync)
-given (ones c a b) = whole (onesFrom 15 (message (c ∷ replicate 179 (pos 0)) a b (replicate 16 0) (replicate 67 0)))
-given (check n) = places (onesFrom 1 (checkBits 16 (checkOf (replicate (n - 15) 0 ++ (1 ∷ replicate (4211 - n) 0)))))
-given (remainder m) = whole (exponents (onesFrom 1 (checkBits 16 (registerOf 16 generator 0 m))))
+given (ones c a b) =
+    whole (onesFrom 15 (message (c ∷ replicate (coefficientCount - 1) (pos 0)) a b (replicate vendorLength 0) (replicate reservedWidth 0)))
+given (check n) = places (onesFrom 1 (checkBits checkWidth (checkOf (replicate (n - 15) 0 ++ (1 ∷ replicate (4211 - n) 0)))))
+given (remainder m) = whole (exponents (onesFrom 1 (checkBits checkWidth (registerOf checkWidth generator 0 m))))
 given (scrambled end state bits) = whole (runOf scramble (tapOf end) state bits)
 given (encoded a b register symbols) =
     levels (codesOf a b (heldIn register) symbols) ++ (pos (encoderRegister (sentAfter (heldIn register) symbols)) ∷ [])
-given (rounded cs past) = nearest (exactSum 180 cs past) ∷ []
-given (precoded cs past x) = outputOf cs past x ∷ []
 
--- a row: an example's number in SCOPE, what it calls and the numbers due; or y and the shaper's float due
+-- a row begins with the example's number in SCOPE
 pub data Row : Type 0 where
+  -- what it calls, and the numbers due
   row : ℕ → Call → List ℤ → Row
+  -- of the precoder: coefficients, past outputs, and v due
+  rounded : ℕ → List ℤ → List ℤ → ℤ → Row
+  -- coefficients, past outputs, x, and y due
+  precoded : ℕ → List ℤ → List ℤ → ℤ → ℤ → Row
+  -- coefficients and past outputs with which y = x is due, for every x in its range
+  itself : ℕ → List ℤ → List ℤ → Row
+  -- y, and the shaper's float due
   shaped : ℕ → ℤ → Float → Row
 
 -- one value in front of 179 zeros
 abbrev pub first : ℤ → List ℤ
-first z = z ∷ replicate 179 (pos 0)
+first z = z ∷ replicate (coefficientCount - 1) (pos 0)
 
 -- 180 coefficients of -2,097,152
 abbrev pub lowest : List ℤ
-lowest = replicate 180 (negℤ (pos 2097152))
+lowest = replicate coefficientCount lowestCoefficient
 
 -- and 180 past values of -131,072
 abbrev pub furthest : List ℤ
-furthest = replicate 180 (negℤ (pos 131072))
+furthest = replicate coefficientCount (negℤ (pos one))
 
 -- -0.125 as a float: below zero, 1 times 2 to the power -3
 abbrev pub minusEighth : Float
@@ -114,21 +119,22 @@ table =
     ∷ row 8 (scrambled 0 8388607 (1 ∷ [])) (whole (1 ∷ []))
     ∷ row 8 (scrambled 1 8388607 (1 ∷ [])) (whole (1 ∷ []))
     ∷ row 9 (encoded 1 2 0 (5 ∷ 3 ∷ [])) (whole (13 ∷ 3 ∷ 2 ∷ []))
-    ∷ row 10 (precoded (first (pos 65536)) (first (pos 73728)) (pos 73728)) (pos 36864 ∷ [])
-    ∷ row 11 (precoded (first (negℤ (pos 131072))) (first (pos 122880)) (pos 122880)) (negℤ (pos 16384) ∷ [])
+    ∷ precoded 10 (first (pos 65536)) (first (pos 73728)) (pos 73728) (pos 36864)
+    ∷ precoded 11 (first (negℤ (pos 131072))) (first (pos 122880)) (pos 122880) (negℤ (pos 16384))
     ∷ shaped 11 (negℤ (pos 16384)) minusEighth
-    ∷ row 12 (rounded (first (pos 1)) (first (pos 65536))) (pos 1 ∷ [])
-    ∷ row 12 (rounded (first (pos 1)) (first (negℤ (pos 65536)))) (pos 0 ∷ [])
-    ∷ row 12 (rounded (first (pos 1)) (first (negℤ (pos 65537)))) (negℤ (pos 1) ∷ [])
-    ∷ row 13 (rounded lowest furthest) (pos 377487360 ∷ [])
-    ∷ row 13 (precoded lowest furthest (pos 131071)) (pos 131071 ∷ [])
-    ∷ row 13 (precoded lowest furthest (pos 0)) (pos 0 ∷ [])
-    ∷ row 13 (precoded lowest furthest (negℤ (pos 131072))) (negℤ (pos 131072) ∷ [])
+    ∷ rounded 12 (first (pos 1)) (first (pos 65536)) (pos 1)
+    ∷ rounded 12 (first (pos 1)) (first (negℤ (pos 65536))) (pos 0)
+    ∷ rounded 12 (first (pos 1)) (first (negℤ (pos 65537))) (negℤ (pos 1))
+    ∷ rounded 13 lowest furthest (pos 377487360)
+    ∷ itself 13 lowest furthest
     ∷ []
 
--- what a row claims: that the definitions give the numbers due, or that the float due is exactly y/131,072, as the shaper's contract says it
+-- what a row claims: that the definitions give the numbers due, or that what is due is right as the contracts say it
 unfoldable pub Claim : Row → Type 0
 Claim (row n call due) = given call ≡ due
+Claim (rounded n cs past due) = Rounds (exactSum coefficientCount cs past) due
+Claim (precoded n cs past x due) = Sends cs past x due
+Claim (itself n cs past) = (x : ℤ) → isSignal x ≡ true → Sends cs past x x
 Claim (shaped n y due) = Exactly due y
 
 -- that every row's claim holds

@@ -1,16 +1,10 @@
--- Each list of refusals runs in the order of their numbers. Assumes nothing.
+-- The list of refusals runs in the order of their numbers. Assumes nothing.
 use mathlib.Core.Path.{_≡_, refl}
 use mathlib.Core.Bool.{true}
 use mathlib.Core.List.{List}
 use Prim.Native.Nat.{ℕ}
-use lib.IntN.{ℤ}
 use Rattle.answer.specs.Answer.{inOrder}
-use Rattle.precoder.specs.Precoder.{symbolTests}
 use Rattle.precoder.specs.Runs.{runTests}
-
-pub symbol-order : (coefficients past : List ℤ) (z : ℤ) → inOrder 1 (symbolTests coefficients past z) ≡ true
-unfolding inOrder
-symbol-order coefficients past z = refl
 
 pub run-order : (coefficients history symbols room : List ℕ) → inOrder 1 (runTests coefficients history symbols room) ≡ true
 unfolding inOrder

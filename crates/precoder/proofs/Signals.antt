@@ -1,21 +1,19 @@
 -- Laws of a symbol: x goes out as one y, y comes back as that x, and both are what the computed definitions give. Assumes nothing.
-use mathlib.Core.Path.{_≡_, refl, sym, subst}
-use mathlib.Core.Bool.{true, not}
-use mathlib.Core.List.{List, [], _∷_}
-use Prim.Native.Nat.{ℕ, zero, suc, _≤_}
+use mathlib.Core.Path.{_≡_, sym, subst}
+use mathlib.Core.Bool.{Bool, true, false}
+use mathlib.Core.List.{List}
+use Prim.Native.Nat.{_≤_}
 use native.Mathlib.Omega.{arith}
-use borrow.Author.Tests.{not-false}
 use lib.IntN.{ℤ, pos, negℤ, natAbs, _+ℤ_, _-ℤ_, _*ℤ_}
 use mir.Syntax.{w32, w64}
 use mir.Val.{SFits}
-use Rattle.answer.specs.Answer.{refuse, answer}
-use Rattle.answer.proofs.Laws.{none}
-use Rattle.ranges.specs.Ranges.{isCoefficient, every}
-use Rattle.samples.specs.Samples.{isSignal, Rounds, Folds, nearest, pastAfter}
-use Rattle.precoder.specs.Precoder.{exactSum, Sends, Receives, outputOf, inputOf, symbolTests, either}
+use Rattle.ranges.specs.Ranges.{every}
+use Rattle.samples.specs.Samples.{isSignal, Rounds, Folds, pastAfter}
+use Rattle.precoder.specs.Precoder.{exactSum, Sends, Receives, Turns, lineOf}
 use Rattle.samples.proofs.Linear.{P-pos, N-pos, le-to, lt-to, eq-of, add-bal, sub-is, neg-P, neg-N, mul-P, mul-N, abs-is, abs-of, P-mag, N-mag, mag-of}
 use Rattle.ranges.proofs.Laws.{every-take}
-use Rattle.samples.proofs.Rounding.{fold-bal, rounds-unique, folds-unique, rounds-nearest, folds-fold}
+use Rattle.samples.proofs.Rounding.{nearest, fold-bal, rounds-unique, folds-unique, rounds-nearest, folds-fold}
+use Rattle.precoder.proofs.Recipe.{outputOf, inputOf, turnOf}
 
 -- ---- there and back
 
@@ -77,6 +75,20 @@ module _ (coefficients past : List ℤ) where
   pub comes-back : (x : ℤ) → isSignal x ≡ true → inputOf coefficients past (outputOf coefficients past x) ≡ x
   comes-back x h = sym (input-is (outputOf coefficients past x) x (record { signal = h; sends = sends-output x }))
 
+  -- either direction: the computed number, and no other
+  pub turns-of : (back : Bool) (z : ℤ) → isSignal z ≡ true → Turns back coefficients past z (turnOf back coefficients past z)
+  turns-of false x h = sends-output x
+  turns-of true y h = receives-input y h
+
+  pub turn-is : (back : Bool) (z w : ℤ) → Turns back coefficients past z w → w ≡ turnOf back coefficients past z
+  turn-is false x y p = output-is x y p
+  turn-is true y x p = input-is y x p
+
+  -- what joins the past is in range
+  pub line-in : (back : Bool) (z w : ℤ) → isSignal z ≡ true → Turns back coefficients past z w → isSignal (lineOf back z w) ≡ true
+  line-in false x y h p = p .folds .signal
+  line-in true y x h p = h
+
 -- ---- what the code computes on the way fits
 
 module _ (s v : ℤ) (h : natAbs s ≤ 49478023249920) (r : Rounds s v) where
@@ -102,22 +114,9 @@ module _ (s v : ℤ) (h : natAbs s ≤ 49478023249920) (r : Rounds s v) where
             (omega (arith, add-bal y v, v-abs, abs-is v, f .sfits, P-mag y, N-mag y));
       }
 
--- ---- the checks
+-- ---- the past
 
--- a symbol that was not refused has everything in range
-pub all-in : (coefficients past : List ℤ) (z : ℤ) → answer (symbolTests coefficients past z) ≡ 0 → (isSignal z ≡ true) × (every isCoefficient coefficients ≡ true) × (every isSignal past ≡ true)
-all-in coefficients past z e =
-    let first = none 3 (not (isSignal z)) (refuse 4 (not (every isCoefficient coefficients)) ∷ refuse 4 (not (every isSignal past)) ∷ []) e in
-    let second = none 3 (not (every isCoefficient coefficients)) (refuse 4 (not (every isSignal past)) ∷ []) (first .1) in
-    let third = none 3 (not (every isSignal past)) [] (second .1) in
-    (not-false _ (first .0), not-false _ (second .0), not-false _ (third .0))
-
--- and leaves a past in range
+-- a past in range stays so
 pub past-in : (past : List ℤ) (y : ℤ) → every isSignal past ≡ true → isSignal y ≡ true → every isSignal (pastAfter past y) ≡ true
 unfolding every
 past-in past y h e = rw e (every-take isSignal 179 past h)
-
--- of a refused call
-pub refused-is : (n : ℕ) (A B : Type 0) → (n ≡ 0 → ⊥) → A → either n A B
-refused-is zero A B h a = absurd (h refl)
-refused-is (suc n) A B h a = a

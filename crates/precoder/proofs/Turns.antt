@@ -1,6 +1,6 @@
--- Laws of runs: what one turn adds, in both directions. Assumes nothing.
-use mathlib.Core.Path.{_≡_, sym, ap, _∙_}
-use mathlib.Core.Bool.{Bool, true, _&&_}
+-- Laws of runs: what one turn adds, in either direction. Assumes nothing.
+use mathlib.Core.Path.{_≡_, refl, sym, ap, _∙_}
+use mathlib.Core.Bool.{Bool, true, false, _&&_}
 use mathlib.Core.List.{List, [], _∷_, _++_, append-assoc, append-nil}
 use Prim.Native.Nat.{ℕ, suc, _+_, _*_, _%_, _≤_}
 use native.Mathlib.Numerals.{add-one}
@@ -13,8 +13,9 @@ use lib.Seq.{take-all, length-take-le, drop-cons}
 use Rattle.numbers.specs.Promises.{numbersOf, numberOctets, withNumber}
 use Rattle.ranges.specs.Ranges.{isCoefficient, every}
 use Rattle.samples.specs.Samples.{isSignal, pastAfter}
-use Rattle.precoder.specs.Precoder.{outputOf, inputOf}
-use Rattle.precoder.specs.Runs.{pastAfterAll, outputsOf, inputsOf, lengthsRight, rangesRight}
+use Rattle.precoder.specs.Precoder.{lineOf}
+use Rattle.precoder.specs.Runs.{pastAfterAll, linesOf, lengthsRight, rangesRight}
+use Rattle.precoder.proofs.Recipe.{turnOf, turnedOf}
 use Rattle.ranges.proofs.Laws.{both}
 use Rattle.numbers.proofs.Laws.{numbers-many, octets-none, octets-append, with-next}
 
@@ -71,46 +72,51 @@ pub written-end : (room : List ℕ) (i : ℕ) (rest : List ℤ) → length room 
 written-end room i rest h e =
     ap (λ (z : List ℤ). take (4 * i) room ++ numberOctets z) e ∙ ap (λ (l : List ℕ). take (4 * i) room ++ l) octets-none ∙ append-nil (take (4 * i) room) ∙ take-all (4 * i) room h
 
-module _ (coefficients past : List ℤ) (symbols : List ℕ) (i : ℕ) (h : 4 * i + 4 ≤ length symbols) where
-  abbrev symbol : ℤ
-  symbol = getD (numbersOf symbols) i (pos 0)
+module _ (back : Bool) (coefficients past : List ℤ) where
+  -- what comes out for what remains
+  abbrev rest : List ℤ → List ℤ
+  rest zs = turnedOf back coefficients past zs
 
-  abbrev others : List ℤ
-  others = drop (i + 1) (numbersOf symbols)
+  -- and the past after that
+  abbrev end : List ℤ → List ℤ
+  end zs = pastAfterAll past (linesOf back zs (rest zs))
 
-  abbrev y : ℤ
-  y = outputOf coefficients past symbol
+  module _ (symbols : List ℕ) (i : ℕ) (h : 4 * i + 4 ≤ length symbols) where
+    abbrev z : ℤ
+    z = getD (numbersOf symbols) i (pos 0)
 
-  pub outputs-turn : outputsOf coefficients past (drop i (numbersOf symbols)) ≡ y ∷ outputsOf coefficients (pastAfter past y) others
-  unfolding outputsOf
-  outputs-turn = ap (outputsOf coefficients past) (number-next symbols i h)
+    abbrev w : ℤ
+    w = turnOf back coefficients past z
 
-  pub inputs-turn : inputsOf coefficients past (drop i (numbersOf symbols)) ≡ inputOf coefficients past symbol ∷ inputsOf coefficients (pastAfter past symbol) others
-  unfolding inputsOf
-  inputs-turn = ap (inputsOf coefficients past) (number-next symbols i h)
+    abbrev others : List ℤ
+    others = drop (i + 1) (numbersOf symbols)
 
-  pub past-out-turn : pastAfterAll past (outputsOf coefficients past (drop i (numbersOf symbols))) ≡ pastAfterAll (pastAfter past y) (outputsOf coefficients (pastAfter past y) others)
-  unfolding pastAfterAll
-  past-out-turn = ap (pastAfterAll past) outputs-turn
+    abbrev next : List ℤ
+    next = pastAfter past (lineOf back z w)
 
-  pub past-in-turn : pastAfterAll past (drop i (numbersOf symbols)) ≡ pastAfterAll (pastAfter past symbol) others
-  unfolding pastAfterAll
-  past-in-turn = ap (pastAfterAll past) (number-next symbols i h)
+    pub turned-turn : rest (drop i (numbersOf symbols)) ≡ w ∷ turnedOf back coefficients next others
+    unfolding turnedOf
+    turned-turn = ap rest (number-next symbols i h)
 
--- with nothing left, nothing more happens
-module _ (coefficients past : List ℤ) (symbols : List ℕ) (i : ℕ) (h : length symbols ≤ 4 * i) where
-  pub outputs-end : outputsOf coefficients past (drop i (numbersOf symbols)) ≡ []
-  unfolding outputsOf
-  outputs-end = ap (outputsOf coefficients past) (number-end symbols i h)
+    pub past-turn : end (drop i (numbersOf symbols)) ≡ pastAfterAll next (linesOf back others (turnedOf back coefficients next others))
+    unfolding turnedOf pastAfterAll
+    past-turn = ap end (number-next symbols i h) ∙ go back w (turnedOf back coefficients next others)
+      where
+        go : (b : Bool) (v : ℤ) (vs : List ℤ)
+            → pastAfterAll past (linesOf b (z ∷ others) (v ∷ vs)) ≡ pastAfterAll (pastAfter past (lineOf b z v)) (linesOf b others vs)
+        go false v vs = refl
+        go true v vs = refl
 
-  pub inputs-end : inputsOf coefficients past (drop i (numbersOf symbols)) ≡ []
-  unfolding inputsOf
-  inputs-end = ap (inputsOf coefficients past) (number-end symbols i h)
+  -- with nothing left, nothing more happens
+  module _ (symbols : List ℕ) (i : ℕ) (h : length symbols ≤ 4 * i) where
+    pub turned-end : rest (drop i (numbersOf symbols)) ≡ []
+    unfolding turnedOf
+    turned-end = ap rest (number-end symbols i h)
 
-  pub past-out-end : pastAfterAll past (outputsOf coefficients past (drop i (numbersOf symbols))) ≡ past
-  unfolding pastAfterAll
-  past-out-end = ap (pastAfterAll past) outputs-end
-
-  pub past-in-end : pastAfterAll past (drop i (numbersOf symbols)) ≡ past
-  unfolding pastAfterAll
-  past-in-end = ap (pastAfterAll past) (number-end symbols i h)
+    pub past-end : end (drop i (numbersOf symbols)) ≡ past
+    unfolding turnedOf pastAfterAll
+    past-end = ap end (number-end symbols i h) ∙ go back
+      where
+        go : (b : Bool) → pastAfterAll past (linesOf b [] []) ≡ past
+        go false = refl
+        go true = refl

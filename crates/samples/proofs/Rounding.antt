@@ -1,7 +1,7 @@
 -- Laws of rounding and folding: what the code computes is the one number that the definitions name. Assumes nothing.
 use mathlib.Core.Path.{_≡_, sym, subst}
 use mathlib.Core.Bool.{true, false}
-use Prim.Native.Nat.{_+_, _*_, _≤_, _<_}
+use Prim.Native.Nat.{_+_, _*_, _/_, _≤_, _<_}
 use native.Mathlib.Nat.{le-of-suc-le-suc, lt-of-le-of-lt}
 use native.Mathlib.Omega.{arith}
 use lib.Dec.{lit<}
@@ -9,9 +9,17 @@ use lib.IntN.{ℤ, pos, negsuc, negℤ, natAbs, _+ℤ_, _-ℤ_, _*ℤ_}
 use lib.Signed.{quotZ, remZ, shrZ, leZ, ltZ, _≤ℤ_, _<ℤ_}
 use mir.Syntax.{w32, w64}
 use mir.Val.{SFits}
-use Rattle.samples.specs.Samples.{isSignal, Rounds, Folds, nearest, foldOf}
+use Rattle.samples.specs.Samples.{one, isSignal, Rounds, Folds}
 use Rattle.samples.proofs.Linear.{P, N, P-pos, N-pos, P-negsuc, N-negsuc, le-to, lt-to, le-of, lt-of, eq-of, add-bal, sub-is, neg-P, neg-N, mul-P, mul-N, abs-is, abs-of, P-mag, N-mag, mag-of, division, floor, lt-true, lt-false, le-true, le-false}
 use Rattle.ranges.proofs.Laws.{range-mag, mag-range}
+
+-- rounding and folding, computed. The rounded number is the floor of s/131,072 + 1/2; the library's `shrZ z n` is the floor of z/n
+abbrev pub nearest : ℤ → ℤ
+nearest s = shrZ (s +ℤ pos (one / 2)) one
+
+-- and the folded one is u less as many times 262,144 as the floor of u/262,144 + 1/2
+abbrev pub foldOf : ℤ → ℤ
+foldOf u = u -ℤ pos (2 * one) *ℤ shrZ (u +ℤ pos one) (2 * one)
 
 -- a signal's parts above and below zero
 pub signal-to : (z : ℤ) → isSignal z ≡ true → (P z ≤ 131071) × (N z ≤ 131072)

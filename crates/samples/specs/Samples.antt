@@ -1,12 +1,12 @@
 -- Numbers of the channel precoder (000, clause 4.3.4), all in whole steps of 1/131,072: ranges, rounding, folding and the past.
--- Of the library: `pos n` and `negℤ` make whole numbers, `_≤ℤ_` and `_<ℤ_` order them, and `shrZ z n` is the floor of z/n.
+-- Of the library: ℤ are the whole numbers, `pos n` is n and `negℤ` turns the sign.
 use mathlib.Core.Path.{_≡_}
 use mathlib.Core.Bool.{Bool, true}
 use mathlib.Core.List.{List, _∷_}
 use Prim.Native.Nat.{ℕ, _*_, _/_, _-_}
 use lib.IntN.{ℤ, pos, negℤ, _+ℤ_, _-ℤ_, _*ℤ_}
 use lib.ListN.{take, replicate}
-use lib.Signed.{shrZ, _≤ℤ_, _<ℤ_}
+use lib.Signed.{_≤ℤ_, _<ℤ_}
 use Rattle.ranges.specs.Ranges.{coefficientCount, between}
 
 -- 1 is so many steps
@@ -35,11 +35,3 @@ pub record Folds (u y : ℤ) : Type 0 where
   pub d : ℤ
   pub is : y ≡ u +ℤ pos (2 * one) *ℤ d
   pub signal : isSignal y ≡ true
-
--- the same computed: the rounded number is the floor of s/131,072 + 1/2
-abbrev pub nearest : ℤ → ℤ
-nearest s = shrZ (s +ℤ pos (one / 2)) one
-
--- and the folded one is u less as many times 262,144 as the floor of u/262,144 + 1/2
-abbrev pub foldOf : ℤ → ℤ
-foldOf u = u -ℤ pos (2 * one) *ℤ shrZ (u +ℤ pos one) (2 * one)

@@ -1,8 +1,8 @@
--- Every line fits a room of 192 octets, so that nothing is cut there: its numbers are those of the code, below 2 ^ 32. Assumes nothing.
+-- Every line fits a room of 320 octets, so that nothing is cut there: its numbers are those of the code, below 2 ^ 32. Assumes nothing.
 use mathlib.Core.Path.{_≡_}
 use mathlib.Core.Bool.{Bool, true, false, cond, _||_}
 use mathlib.Core.List.{List, []}
-use Prim.Native.Nat.{ℕ, _+_, _-_, _^_, _≤_, _<_}
+use Prim.Native.Nat.{ℕ, _+_, _-_, _/_, _%_, _^_, _≤_, _<_}
 use Prim.Native.String.{String}
 use native.Mathlib.Omega.{arith}
 use lib.Dec.{eqb, lit≤, lit<}
@@ -13,11 +13,14 @@ use Rattle.ascii.proofs.Numbers.{decimal-length}
 use Rattle.ascii.proofs.Room.{told, told-whole}
 use Rattle.supervisor.specs.declared.Supervisor.{Supervisor}
 use Rattle.supervisor.specs.Phases.{Ready, Gap, Await, Cr, Hearing, Quiet, Sc, Sr, Tc, Tr, Fc, Settling, Valid, Exception, inAttempt}
+use Rattle.story.specs.declared.Outcome.{Outcome}
 use Rattle.story.specs.declared.Story.{Story}
 use Rattle.story.specs.declared.Event.{Event}
-use Rattle.storytext.specs.Texts.{numbered, nameOf, phaseText, verbOf, attemptText, codeText, eventText, lasts, leftText, tryingText, waitingText, endText, refusedText}
+use Rattle.storytext.specs.Texts.{attemptTicks, numbered, seconds, ticksText, reportName, nameOf, phaseText, shortName, verbOf, attemptText, codeText}
+use Rattle.storytext.specs.Texts.{whenText, eventText, lackOf, lackText, usedText, tryingText, inDataMode, lasts, restText, leftText, waitText}
+use Rattle.storytext.specs.Texts.{unheardText, nowText, howText, causeText, whyText, behindText, thenText, endedText, verdictText, endText, refusedText}
 
--- ---- the parts of a line
+-- ---- numbers
 
 number-length : (n : ℕ) → n < 2 ^ 32 → length (decimal n) ≤ 10
 number-length n h = decimal-length 9 n (omega arith)
@@ -25,32 +28,74 @@ number-length n h = decimal-length 9 n (omega arith)
 numbered-length : (a : String) (n : ℕ) (b : String) → n < 2 ^ 32 → length (numbered a n b) ≤ length (text a) + 10 + length (text b)
 numbered-length a n b h = simp length-append (omega (arith, number-length n h))
 
+digit-length : (n : ℕ) → n < 10 → length (decimal n) ≤ 1
+digit-length n h = decimal-length 0 n (omega arith)
+
+seconds-length : (t : ℕ) → t < 2 ^ 32 → length (seconds t) ≤ 13
+unfolding seconds
+seconds-length t h =
+    let a = decimal-length 6 (t / 1000) (omega arith) in
+    let b = digit-length (t / 100 % 10) (omega arith) in
+    let c = digit-length (t / 10 % 10) (omega arith) in
+    let d = digit-length (t % 10) (omega arith) in
+    simp length-append (omega arith)
+
+ticks-length : (t : ℕ) → t < 2 ^ 32 → length (ticksText t) ≤ 26
+unfolding ticksText
+ticks-length t h = simp length-append (omega (arith, number-length t h, seconds-length t h))
+
+-- ---- words
+
 either-length : (b : Bool) (x y : List ℕ) (n : ℕ) → length x ≤ n → length y ≤ n → length (cond b x y) ≤ n
 either-length true x y n h l = h
 either-length false x y n h l = l
 
-name-length : (end p : ℕ) → length (nameOf end p) ≤ 33
-name-length end p =
-    either-length (eqb p Ready) _ _ 33 (lit≤ tt)
-    (either-length (eqb p Gap) _ _ 33 (lit≤ tt)
-    (either-length (eqb p Await) _ _ 33 (lit≤ tt)
-    (either-length (eqb p Cr) _ _ 33 (lit≤ tt)
-    (either-length (eqb p Hearing) _ _ 33 (lit≤ tt)
-    (either-length (eqb p Quiet) _ _ 33 (either-length (eqb end 1) _ _ 33 (lit≤ tt) (lit≤ tt))
-    (either-length (eqb p Sc) _ _ 33 (lit≤ tt)
-    (either-length (eqb p Sr) _ _ 33 (lit≤ tt)
-    (either-length (eqb p Tc) _ _ 33 (lit≤ tt)
-    (either-length (eqb p Tr) _ _ 33 (lit≤ tt)
-    (either-length (eqb p Fc) _ _ 33 (lit≤ tt)
-    (either-length (eqb p Settling) _ _ 33 (lit≤ tt) (either-length (eqb p Valid) _ _ 33 (lit≤ tt) (lit≤ tt)))))))))))))
+report-length : (c : ℕ) → length (reportName c) ≤ 22
+unfolding reportName
+report-length c =
+    either-length (eqb c 1) _ _ 22 (lit≤ tt)
+    (either-length (eqb c 2) _ _ 22 (lit≤ tt)
+    (either-length (eqb c 3) _ _ 22 (lit≤ tt)
+    (either-length (eqb c 4) _ _ 22 (lit≤ tt)
+    (either-length (eqb c 5) _ _ 22 (lit≤ tt)
+    (either-length (eqb c 6) _ _ 22 (lit≤ tt)
+    (either-length (eqb c 7) _ _ 22 (lit≤ tt) (either-length (eqb c 8) _ [] 22 (lit≤ tt) (lit≤ tt))))))))
 
-phase-length : (s : Supervisor) → s .silence < 2 ^ 32 → length (phaseText s) ≤ 39
+name-length : (end p : ℕ) → length (nameOf end p) ≤ 64
+unfolding nameOf
+name-length end p =
+    either-length (eqb p Ready) _ _ 64 (lit≤ tt)
+    (either-length (eqb p Gap) _ _ 64 (lit≤ tt)
+    (either-length (eqb p Await) _ _ 64 (lit≤ tt)
+    (either-length (eqb p Cr) _ _ 64 (lit≤ tt)
+    (either-length (eqb p Hearing) _ _ 64 (lit≤ tt)
+    (either-length (eqb p Quiet) _ _ 64 (either-length (eqb end 1) _ _ 64 (lit≤ tt) (lit≤ tt))
+    (either-length (eqb p Sc) _ _ 64 (lit≤ tt)
+    (either-length (eqb p Sr) _ _ 64 (lit≤ tt)
+    (either-length (eqb p Tc) _ _ 64 (lit≤ tt)
+    (either-length (eqb p Tr) _ _ 64 (lit≤ tt)
+    (either-length (eqb p Fc) _ _ 64 (lit≤ tt)
+    (either-length (eqb p Settling) _ _ 64 (lit≤ tt) (either-length (eqb p Valid) _ _ 64 (lit≤ tt) (lit≤ tt)))))))))))))
+
+phase-length : (s : Supervisor) → s .silence < 2 ^ 32 → length (phaseText s) ≤ 64
 unfolding phaseText
 phase-length s h =
-    either-length (eqb (s .phase) Exception) _ _ 39 (omega (arith, numbered-length "Exception (silent for " (s .silence) " ticks)" h))
-    (omega (arith, name-length (s .end) (s .phase)))
+    either-length (eqb (s .phase) Exception) _ _ 64 (simp length-append (omega (arith, seconds-length (s .silence) h)))
+    (name-length (s .end) (s .phase))
+
+short-length : (p : ℕ) → length (shortName p) ≤ 7
+unfolding shortName
+short-length p =
+    either-length (eqb p Cr) _ _ 7 (lit≤ tt)
+    (either-length (eqb p Hearing) _ _ 7 (lit≤ tt)
+    (either-length (eqb p Quiet) _ _ 7 (lit≤ tt)
+    (either-length (eqb p Sc) _ _ 7 (lit≤ tt)
+    (either-length (eqb p Sr) _ _ 7 (lit≤ tt)
+    (either-length (eqb p Tc) _ _ 7 (lit≤ tt)
+    (either-length (eqb p Tr) _ _ 7 (lit≤ tt) (either-length (eqb p Fc) _ [] 7 (lit≤ tt) (lit≤ tt))))))))
 
 verb-length : (kind c : ℕ) → length (verbOf kind c) ≤ 31
+unfolding verbOf
 verb-length kind c =
     either-length (eqb kind 1) _ _ 31 (lit≤ tt)
     (either-length (eqb kind 2) _ _ 31 (lit≤ tt)
@@ -58,13 +103,27 @@ verb-length kind c =
     (either-length (eqb kind 5) _ _ 31 (lit≤ tt)
     (either-length (eqb kind 6) _ _ 31 (lit≤ tt) (either-length (eqb kind 7) _ _ 31 (lit≤ tt) (lit≤ tt))))))
 
-attempt-length : (k t : ℕ) → k < 2 ^ 32 → t < 2 ^ 32 → length (attemptText k t) ≤ 37
+attempt-length : (k t : ℕ) → k < 2 ^ 32 → t < 2 ^ 32 → length (attemptText k t) ≤ 53
+unfolding attemptText
 attempt-length k t h l =
-    either-length (eqb k 0) [] _ 37 (lit≤ tt)
-    (simp length-append (omega (arith, number-length k h, number-length t l)))
+    either-length (eqb k 0) [] _ 53 (lit≤ tt) (simp length-append (omega (arith, number-length k h, ticks-length t l)))
 
-code-length : (c : ℕ) → c < 2 ^ 32 → length (codeText c) ≤ 17
-code-length c h = either-length (eqb c 0) [] _ 17 (lit≤ tt) (omega (arith, numbered-length "code " c ": " h))
+code-length : (c : ℕ) → c < 2 ^ 32 → length (codeText c) ≤ 41
+unfolding codeText
+code-length c h = either-length (eqb c 0) [] _ 41 (lit≤ tt) (simp length-append (omega (arith, number-length c h, report-length c)))
+
+lack-length : (n : ℕ) → length (lackText n) ≤ 64
+unfolding lackText
+lack-length n =
+    either-length (eqb n 1) _ _ 64 (lit≤ tt)
+    (either-length (eqb n 2) _ _ 64 (lit≤ tt)
+    (either-length (eqb n 3) _ _ 64 (lit≤ tt)
+    (either-length (eqb n 4) _ _ 64 (lit≤ tt)
+    (either-length (eqb n 5) _ _ 64 (lit≤ tt) (either-length (eqb n 6) _ [] 64 (lit≤ tt) (lit≤ tt))))))
+
+used-length : (t : ℕ) → t < 2 ^ 32 → length (usedText t) ≤ 51
+unfolding usedText
+used-length t h = simp length-append (omega (arith, seconds-length t h, seconds-length (attemptTicks - t) (omega arith)))
 
 lasts-small : (silence p : ℕ) → silence < 2 ^ 32 → lasts silence p < 2 ^ 32
 lasts-small silence p h = go (eqb p Gap) (eqb p Settling)
@@ -74,10 +133,34 @@ lasts-small silence p h = go (eqb p Gap) (eqb p Settling)
     go false true = lit< tt
     go false false = h
 
-left-length : (s : Supervisor) → s .silence < 2 ^ 32 → length (leftText s) ≤ 17
+left-length : (s : Supervisor) → s .silence < 2 ^ 32 → length (leftText s) ≤ 20
+unfolding leftText restText
 left-length s h =
-    either-length (eqb (s .phase) Gap || (eqb (s .phase) Settling || eqb (s .phase) Exception)) _ [] 17
-    (omega (arith, numbered-length ", " (lasts (s .silence) (s .phase) - s .ticks) " left" (omega (arith, lasts-small (s .silence) (s .phase) h)))) (lit≤ tt)
+    let l = lasts-small (s .silence) (s .phase) h in
+    either-length (eqb (s .phase) Gap || (eqb (s .phase) Settling || eqb (s .phase) Exception)) _ [] 20
+    (simp length-append (omega (arith, seconds-length (lasts (s .silence) (s .phase) - s .ticks) (omega arith)))) (lit≤ tt)
+
+wait-length : (p : ℕ) → length (waitText p) ≤ 51
+unfolding waitText
+wait-length p =
+    either-length (eqb p Ready) _ _ 51 (lit≤ tt)
+    (either-length (eqb p Gap) _ _ 51 (lit≤ tt)
+    (either-length (eqb p Await) _ _ 51 (lit≤ tt) (either-length (eqb p Exception) _ _ 51 (lit≤ tt) (lit≤ tt))))
+
+unheard-length : (p : ℕ) → length (unheardText p) ≤ 24
+unfolding unheardText
+unheard-length p = either-length (eqb p Await) _ [] 24 (lit≤ tt) (lit≤ tt)
+
+why-length : (o : Outcome) → length (whyText o) ≤ 35
+unfolding whyText causeText
+why-length o =
+    either-length (eqb (o .how) 2) [] _ 35 (lit≤ tt)
+    (simp length-append
+    (omega (
+      arith,
+      short-length (o .phase),
+      either-length (eqb (o .code) 0) (text ": time was up in ") (text ": code 8, abnormal, came in ") 28 (lit≤ tt) (lit≤ tt),
+    )))
 
 -- ---- the lines
 
@@ -89,26 +172,72 @@ pub record Small (e : Event) : Type 0 where
   pub code : e .code < 2 ^ 32
   pub silence : e .story .state .silence < 2 ^ 32
 
-pub event-fits : (e : Event) → Small e → length (eventText e) ≤ 192
-unfolding eventText
+pub event-fits : (e : Event) → Small e → length (eventText e) ≤ 320
+unfolding eventText whenText
 event-fits e h =
-    simp length-append
-    (omega (arith, numbered-length "tick " (e .story .clock) ": " (h .clock), number-length (e .story .clock) (h .clock), attempt-length (e .attempt) (e .ticks) (h .attempt) (h .ticks), code-length (e .code) (h .code), verb-length (e .kind) (e .code), phase-length (e .story .state) (h .silence)))
+    let a = ticks-length (e .story .clock) (h .clock) in
+    let b = attempt-length (e .attempt) (e .ticks) (h .attempt) (h .ticks) in
+    let c = code-length (e .code) (h .code) in
+    let d = verb-length (e .kind) (e .code) in
+    let f = phase-length (e .story .state) (h .silence) in
+    simp length-append (omega arith)
 
-pub end-fits : (s : Story) → s .clock < 2 ^ 32 → s .attempts < 2 ^ 32 → s .state .attempt < 2 ^ 32 → s .state .silence < 2 ^ 32 → length (endText s) ≤ 192
-unfolding endText tryingText waitingText
-end-fits s hc ha ht hs =
-    let p = phase-length (s .state) hs in
-    let c = number-length (s .clock) hc in
-    let a = number-length (s .attempts) ha in
-    let u = number-length (s .state .attempt) ht in
-    let r = number-length (15000 - s .state .attempt) (omega arith) in
-    simp length-append
-    (omega (arith, either-length (inAttempt (s .state .phase)) (tryingText s) (waitingText s) 150 (simp length-append (omega arith)) (simp length-append (omega (arith, left-length (s .state) hs)))))
+-- a story of the code's numbers
+pub record SmallStory (s : Story) : Type 0 where
+  pub clock : s .clock < 2 ^ 32
+  pub attempts : s .attempts < 2 ^ 32
+  pub attempt : s .state .attempt < 2 ^ 32
+  pub silence : s .state .silence < 2 ^ 32
+  pub last : s .last .ticks < 2 ^ 32
 
-pub refused-fits : (n l : ℕ) → n < 2 ^ 32 → l < 2 ^ 32 → length (refusedText n l) ≤ 192
+module _ (s : Story) (h : SmallStory s) where
+  now-length : length (nowText s) ≤ 115
+  unfolding nowText
+  now-length =
+      let a = wait-length (s .state .phase) in
+      let b = seconds-length (s .clock - s .entered) (omega (arith, h .clock)) in
+      let c = left-length (s .state) (h .silence) in
+      let d = unheard-length (s .state .phase) in
+      simp length-append (omega arith)
+
+  trying-length : length (tryingText s) ≤ 200
+  unfolding tryingText
+  trying-length =
+      let a = number-length (s .attempts) (h .attempts) in
+      let b = short-length (s .state .phase) in
+      let c = used-length (s .state .attempt) (h .attempt) in
+      let d = lack-length (lackOf (s .state)) in
+      simp length-append (omega arith)
+
+  then-length : length (thenText s) ≤ 152
+  unfolding thenText behindText
+  then-length =
+      let a = either-length (eqb (s .last .how) 2) (text "; code 8, abnormal, ended data mode; ") (text "; ") 37 (lit≤ tt) (lit≤ tt) in
+      either-length (inDataMode (s .state .phase)) [] _ 152 (lit≤ tt) (simp length-append (omega (arith, now-length)))
+
+  ended-length : length (endedText s) ≤ 250
+  unfolding endedText howText
+  ended-length =
+      let a = number-length (s .attempts) (h .attempts) in
+      let b = either-length (eqb (s .last .how) 2) (text "data mode after ") (text "exception after ") 16 (lit≤ tt) (lit≤ tt) in
+      let c = seconds-length (s .last .ticks) (h .last) in
+      let d = why-length (s .last) in
+      simp length-append (omega (arith, then-length))
+
+  verdict-length : length (verdictText s) ≤ 250
+  unfolding verdictText
+  verdict-length =
+      either-length (inAttempt (s .state .phase)) (tryingText s) _ 250 (omega (arith, trying-length))
+      (either-length (eqb (s .last .how) 0) (nowText s) (endedText s) 250 (omega (arith, now-length)) ended-length)
+
+  pub end-fits : length (endText s) ≤ 320
+  unfolding endText
+  end-fits = simp length-append (omega (arith, ticks-length (s .clock) (h .clock), verdict-length))
+
+pub refused-fits : (n l : ℕ) → n < 2 ^ 32 → l < 2 ^ 32 → length (refusedText n l) ≤ 320
+unfolding refusedText
 refused-fits n l h i = simp length-append (omega (arith, number-length n h, number-length l i))
 
 -- what fits stands whole at the start of the room
-pub whole : (line room exit : List ℕ) (r : ℕ) → Put room 0 line r exit → length line ≤ 192 → 192 ≤ length room → take r exit ≡ line
+pub whole : (line room exit : List ℕ) (r : ℕ) → Put room 0 line r exit → length line ≤ 320 → 320 ≤ length room → take r exit ≡ line
 whole line room exit r p h l = told-whole line room r exit (told line room exit r p) (omega arith)

@@ -14,7 +14,7 @@ use Rattle.supervisor.specs.declared.Supervisor.{Supervisor}
 use Rattle.supervisor.specs.Phases.{Ready, Exception, Row, row, ntu, ltu, phasesOf, isOf, rowOf}
 use Rattle.supervisor.specs.Step.{stateRefusals, here}
 use Rattle.supervisor.proofs.Laws.{legal}
-use Rattle.storytext.specs.Texts.{phaseText, lasts}
+use Rattle.storytext.specs.Texts.{seconds, reportName, nameOf, phaseText, lasts}
 use Rattle.storytext.specs.Names.{awaitsText, ruleText, rowText}
 
 -- a state of this end and silence in this phase
@@ -32,11 +32,11 @@ unfolding phaseText ruleText
 exception-told end silence = simp append-assoc
 
 ntu-told : (silence : ℕ) → AllTold 1 silence (ntu silence)
-unfolding phaseText ruleText awaitsText decimal decimalIn
+unfolding phaseText nameOf ruleText awaitsText reportName seconds decimal decimalIn
 ntu-told silence = (refl, (refl, (refl, (refl, (refl, (refl, (refl, (refl, (exception-told 1 silence, tt)))))))))
 
 ltu-told : (silence : ℕ) → AllTold 0 silence (ltu silence)
-unfolding phaseText ruleText awaitsText decimal decimalIn
+unfolding phaseText nameOf ruleText awaitsText reportName seconds decimal decimalIn
 ltu-told silence = (refl, (refl, (refl, (refl, (refl, (refl, (refl, (refl, (refl, (exception-told 0 silence, tt))))))))))
 
 -- the row of a phase is among them
@@ -54,11 +54,16 @@ pub told-by-row : (s : Supervisor) → answer (stateRefusals s) ≡ 0 → phaseT
 unfolding phaseText
 told-by-row s h = let w = legal s h in go (s .end) (w .known) (w .of)
   where
-    go : (e : ℕ) → e ≤ 1 → isOf (s .phase) (phasesOf e (s .silence)) ≡ true → phaseText (inPhase e (s .silence) (s .phase)) ≡ rowText (rowOf (s .phase) (phasesOf e (s .silence)))
+    Told : ℕ → Type 0
+    Told x =
+        isOf (s .phase) (phasesOf x (s .silence)) ≡ true
+        → phaseText (inPhase x (s .silence) (s .phase)) ≡ rowText (rowOf (s .phase) (phasesOf x (s .silence)))
+
+    go : (e : ℕ) → e ≤ 1 → Told e
     go e k =
         ⊎-elim
-        (λ q. subst (λ (x : ℕ). isOf (s .phase) (phasesOf x (s .silence)) ≡ true → phaseText (inPhase x (s .silence) (s .phase)) ≡ rowText (rowOf (s .phase) (phasesOf x (s .silence)))) (sym q) (pick 1 (s .silence) (s .phase) (ntu (s .silence)) (ntu-told (s .silence))))
-        (λ z. let q : e ≡ 0 = omega arith in subst (λ (x : ℕ). isOf (s .phase) (phasesOf x (s .silence)) ≡ true → phaseText (inPhase x (s .silence) (s .phase)) ≡ rowText (rowOf (s .phase) (phasesOf x (s .silence)))) (sym q) (pick 0 (s .silence) (s .phase) (ltu (s .silence)) (ltu-told (s .silence))))
+        (λ q. subst Told (sym q) (pick 1 (s .silence) (s .phase) (ntu (s .silence)) (ntu-told (s .silence))))
+        (λ z. let q : e ≡ 0 = omega arith in subst Told (sym q) (pick 0 (s .silence) (s .phase) (ltu (s .silence)) (ltu-told (s .silence))))
         (eq-or-lt-of-le k)
 
 -- and what is told as left of a phase outside an attempt is counted from its row's limit

@@ -5,9 +5,9 @@ use mathlib.Core.Bool.{cond}
 use mathlib.Core.List.{List, [], _∷_, _++_}
 use lib.Dec.{eqb}
 use lib.ListN.{getD}
-use Rattle.ascii.specs.Text.{text, decimal}
+use Rattle.ascii.specs.Text.{text}
 use Rattle.supervisor.specs.Phases.{Exception, Row}
-use Rattle.storytext.specs.Texts.{numbered}
+use Rattle.storytext.specs.Texts.{seconds, codeName}
 
 -- the phases' names, by number
 abbrev pub names : List String
@@ -16,17 +16,17 @@ names =
 
 -- the reports that a phase waits for; where there is none, only an 8 ends it
 unfoldable pub awaitsText : List ℕ → List ℕ
-awaitsText [] = text "until code 8"
-awaitsText (c ∷ []) = text "until code " ++ decimal c
-awaitsText (c ∷ d ∷ cs) = numbered "until codes " c " and " ++ decimal d
+awaitsText [] = text "until " ++ codeName 8
+awaitsText (c ∷ []) = text "until " ++ codeName c
+awaitsText (c ∷ d ∷ cs) = text "until " ++ codeName c ++ text ", and " ++ codeName d
 
--- the ticks that it lasts, what it waits for, or both
+-- how long it lasts, what it waits for, or both
 unfoldable pub ruleText : Row → List ℕ
-ruleText r = cond (eqb (r .phase) Exception) (numbered "silent for " (r .lasts) " ticks") (ruleOf (r .lasts) (r .awaits))
+ruleText r = cond (eqb (r .phase) Exception) (text "silent for " ++ seconds (r .lasts)) (ruleOf (r .lasts) (r .awaits))
   where
     ruleOf : ℕ → List ℕ → List ℕ
-    ruleOf t [] = cond (eqb t 0) (awaitsText []) (decimal t ++ text " ticks")
-    ruleOf t (c ∷ cs) = cond (eqb t 0) (awaitsText (c ∷ cs)) (decimal t ++ text " ticks and " ++ awaitsText (c ∷ cs))
+    ruleOf t [] = cond (eqb t 0) (awaitsText []) (seconds t)
+    ruleOf t (c ∷ cs) = cond (eqb t 0) (awaitsText (c ∷ cs)) (seconds t ++ text " and " ++ awaitsText (c ∷ cs))
 
 -- the name and the rule
 abbrev pub rowText : Row → List ℕ

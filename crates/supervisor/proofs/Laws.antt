@@ -144,15 +144,6 @@ acts-by-end : (b : Bool) (s : Supervisor) (c p silence : ℕ) → cond b (acted 
 acts-by-end true s c p silence = refl
 acts-by-end false s c p silence = refl
 
--- a row is of the phase that it is looked up by
-row-phase : (p : ℕ) (rs : List Row) → rowOf p rs .phase ≡ p
-row-phase p [] = refl
-row-phase p (r ∷ rs) = by-cases (eqb p (r .phase)) (λ t. rw t (sym (eqb-true p (r .phase) t))) (λ f. rw f (row-phase p rs))
-
--- an 8 is the same in every phase
-pub by-eight : (s : Supervisor) (c : ℕ) {x : Supervisor} → c ≡ 8 → x ≡ cond (eqb (s .phase) Exception) (changed s (s .phase) 0 (s .attempt) (s .converged) (s .seen)) (entered s Exception 0) → x ≡ moved s c
-by-eight s c q e = rw (q, row-phase (s .phase) (phasesOf (s .end) (s .silence))) e
-
 module _ (s : Supervisor) (c p : ℕ) {x : Supervisor} (at : s .phase ≡ p) (taken : answer (stateRefusals s) ≡ 0) where
   -- a state in the phase p moves as p's row says
   by-row : x ≡ acted (rowOf p (phasesOf (s .end) (s .silence))) s c → x ≡ moved s c

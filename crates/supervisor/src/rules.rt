@@ -5,21 +5,18 @@ ghost use Prim.Native.Nat.{_+_, _≤_};
 ghost use lib.Dec.{leb, eqb};
 ghost use Rattle.answer.specs.Answer.{answer};
 ghost use Rattle.supervisor.specs.Limits.{attemptTicks, mostAttempt, mostTicks};
-ghost use Rattle.supervisor.specs.Phases.{Ready, Gap, Await, Cr, Hearing, Quiet, Sc, Sr, Tc, Tr, Fc, Settling, Exception, ntu, ltu, rowOf};
+ghost use Rattle.supervisor.specs.Phases.{Ready, Gap, Await, Cr, Hearing, Quiet, Sc, Sr, Tc, Tr, Fc, Settling, Valid, Exception, ntu, ltu, rowOf};
 ghost use Rattle.supervisor.specs.Step.{changed, entered, counted, acted, moved, stateRefusals};
 use crate::Supervisor;
 use crate::code;
 use crate::phase;
 
 impl Supervisor {
-    // What a code does to a legal state: 8 the same in every phase, and else the rule of its phase. Only an 8 ends Valid.
+    // What a code does to a legal state: the rule of its phase.
     pub(crate) fn moved(self, code: u32) -> Supervisor
         requires { ⌜ answer (stateRefusals self) ≡ 0 ⌝ }
         ensures { λ r. ⌜ r ≡ moved self code ⌝ }
     {
-        if code == code::ABNORMAL {
-            return self.abnormal();
-        }
         let phase = self.phase;
         match phase {
             phase::READY => self.in_ready(code),
@@ -34,7 +31,7 @@ impl Supervisor {
             phase::T_R => self.in_tr(code),
             phase::F_C => self.in_fc(code),
             phase::SETTLING => self.in_settling(code),
-            phase::VALID => self,
+            phase::VALID => self.in_valid(code),
             _ => self.in_exception(code),
         }
     }
@@ -124,21 +121,29 @@ impl Supervisor {
         }
     }
 
-    // Code 8 starts Exception. There it starts the silence again: that is no change of phase, so the rest stays as handed in.
+    // Code 8 starts Exception, from every phase but Exception.
     fn abnormal(self) -> Supervisor
-        ensures { λ r. ⌜ r ≡ cond (eqb (self .phase) Exception)
-            (changed self (self .phase) 0 (self .attempt) (self .converged) (self .seen)) (entered self Exception 0) ⌝ }
+        ensures { λ r. ⌜ r ≡ entered self Exception 0 ⌝ }
     {
-        if self.phase == phase::EXCEPTION {
-            self.changed(self.phase, 0, self.attempt, self.converged, self.seen)
-        } else {
-            self.entered(phase::EXCEPTION, 0)
-        }
+        self.entered(phase::EXCEPTION, 0)
+    }
+
+    // There it starts the silence again: that is no change of phase, so the rest stays as handed in.
+    fn silent_again(self) -> Supervisor
+        ensures { λ r. ⌜ r ≡ changed self (self .phase) 0 (self .attempt) (self .converged) (self .seen) ⌝ }
+    {
+        self.changed(self.phase, 0, self.attempt, self.converged, self.seen)
+    }
+
+    // The attempt ends in data mode.
+    fn data_mode(self) -> Supervisor
+        ensures { λ r. ⌜ r ≡ entered self Settling 0 ⌝ }
+    {
+        self.entered(phase::SETTLING, 0)
     }
 
     // Ready until 1, which starts Gap at the NTU and Await at the LTU.
     fn in_ready(self, code: u32) -> Supervisor
-        requires { ⌜ (code ≡ 8 → ⊥) ⌝ }
         ensures { λ r. ⌜ r ≡ cond (eqb (self .end) 1)
             (acted (rowOf Ready (ntu (self .silence))) self code) (acted (rowOf Ready (ltu (self .silence))) self code) ⌝ }
     {
@@ -148,58 +153,62 @@ impl Supervisor {
             } else {
                 self.entered(phase::AWAIT, 0)
             },
+            code::ABNORMAL => self.abnormal(),
             _ => self,
         }
     }
 
     // NTU: Gap, 300 ticks.
     fn in_gap(self, code: u32) -> Supervisor
-        requires { ⌜ (code ≡ 8 → ⊥) × (self .ticks ≤ mostTicks) ⌝ }
+        requires { ⌜ self .ticks ≤ mostTicks ⌝ }
         ensures { λ r. ⌜ r ≡ acted (rowOf Gap (ntu (self .silence))) self code ⌝ }
     {
         match code {
             code::TICK => self.waited(Self::GAP, phase::C_R),
+            code::ABNORMAL => self.abnormal(),
             _ => self,
         }
     }
 
     // LTU: Await until 2. The attempt opens with it.
     fn in_await(self, code: u32) -> Supervisor
-        requires { ⌜ (code ≡ 8 → ⊥) ⌝ }
         ensures { λ r. ⌜ r ≡ acted (rowOf Await (ltu (self .silence))) self code ⌝ }
     {
         match code {
             code::C_R_BEGINS => self.entered(phase::HEARING, 0),
+            code::ABNORMAL => self.abnormal(),
             _ => self,
         }
     }
 
     // NTU: C_r, 1,000 ticks.
     fn in_cr(self, code: u32) -> Supervisor
-        requires { ⌜ (code ≡ 8 → ⊥) × (self .ticks ≤ mostTicks) × (self .attempt ≤ mostAttempt) ⌝ }
+        requires { ⌜ (self .ticks ≤ mostTicks) × (self .attempt ≤ mostAttempt) ⌝ }
         ensures { λ r. ⌜ r ≡ acted (rowOf Cr (ntu (self .silence))) self code ⌝ }
     {
         match code {
             code::TICK => self.tried(true, Self::C_R, phase::QUIET),
+            code::ABNORMAL => self.abnormal(),
             _ => self,
         }
     }
 
     // LTU: Hearing until 3.
     fn in_hearing(self, code: u32) -> Supervisor
-        requires { ⌜ (code ≡ 8 → ⊥) × (self .ticks ≤ mostTicks) × (self .attempt ≤ mostAttempt) ⌝ }
+        requires { ⌜ (self .ticks ≤ mostTicks) × (self .attempt ≤ mostAttempt) ⌝ }
         ensures { λ r. ⌜ r ≡ acted (rowOf Hearing (ltu (self .silence))) self code ⌝ }
     {
         match code {
             code::TICK => self.tried(false, 0, phase::QUIET),
             code::C_R_ENDED => self.entered(phase::QUIET, self.attempt),
+            code::ABNORMAL => self.abnormal(),
             _ => self,
         }
     }
 
     // Quiet, 1,500 ticks at the NTU and 500 at the LTU.
     fn in_quiet(self, code: u32) -> Supervisor
-        requires { ⌜ (code ≡ 8 → ⊥) × (self .ticks ≤ mostTicks) × (self .attempt ≤ mostAttempt) ⌝ }
+        requires { ⌜ (self .ticks ≤ mostTicks) × (self .attempt ≤ mostAttempt) ⌝ }
         ensures { λ r. ⌜ r ≡ cond (eqb (self .end) 1)
             (acted (rowOf Quiet (ntu (self .silence))) self code) (acted (rowOf Quiet (ltu (self .silence))) self code) ⌝ }
     {
@@ -209,89 +218,107 @@ impl Supervisor {
             } else {
                 self.tried(true, Self::LTU_QUIET, phase::S_C)
             },
+            code::ABNORMAL => self.abnormal(),
             _ => self,
         }
     }
 
     // NTU: S_r until both 4 and 5 have come, in either order, during S_r.
     fn in_sr(self, code: u32) -> Supervisor
-        requires { ⌜ (code ≡ 8 → ⊥) × (self .ticks ≤ mostTicks) × (self .attempt ≤ mostAttempt) ⌝ }
+        requires { ⌜ (self .ticks ≤ mostTicks) × (self .attempt ≤ mostAttempt) ⌝ }
         ensures { λ r. ⌜ r ≡ acted (rowOf Sr (ntu (self .silence))) self code ⌝ }
     {
         match code {
             code::TICK => self.tried((self.converged != 0) & (self.seen != 0), 0, phase::T_R),
             code::CONVERGED => self.told(self.seen != 0, phase::T_R, 1, self.seen),
             code::T_C_SEEN => self.told(self.converged != 0, phase::T_R, self.converged, 1),
+            code::ABNORMAL => self.abnormal(),
             _ => self,
         }
     }
 
     // LTU: S_c until it has lasted 5,000 ticks and 4 has come during it.
     fn in_sc(self, code: u32) -> Supervisor
-        requires { ⌜ (code ≡ 8 → ⊥) × (self .ticks ≤ mostTicks) × (self .attempt ≤ mostAttempt) ⌝ }
+        requires { ⌜ (self .ticks ≤ mostTicks) × (self .attempt ≤ mostAttempt) ⌝ }
         ensures { λ r. ⌜ r ≡ acted (rowOf Sc (ltu (self .silence))) self code ⌝ }
     {
         match code {
             code::TICK => self.tried(self.converged != 0, Self::S_C, phase::T_C),
             code::CONVERGED => self.told(Self::S_C <= self.ticks, phase::T_C, 1, self.seen),
+            code::ABNORMAL => self.abnormal(),
             _ => self,
         }
     }
 
     // NTU: T_r until 7. The attempt ends in data mode.
     fn in_tr(self, code: u32) -> Supervisor
-        requires { ⌜ (code ≡ 8 → ⊥) × (self .ticks ≤ mostTicks) × (self .attempt ≤ mostAttempt) ⌝ }
+        requires { ⌜ (self .ticks ≤ mostTicks) × (self .attempt ≤ mostAttempt) ⌝ }
         ensures { λ r. ⌜ r ≡ acted (rowOf Tr (ntu (self .silence))) self code ⌝ }
     {
         match code {
             code::TICK => self.tried(false, 0, phase::SETTLING),
-            code::F_C_OVER => self.entered(phase::SETTLING, 0),
+            code::F_C_OVER => self.data_mode(),
+            code::ABNORMAL => self.abnormal(),
             _ => self,
         }
     }
 
     // LTU: T_c until 6.
     fn in_tc(self, code: u32) -> Supervisor
-        requires { ⌜ (code ≡ 8 → ⊥) × (self .ticks ≤ mostTicks) × (self .attempt ≤ mostAttempt) ⌝ }
+        requires { ⌜ (self .ticks ≤ mostTicks) × (self .attempt ≤ mostAttempt) ⌝ }
         ensures { λ r. ⌜ r ≡ acted (rowOf Tc (ltu (self .silence))) self code ⌝ }
     {
         match code {
             code::TICK => self.tried(false, 0, phase::F_C),
             code::T_R_SEEN => self.entered(phase::F_C, self.attempt),
+            code::ABNORMAL => self.abnormal(),
             _ => self,
         }
     }
 
     // LTU: F_c until 7. The attempt ends in data mode.
     fn in_fc(self, code: u32) -> Supervisor
-        requires { ⌜ (code ≡ 8 → ⊥) × (self .ticks ≤ mostTicks) × (self .attempt ≤ mostAttempt) ⌝ }
+        requires { ⌜ (self .ticks ≤ mostTicks) × (self .attempt ≤ mostAttempt) ⌝ }
         ensures { λ r. ⌜ r ≡ acted (rowOf Fc (ltu (self .silence))) self code ⌝ }
     {
         match code {
             code::TICK => self.tried(false, 0, phase::SETTLING),
-            code::F_C_OVER => self.entered(phase::SETTLING, 0),
+            code::F_C_OVER => self.data_mode(),
+            code::ABNORMAL => self.abnormal(),
             _ => self,
         }
     }
 
     // Settling, 1,000 ticks.
     fn in_settling(self, code: u32) -> Supervisor
-        requires { ⌜ (code ≡ 8 → ⊥) × (self .ticks ≤ mostTicks) ⌝ }
+        requires { ⌜ self .ticks ≤ mostTicks ⌝ }
         ensures { λ r. ⌜ r ≡ acted (rowOf Settling (ntu (self .silence))) self code ⌝ }
     {
         match code {
             code::TICK => self.waited(Self::SETTLING, phase::VALID),
+            code::ABNORMAL => self.abnormal(),
+            _ => self,
+        }
+    }
+
+    // Valid until an 8.
+    fn in_valid(self, code: u32) -> Supervisor
+        ensures { λ r. ⌜ r ≡ acted (rowOf Valid (ntu (self .silence))) self code ⌝ }
+    {
+        match code {
+            code::ABNORMAL => self.abnormal(),
             _ => self,
         }
     }
 
     // Exception for the silence.
     fn in_exception(self, code: u32) -> Supervisor
-        requires { ⌜ (code ≡ 8 → ⊥) × (self .ticks ≤ mostTicks) ⌝ }
+        requires { ⌜ self .ticks ≤ mostTicks ⌝ }
         ensures { λ r. ⌜ r ≡ acted (rowOf Exception (ntu (self .silence))) self code ⌝ }
     {
         match code {
             code::TICK => self.waited(self.silence, phase::READY),
+            code::ABNORMAL => self.silent_again(),
             _ => self,
         }
     }

@@ -1,61 +1,66 @@
 -- `storytext::put_end` meets its contract.
-use mathlib.Core.Path.{sym, _∙_}
-use Rattle.ascii.proofs.Room.{put-more}
-use Rattle.forms.specs.Forms.{formed, formedBy, firstOf}
-use Rattle.storytext.specs.Texts.{numbered, tryingText, waitingText, endText}
 use borrow.Author.Needs.{needs}
+use mathlib.Core.List.{_++_}
+use Rattle.ascii.specs.Text.{text}
+use Rattle.ascii.proofs.Room.{put-more}
+use Rattle.storytext.specs.Texts.{ticksText, verdictText, endText}
 use Rattle.storytext.proofs.put_end.Statement.{statement}
 use Rattle.storytext.proofs.put_end.Tie as tie
 
-slice-aggregate-put-form : tie.Need-slice-aggregate-put-form
-slice-aggregate-put-form c = search needs
+slice-aggregate-put-word : tie.Need-slice-aggregate-put-word
+slice-aggregate-put-word c = search needs
 
-slice-aggregate-put-form-2 : tie.Need-slice-aggregate-put-form-2
-slice-aggregate-put-form-2 c = search needs
+put-word-requires : tie.Need-put-word-requires
+put-word-requires c κs = search needs
 
-put-form-requires : tie.Need-put-form-requires
-put-form-requires c κs = search needs
+put-ticks-requires : tie.Need-put-ticks-requires
+put-ticks-requires c κs = search needs
 
-in-attempt-requires : tie.Need-in-attempt-requires
-in-attempt-requires c κs = search needs
+put-requires : tie.Need-put-requires
+put-requires c κs = search needs
 
-put-trying-requires : tie.Need-put-trying-requires
-put-trying-requires c κs = search needs
+put-verdict-requires : tie.Need-put-verdict-requires
+put-verdict-requires c κs = search needs
 
-put-waiting-requires : tie.Need-put-waiting-requires
-put-waiting-requires c κs = search needs
+put-requires-2 : tie.Need-put-requires-2
+put-requires-2 c κs = search needs
 
 same-length : tie.Need-same-length
 same-length c = search needs
 
 returns : tie.Need-returns
-unfolding formed formedBy firstOf endText
+unfolding endText
 returns c =
-    let s = c .before .before .before .before .before .before .before .before .before .before .before .before .before .before .args .story in
-    simp (sym (c .before .before .before .before .before .in-attempt .ensures) ∙ c .before .before .before .before .if1 .taken)
-    (put-more (numbered "end of log at tick " (s .clock) ": ") (tryingText s) (c .before .before .before .before .before .before .before .before .put-form .ensures) (c .before .before .put-trying .ensures))
-
-same-length-2 : tie.Need-same-length-2
-same-length-2 c = search needs
-
-returns-2 : tie.Need-returns-2
-unfolding formed formedBy firstOf endText
-returns-2 c =
-    let s = c .before .before .before .before .before .before .before .before .before .before .before .before .before .before .args .story in
-    simp (sym (c .before .before .before .before .before .in-attempt .ensures) ∙ c .before .before .before .before .if1 .left)
-    (put-more (numbered "end of log at tick " (s .clock) ": ") (waitingText s) (c .before .before .before .before .before .before .before .before .put-form .ensures) (c .before .before .put-waiting .ensures))
+    let b6 = c .before .before .before .before .before .before in
+    let b10 = b6 .before .before .before .before in
+    let b14 = b10 .before .before .before .before in
+    let b18 = b14 .before .before .before .before in
+    let b22 = b18 .before .before .before .before in
+    let s = b22 .args .story in
+    let t0 = text "end of log at tick " in
+    let t1 = ticksText (s .clock) in
+    let t2 = text "\n" in
+    let t3 = verdictText s in
+    let t4 = text "\n" in
+    put-more (t0 ++ t1 ++ t2 ++ t3) t4
+    (put-more (t0 ++ t1 ++ t2) t3
+    (put-more (t0 ++ t1) t2
+    (put-more (t0) t1
+    (b18 .put-word .ensures)
+    (b14 .put-ticks .ensures))
+    (b10 .put .ensures))
+    (b6 .put-verdict .ensures))
+    (c .before .before .put2 .ensures)
 
 pub put-end-spec : {M : Type 1} → statement M
 put-end-spec =
     tie.close
     (tie.spec
-    slice-aggregate-put-form
-    slice-aggregate-put-form-2
-    put-form-requires
-    in-attempt-requires
-    put-trying-requires
-    put-waiting-requires
+    slice-aggregate-put-word
+    put-word-requires
+    put-ticks-requires
+    put-requires
+    put-verdict-requires
+    put-requires-2
     same-length
-    returns
-    same-length-2
-    returns-2)
+    returns)

@@ -1,24 +1,14 @@
 -- `storytext::put_event` meets its contract.
+use borrow.Author.Needs.{needs}
 use mathlib.Core.List.{_++_}
 use Rattle.ascii.specs.Text.{text}
 use Rattle.ascii.proofs.Room.{put-more}
-use Rattle.forms.specs.Forms.{formed, formedBy, firstOf}
-use Rattle.storytext.specs.Texts.{numbered, phaseText, verbOf, attemptText, codeText, eventText}
-use borrow.Author.Needs.{needs}
+use Rattle.storytext.specs.Texts.{whenText, codeText, verbOf, phaseText, eventText}
 use Rattle.storytext.proofs.put_event.Statement.{statement}
 use Rattle.storytext.proofs.put_event.Tie as tie
 
-slice-aggregate-put-form : tie.Need-slice-aggregate-put-form
-slice-aggregate-put-form c = search needs
-
-slice-aggregate-put-form-2 : tie.Need-slice-aggregate-put-form-2
-slice-aggregate-put-form-2 c = search needs
-
-put-form-requires : tie.Need-put-form-requires
-put-form-requires c κs = search needs
-
-put-attempt-requires : tie.Need-put-attempt-requires
-put-attempt-requires c κs = search needs
+put-when-requires : tie.Need-put-when-requires
+put-when-requires c κs = search needs
 
 put-code-requires : tie.Need-put-code-requires
 put-code-requires c κs = search needs
@@ -36,30 +26,34 @@ same-length : tie.Need-same-length
 same-length c = search needs
 
 returns : tie.Need-returns
-unfolding formed formedBy firstOf eventText
+unfolding eventText
 returns c =
-    let e = c .before .before .before .before .before .before .before .before .before .before .before .before .before .before .before .before .before .before .before .before .before .before .before .before .before .before .before .before .args .event in
-    let m = numbered "tick " (e .story .clock) ": " in
-    let k = attemptText (e .attempt) (e .ticks) in
-    let d = codeText (e .code) in
-    let v = verbOf (e .kind) (e .code) in
-    let p = phaseText (e .story .state) in
-    put-more (m ++ k ++ d ++ v ++ p) (text "\n")
-    (put-more (m ++ k ++ d ++ v) p
-    (put-more (m ++ k ++ d) v
-    (put-more (m ++ k) d (put-more m k (c .before .before .before .before .before .before .before .before .before .before .before .before .before .before .before .before .before .before .before .before .before .before .put-form .ensures) (c .before .before .before .before .before .before .before .before .before .before .before .before .before .before .before .before .before .before .put-attempt .ensures)) (c .before .before .before .before .before .before .before .before .before .before .before .before .before .before .put-code .ensures))
-    (c .before .before .before .before .before .before .before .before .before .before .put-verb .ensures))
-    (c .before .before .before .before .before .before .put-phase .ensures))
+    let b6 = c .before .before .before .before .before .before in
+    let b10 = b6 .before .before .before .before in
+    let b14 = b10 .before .before .before .before in
+    let b18 = b14 .before .before .before .before in
+    let b22 = b18 .before .before .before .before in
+    let e = b22 .args .event in
+    let t0 = whenText (e .story .clock) (e .attempt) (e .ticks) in
+    let t1 = codeText (e .code) in
+    let t2 = verbOf (e .kind) (e .code) in
+    let t3 = phaseText (e .story .state) in
+    let t4 = text "\n" in
+    put-more (t0 ++ t1 ++ t2 ++ t3) t4
+    (put-more (t0 ++ t1 ++ t2) t3
+    (put-more (t0 ++ t1) t2
+    (put-more (t0) t1
+    (b18 .put-when .ensures)
+    (b14 .put-code .ensures))
+    (b10 .put-verb .ensures))
+    (b6 .put-phase .ensures))
     (c .before .before .put .ensures)
 
 pub put-event-spec : {M : Type 1} → statement M
 put-event-spec =
     tie.close
     (tie.spec
-    slice-aggregate-put-form
-    slice-aggregate-put-form-2
-    put-form-requires
-    put-attempt-requires
+    put-when-requires
     put-code-requires
     put-verb-requires
     put-phase-requires

@@ -1,9 +1,8 @@
 -- `storytext::put_left` meets its contract.
-use mathlib.Core.Logic.{inl, inr}
-use Rattle.ascii.proofs.Room.{put-none, put-as}
-use Rattle.storytext.proofs.Laws.{left-some, left-none}
-use Rattle.forms.specs.Forms.{formed, formedBy, firstOf}
 use borrow.Author.Needs.{needs}
+use Rattle.ascii.proofs.Room.{put-none, put-as}
+use mathlib.Core.Logic.{inl, inr}
+use Rattle.storytext.proofs.Laws.{left-some, left-none}
 use Rattle.storytext.proofs.put_left.Statement.{statement}
 use Rattle.storytext.proofs.put_left.Tie as tie
 
@@ -13,34 +12,30 @@ lasts-requires c κs = search needs
 rest-requires : tie.Need-rest-requires
 rest-requires c κs = search needs
 
-slice-aggregate-put-form : tie.Need-slice-aggregate-put-form
-slice-aggregate-put-form c = search needs
-
-slice-aggregate-put-form-2 : tie.Need-slice-aggregate-put-form-2
-slice-aggregate-put-form-2 c = search needs
-
-put-form-requires : tie.Need-put-form-requires
-put-form-requires c κs = search needs
+put-rest-requires : tie.Need-put-rest-requires
+put-rest-requires c κs = search needs
 
 same-length : tie.Need-same-length
 same-length c = search needs
 
 returns : tie.Need-returns
-unfolding formed formedBy firstOf
-returns c = put-as (c .before .before .put-form .ensures) (left-some (c .before .before .before .before .before .before .before .before .before .before .args .state) (c .before .before .before .before .before .before .before .lasts .result) (c .before .before .before .before .before .before .rest .result) (c .before .before .before .before .before .before .before .before .match .keys1) (c .before .before .before .before .before .before .before .lasts .ensures) (c .before .before .before .before .before .before .rest .ensures))
+returns c =
+    let b4 = c .before .before .before .before in
+    let b5 = b4 .before in
+    let b6 = b5 .before in
+    let b8 = b6 .before .before in
+    let s = b8 .args .state in
+    let l = b5 .lasts in
+    let n = b4 .rest in
+    put-as (c .before .before .put-rest .ensures) (left-some s (l .result) (n .result) (b6 .match .keys1) (l .ensures) (n .ensures))
 
 returns-2 : tie.Need-returns-2
-returns-2 c = put-as (put-none (c .before .before .args .room .now) (c .before .before .args .at)) (left-none (c .before .before .args .state) (λ a. c .match .rest .1 (inl a)) (λ a. c .match .rest .1 (inr (inl a))) (λ a. c .match .rest .1 (inr (inr a))))
+returns-2 c =
+    let a = c .before .before .args in
+    let m = c .match .rest .1 in
+    put-as (put-none (a .room .now) (a .at)) (left-none (a .state) (λ z. m (inl z)) (λ z. m (inr (inl z))) (λ z. m (inr (inr z))))
 
 pub put-left-spec : {M : Type 1} → statement M
 put-left-spec =
     tie.close
-    (tie.spec
-    lasts-requires
-    rest-requires
-    slice-aggregate-put-form
-    slice-aggregate-put-form-2
-    put-form-requires
-    same-length
-    returns
-    returns-2)
+    (tie.spec lasts-requires rest-requires put-rest-requires same-length returns returns-2)

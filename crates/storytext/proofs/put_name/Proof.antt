@@ -1,9 +1,9 @@
 -- `storytext::put_name` meets its contract.
+use borrow.Author.Needs.{needs}
 use mathlib.Core.Path.{ap, _∙_}
 use Rattle.ascii.proofs.Room.{put-as}
-use Rattle.storytext.proofs.Laws.{names, name-told}
 use Rattle.forms.specs.Forms.{rowOf}
-use borrow.Author.Needs.{needs}
+use Rattle.storytext.proofs.Laws.{names, name-told}
 use Rattle.storytext.proofs.put_name.Statement.{statement}
 use Rattle.storytext.proofs.put_name.Tie as tie
 
@@ -20,7 +20,9 @@ same-length : tie.Need-same-length
 same-length c = search needs
 
 returns : tie.Need-returns
-returns c = let a = c .before .before .before .before .before .before .before .args in put-as (c .before .before .put-row .ensures) (ap (rowOf names) (c .before .before .before .name-row .ensures) ∙ name-told (a .end) (a .phase))
+returns c =
+    let a = c .before .before .before .before .before .before .before .args in
+    put-as (c .before .before .put-row .ensures) (ap (rowOf names) (c .before .before .before .name-row .ensures) ∙ name-told (a .end) (a .phase))
 
 pub put-name-spec : {M : Type 1} → statement M
 put-name-spec =

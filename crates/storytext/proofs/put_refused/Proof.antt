@@ -18,7 +18,9 @@ same-length : tie.Need-same-length
 same-length c = search needs
 
 returns : tie.Need-returns
-returns c = let a = c .before .before .before .before .before .before .before .args in put-as (c .before .before .put-form .ensures) (refused-form (a .answer) (a .line))
+returns c =
+    let b7 = c .before .before .before .before .before .before .before in
+    let a = b7 .args in put-as (c .before .before .put-form .ensures) (refused-form (a .answer) (a .line))
 
 pub put-refused-spec : {M : Type 1} → statement M
 put-refused-spec =

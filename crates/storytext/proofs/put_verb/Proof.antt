@@ -20,7 +20,10 @@ same-length : tie.Need-same-length
 same-length c = search needs
 
 returns : tie.Need-returns
-returns c = let a = c .before .before .before .before .before .before .before .args in put-as (c .before .before .put-row .ensures) (ap (rowOf verbs) (c .before .before .before .verb-row .ensures) ∙ verb-told (a .kind) (a .code))
+returns c =
+    let b3 = c .before .before .before in
+    let b7 = b3 .before .before .before .before in
+    let a = b7 .args in put-as (c .before .before .put-row .ensures) (ap (rowOf verbs) (b3 .verb-row .ensures) ∙ verb-told (a .kind) (a .code))
 
 pub put-verb-spec : {M : Type 1} → statement M
 put-verb-spec =

@@ -10,6 +10,9 @@ tried-requires c κs = search needs
 tried-requires-2 : tie.Need-tried-requires-2
 tried-requires-2 c κs = search needs
 
+abnormal-requires : tie.Need-abnormal-requires
+abnormal-requires c κs = search needs
+
 returns : tie.Need-returns
 returns c = rw (c .before .before .before .match .keys1) (simp (eq-eqb _ _ (c .before .if1 .taken)) (c .tried .ensures))
 
@@ -17,7 +20,10 @@ returns-2 : tie.Need-returns-2
 returns-2 c = rw (c .before .before .before .match .keys1) (simp (ne-eqb _ _ (c .before .if1 .left)) (c .tried2 .ensures))
 
 returns-3 : tie.Need-returns-3
-returns-3 c = simp (same-both, ne-eqb _ _ (c .match .rest .1), ne-eqb _ _ (c .before .pre .0))
+returns-3 c = rw (c .before .match .keys2) (simp same-both (c .abnormal .ensures))
+
+returns-4 : tie.Need-returns-4
+returns-4 c = simp (same-both, ne-eqb _ _ (c .match .rest .0 .1), ne-eqb _ _ (c .match .rest .1))
 
 pub in-quiet-spec : {M : Type 1} → statement M
-in-quiet-spec = tie.close (tie.spec tried-requires tried-requires-2 returns returns-2 returns-3)
+in-quiet-spec = tie.close (tie.spec tried-requires tried-requires-2 abnormal-requires returns returns-2 returns-3 returns-4)
