@@ -256,7 +256,7 @@ static void run_codes(const struct library *library, size_t which)
     uint8_t *codes = results.octets;
     memset(codes, (int)(which % (SDSL_REPORT_MAX + 1)), STEPS);
     struct sdsl_run run = library->run_codes(state_of(which), codes, STEPS);
-    results.numbers[0] = run.answer + (uint32_t)(run.opened + run.opened_at + run.ended + run.ended_at);
+    results.numbers[0] = run.answer + (uint32_t)(run.attempts + run.opened_at + run.outcome + run.ended_at);
     results.state = run.state;
 }
 

@@ -257,9 +257,9 @@ static void run_codes(const struct library *library)
 {
     struct sdsl_run run = library->run_codes(library->start(SDSL_LTU, SDSL_SILENCE_DEFAULT).state, codes, CODES);
     results.numbers[0] = run.answer;
-    results.numbers[1] = (uint32_t)run.opened;
+    results.numbers[1] = (uint32_t)run.attempts;
     results.numbers[2] = (uint32_t)run.opened_at;
-    results.numbers[3] = run.ended;
+    results.numbers[3] = run.outcome;
     results.numbers[4] = (uint32_t)run.ended_at;
     results.state = run.state;
 }

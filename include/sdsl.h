@@ -639,14 +639,14 @@ struct sdsl_stepped sdsl_start(uint32_t end, uint32_t silence);
 struct sdsl_stepped sdsl_step(struct sdsl_supervisor state, uint32_t code);
 
 /* How the last attempt that opened in a run stands at the end of the run. */
-enum sdsl_ended { SDSL_NONE_OPENED = 0, SDSL_STILL_OPEN = 1, SDSL_IN_DATA_MODE = 2, SDSL_IN_EXCEPTION = 3 };
+enum sdsl_outcome { SDSL_NONE_OPENED = 0, SDSL_STILL_OPEN = 1, SDSL_IN_DATA_MODE = 2, SDSL_IN_EXCEPTION = 3 };
 
 /* What a run over a list of codes gives. Places in the list count from 0. There is padding in it: compare two of them by field. */
 struct sdsl_run {
     uint32_t answer;    /* enum sdsl_answer */
-    uint64_t opened;    /* how many attempts opened in the list */
+    uint64_t attempts;  /* how many attempts opened in the list */
     uint64_t opened_at; /* the place of the code that opened the last one; 0 where none opened */
-    uint32_t ended;     /* enum sdsl_ended, of the last one */
+    uint32_t outcome;   /* enum sdsl_outcome, of the last one */
     uint64_t ended_at;  /* the place of the code that ended it; 0 where none did */
     struct sdsl_supervisor state; /* for the next call */
 };
@@ -659,7 +659,7 @@ struct sdsl_run {
  * Example:
  *     uint8_t codes[1 + SDSL_GAP_TICKS] = {SDSL_PRE_ACTIVATION_ENDED}; // then 300 ticks
  *     struct sdsl_run run = sdsl_run_codes(sdsl_start(SDSL_NTU, SDSL_SILENCE_DEFAULT).state, codes, sizeof codes);
- *     assert(run.answer == SDSL_DONE && run.opened == 1 && run.opened_at == 300 && run.ended == SDSL_STILL_OPEN);
+ *     assert(run.answer == SDSL_DONE && run.attempts == 1 && run.opened_at == 300 && run.outcome == SDSL_STILL_OPEN);
  */
 struct sdsl_run sdsl_run_codes(struct sdsl_supervisor state, const uint8_t *codes, size_t codes_len);
 

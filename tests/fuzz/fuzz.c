@@ -562,12 +562,12 @@ static uint32_t try_run_codes(void)
     keep();
     struct sdsl_run r = sdsl_run_codes(s, codes->p, codes->len);
     if (r.answer == SDSL_DONE) {
-        want(is_state(r.state) && r.opened <= codes->len && r.ended <= SDSL_IN_EXCEPTION, "gives a number out of its range");
-        want((r.opened == 0) == (r.ended == SDSL_NONE_OPENED) && (r.opened > 0 || (r.opened_at == 0 && r.ended_at == 0)),
+        want(is_state(r.state) && r.attempts <= codes->len && r.outcome <= SDSL_IN_EXCEPTION, "gives a number out of its range");
+        want((r.attempts == 0) == (r.outcome == SDSL_NONE_OPENED) && (r.attempts > 0 || (r.opened_at == 0 && r.ended_at == 0)),
              "opens none and ends one");
-        want(r.opened == 0 || (r.opened_at < codes->len && r.ended_at < codes->len), "gives a place outside the list");
+        want(r.attempts == 0 || (r.opened_at < codes->len && r.ended_at < codes->len), "gives a place outside the list");
     } else {
-        want(same_state(r.state, s) && (r.opened | r.opened_at | r.ended | r.ended_at) == 0, "gives numbers and refuses");
+        want(same_state(r.state, s) && (r.attempts | r.opened_at | r.outcome | r.ended_at) == 0, "gives numbers and refuses");
     }
     return r.answer;
 }

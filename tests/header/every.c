@@ -93,7 +93,7 @@ static void supervisor(void)
     look(card.answer == SDSL_DONE && card.phase == SDSL_READY && card.state.silence == SDSL_SILENCE_MAX, "sdsl_start");
     look(sdsl_step(card.state, SDSL_PRE_ACTIVATION_ENDED).phase == SDSL_AWAIT, "sdsl_step");
     struct sdsl_run run = sdsl_run_codes(card.state, codes, sizeof codes);
-    look(run.opened == 1 && run.opened_at == 1 && run.state.phase == SDSL_HEARING, "sdsl_run_codes");
+    look(run.attempts == 1 && run.opened_at == 1 && run.state.phase == SDSL_HEARING, "sdsl_run_codes");
 }
 
 /* Whether each number up to `last` has a text of its own, and every number beyond it the same one. */
@@ -149,6 +149,7 @@ static void numbers(void)
         good = good && octets == (uint64_t)tried[k] % UINT64_C(4294967296) && sdsl_get_number(buffer, k) == tried[k];
     }
     look(good && buffer[4 * count] == 0xA5 && sdsl_get_number(minus_two, 0) == -2, "sdsl_get_number");
+    look(memcmp(buffer, tried, sizeof tried) == 0, "an array of int32_t has the octets of its numbers, on this machine");
     sdsl_put_number(buffer, 1, SDSL_STEPS / 2);
     look(memcmp(buffer + 4, half, 4) == 0 && sdsl_get_number(buffer, 0) == 0 && sdsl_get_number(buffer, 2) == -1, "sdsl_put_number");
 }

@@ -97,15 +97,15 @@ struct by_list run_by_list(uint32_t end, uint32_t silence, const uint8_t *codes,
         if (opening < trouble) {
             size_t data_mode = data_mode_of(list, end, opening);
             size_t exception = earlier(trouble, nth_tick_after(list, opening, 15000));
-            result.opened++;
+            result.attempts++;
             result.opened_at = opening;
-            result.ended = SDSL_STILL_OPEN;
+            result.outcome = SDSL_STILL_OPEN;
             result.ended_at = 0;
             if (data_mode < exception) {
-                result.ended = SDSL_IN_DATA_MODE;
+                result.outcome = SDSL_IN_DATA_MODE;
                 result.ended_at = data_mode;
             } else if (exception != NEVER) {
-                result.ended = SDSL_IN_EXCEPTION;
+                result.outcome = SDSL_IN_EXCEPTION;
                 result.ended_at = exception;
                 trouble = exception;
             }

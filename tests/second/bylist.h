@@ -9,9 +9,9 @@
 #include <stdint.h>
 
 struct by_list {
-    uint64_t opened;
+    uint64_t attempts;
     uint64_t opened_at;
-    uint32_t ended;
+    uint32_t outcome;
     uint64_t ended_at;
 };
 

@@ -955,15 +955,15 @@ struct sdsl_run ref_run_codes(struct sdsl_supervisor state, const uint8_t *codes
             continue;
         }
         if (state.phase == SDSL_CR || state.phase == SDSL_HEARING) {
-            result.opened++;
+            result.attempts++;
             result.opened_at = place;
-            result.ended = SDSL_STILL_OPEN;
+            result.outcome = SDSL_STILL_OPEN;
             result.ended_at = 0;
-        } else if (result.ended == SDSL_STILL_OPEN && state.phase == SDSL_SETTLING) {
-            result.ended = SDSL_IN_DATA_MODE;
+        } else if (result.outcome == SDSL_STILL_OPEN && state.phase == SDSL_SETTLING) {
+            result.outcome = SDSL_IN_DATA_MODE;
             result.ended_at = place;
-        } else if (result.ended == SDSL_STILL_OPEN && state.phase == SDSL_EXCEPTION) {
-            result.ended = SDSL_IN_EXCEPTION;
+        } else if (result.outcome == SDSL_STILL_OPEN && state.phase == SDSL_EXCEPTION) {
+            result.outcome = SDSL_IN_EXCEPTION;
             result.ended_at = place;
         }
     }

@@ -71,15 +71,15 @@ static struct sdsl_run try_run(struct sdsl_supervisor state, const uint8_t *octe
     struct sdsl_run ref = ref_run_codes(state, codes.ref, codes.len);
     struct comparison comparison = {NULL};
     want(&comparison, lib.answer == ref.answer, "answers differ");
-    want(&comparison, lib.opened == ref.opened && lib.opened_at == ref.opened_at, "openings differ");
-    want(&comparison, lib.ended == ref.ended && lib.ended_at == ref.ended_at, "endings differ");
+    want(&comparison, lib.attempts == ref.attempts && lib.opened_at == ref.opened_at, "openings differ");
+    want(&comparison, lib.outcome == ref.outcome && lib.ended_at == ref.ended_at, "endings differ");
     want(&comparison, same_state(lib.state, ref.state), "states differ");
     want(&comparison, lib.answer == 0 || same_state(lib.state, state), "a refused run changed the state");
     want_kept(&comparison, &codes, "the codes changed");
     settle(comparison, &runs, STATE_FORM " %zu codes: library %u opened %llu at %llu ended %u at %llu " STATE_FORM
            ", reference %u opened %llu at %llu ended %u at %llu " STATE_FORM, STATE_ARGUMENTS(state), len, lib.answer,
-           (unsigned long long)lib.opened, (unsigned long long)lib.opened_at, lib.ended, (unsigned long long)lib.ended_at,
-           STATE_ARGUMENTS(lib.state), ref.answer, (unsigned long long)ref.opened, (unsigned long long)ref.opened_at, ref.ended,
+           (unsigned long long)lib.attempts, (unsigned long long)lib.opened_at, lib.outcome, (unsigned long long)lib.ended_at,
+           STATE_ARGUMENTS(lib.state), ref.answer, (unsigned long long)ref.attempts, (unsigned long long)ref.opened_at, ref.outcome,
            (unsigned long long)ref.ended_at, STATE_ARGUMENTS(ref.state));
     give_back(&codes);
     return lib;
@@ -92,12 +92,12 @@ static void try_fresh_run(uint32_t end, uint32_t silence, const uint8_t *octets,
     struct by_list list = run_by_list(end, silence, octets, len);
     struct comparison comparison = {NULL};
     want(&comparison, lib.answer == 0, "refused");
-    want(&comparison, lib.opened == list.opened && lib.opened_at == list.opened_at, "openings differ");
-    want(&comparison, lib.ended == list.ended && lib.ended_at == list.ended_at, "endings differ");
+    want(&comparison, lib.attempts == list.attempts && lib.opened_at == list.opened_at, "openings differ");
+    want(&comparison, lib.outcome == list.outcome && lib.ended_at == list.ended_at, "endings differ");
     settle(comparison, &lists, "end %u silence %u %zu codes: library %u opened %llu at %llu ended %u at %llu, the list opened %llu"
-           " at %llu ended %u at %llu", end, silence, len, lib.answer, (unsigned long long)lib.opened, (unsigned long long)lib.opened_at,
-           lib.ended, (unsigned long long)lib.ended_at, (unsigned long long)list.opened, (unsigned long long)list.opened_at, list.ended,
-           (unsigned long long)list.ended_at);
+           " at %llu ended %u at %llu", end, silence, len, lib.answer, (unsigned long long)lib.attempts, (unsigned long long)lib.opened_at,
+           lib.outcome, (unsigned long long)lib.ended_at, (unsigned long long)list.attempts, (unsigned long long)list.opened_at,
+           list.outcome, (unsigned long long)list.ended_at);
 }
 
 /* ---- Starts ---- */
@@ -408,11 +408,12 @@ static void expect(const struct side *side, uint32_t end, const struct script *s
     name(at.answer == 0 && at.phase == phase && at.attempt == attempt && at.state.phase == phase, what, side);
 }
 
-static void expect_run(const struct side *side, uint32_t end, const struct script *script, uint64_t opened_at, uint32_t ended,
+static void expect_run(const struct side *side, uint32_t end, const struct script *script, uint64_t opened_at, uint32_t outcome,
                        uint64_t ended_at, const char *what)
 {
     struct sdsl_run run = side->run(side->start(end, SILENCE).state, script->codes, script->len);
-    name(run.answer == 0 && run.opened == 1 && run.opened_at == opened_at && run.ended == ended && run.ended_at == ended_at, what, side);
+    name(run.answer == 0 && run.attempts == 1 && run.opened_at == opened_at && run.outcome == outcome && run.ended_at == ended_at, what,
+         side);
 }
 
 /* A code so many times, and then the phase and the attempt's ticks. */
@@ -568,8 +569,8 @@ static void other_cases(const struct side *side)
         expect_run(side, end, &s, opened_at, SDSL_STILL_OPEN, 0, "the run goes on after code 9");
 
         struct sdsl_run run = side->run(before.state, (const uint8_t *)"\10", 1);
-        name(run.answer == 0 && run.opened == 0 && run.ended == SDSL_NONE_OPENED && run.ended_at == 0 && run.state.phase == SDSL_EXCEPTION,
-             "an attempt that opened before the list", side);
+        name(run.answer == 0 && run.attempts == 0 && run.outcome == SDSL_NONE_OPENED && run.ended_at == 0 &&
+             run.state.phase == SDSL_EXCEPTION, "an attempt that opened before the list", side);
 
         name(side->start(end, 0).answer == 0 && side->start(end, 0).state.silence == 2000, "silence 0", side);
         name(side->start(end, 1999).answer == 4 && side->start(end, 1999).state.silence == 0, "silence 1,999", side);

@@ -141,7 +141,7 @@ mutant "a stray attempt count answered outside an attempt" -e '/^struct sdsl_ste
 mutant "a silence of 60,001 taken" -e '/^struct sdsl_stepped ref_start/,/^}/s/silence > 60000/silence > 60001/'
 mutant "a code over 8 answered with 4 where the state is bad" -e '/^struct sdsl_stepped ref_step/,/^}/s/^    if (code > 8) {/    if (code > 8 \&\& judge_state(state) != SDSL_OUT_OF_RANGE) {/'
 mutant "a run stops at a code over 8" -e '/^struct sdsl_run ref_run_codes/,/^}/s/^        if (codes\[place\] > 8) {/        if (codes[place] > 8) { break;/'
-mutant "a run counts the end of an attempt opened before it" -e 's/^        } else if (result.ended == SDSL_STILL_OPEN && state.phase == SDSL_EXCEPTION) {/        } else if (result.ended < SDSL_IN_DATA_MODE \&\& state.phase == SDSL_EXCEPTION) {/'
+mutant "a run counts the end of an attempt opened before it" -e 's/^        } else if (result.outcome == SDSL_STILL_OPEN && state.phase == SDSL_EXCEPTION) {/        } else if (result.outcome < SDSL_IN_DATA_MODE \&\& state.phase == SDSL_EXCEPTION) {/'
 mutant "places not counted over skipped codes" -e '/^struct sdsl_run ref_run_codes/,/^}/s/^            result.opened_at = place;/            for (size_t i = result.opened_at = place; i > 0; i--) result.opened_at -= codes[i - 1] > 8;/'
 
 echo "$tried mutants, $((tried - missed)) caught"

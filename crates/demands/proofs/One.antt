@@ -203,6 +203,6 @@ module _ (x : Library) (k : Keeps x) where
     run-codes = answers (ordered .run-codes) codes-answer
         (λ c h.
         let e = k .run-codes c refl ∙ ap runFieldsOf (kept _ _ _ (other (codes-answer c) h)) in
-        λ i. record { attempts = e i .opened; opened-at = e i .«opened_at»; outcome = e i .ended; ended-at = e i .«ended_at» })
+        λ i. record { attempts = e i .attempts; opened-at = e i .«opened_at»; outcome = e i .outcome; ended-at = e i .«ended_at» })
         (λ c h. ap (λ (r : Run). r .state) (k .run-codes c refl ∙ ap runFieldsOf (kept _ _ _ (other (codes-answer c) h))));
   }

@@ -123,7 +123,7 @@ ours = record {
   step = λ c. let r = stepOf (stateIn (c .state)) (c .code) in record { answer = r .answer; numbers = record { phase = r .phase; attempt = r .attempt }; memory = stateOf (r .state) };
   run-codes = λ c.
       let r = runFieldsOf (codesRun (stateIn (c .state)) (c .codes)) in
-      record { answer = r .answer; numbers = record { attempts = r .opened; opened-at = r .«opened_at»; outcome = r .ended; ended-at = r .«ended_at» }; memory = r .state };
+      record { answer = r .answer; numbers = record { attempts = r .attempts; opened-at = r .«opened_at»; outcome = r .outcome; ended-at = r .«ended_at» }; memory = r .state };
 }
 
 -- a state or the next, by its number

@@ -183,4 +183,4 @@ three x k end silence h t = (
         record { answer = q .answer; attempts = q .attempts; openedAt = q .openedAt; outcome = q .outcome; endedAt = q .endedAt; state = stateOf (q .state) })
     runs s l =
         λ i. let e = k .run-codes (record { state = s; codes = l }) refl i in
-        record { answer = e .answer; attempts = e .opened; openedAt = e .«opened_at»; outcome = e .ended; endedAt = e .«ended_at»; state = e .state }
+        record { answer = e .answer; attempts = e .attempts; openedAt = e .«opened_at»; outcome = e .outcome; endedAt = e .«ended_at»; state = e .state }

@@ -18,6 +18,9 @@ use Rattle.demands.specs.Library.{Library, WriteCall, ReadCall, RunCall,
 use Rattle.demands.specs.Library.{CodesCall}
 use Rattle.demands.specs.FromC.{Calls, fromC, everyCall}
 
+-- What no demand speaks of, since a start is a constant and a bit a run of one: their own contracts say all of it.
+-- outside: sdsl_scrambler_start, sdsl_scramble_bit, sdsl_descramble_bit, sdsl_encoder_start, sdsl_history_start
+
 -- each function keeps the contract of the exported one, for the calls that are meant. Above each field the exported function with its arguments;
 -- where a call's field has another name, argument = field
 pub record KeepsFor (calls : Calls) (x : Library) : Type 0 where
@@ -59,7 +62,7 @@ pub record KeepsFor (calls : Calls) (x : Library) : Type 0 where
   -- sdsl_precode(coefficients, history, xs = symbols, ys = room)
   pub precode : (c : PrecodeCall) → calls .precode c ≡ true → PrecodesRun (c .coefficients) (c .history) (c .symbols) (c .room)
       (x .precode c .answer) (x .precode c .memory .history) (x .precode c .memory .room)
-  -- sdsl_decode(coefficients, history, ys = symbols, xs = room)
+  -- sdsl_unprecode(coefficients, history, ys = symbols, xs = room)
   pub decode : (c : PrecodeCall) → calls .decode c ≡ true → DecodesRun (c .coefficients) (c .history) (c .symbols) (c .room)
       (x .decode c .answer) (x .decode c .memory .history) (x .decode c .memory .room)
   -- sdsl_shaper(y)
@@ -80,13 +83,13 @@ pub record KeepsFor (calls : Calls) (x : Library) : Type 0 where
         attempt = x .step c .numbers .attempt;
         state = x .step c .memory;
       })
-  -- sdsl_run_codes(state, codes), opened = attempts, ended = outcome
+  -- sdsl_run_codes(state, codes)
   pub run-codes : (c : CodesCall) → calls .run-codes c ≡ true → CodesRun (c .state) (c .codes)
       (record {
         answer = x .run-codes c .answer;
-        opened = x .run-codes c .numbers .attempts;
+        attempts = x .run-codes c .numbers .attempts;
         «opened_at» = x .run-codes c .numbers .opened-at;
-        ended = x .run-codes c .numbers .outcome;
+        outcome = x .run-codes c .numbers .outcome;
         «ended_at» = x .run-codes c .numbers .ended-at;
         state = x .run-codes c .memory;
       })

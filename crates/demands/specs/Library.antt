@@ -89,7 +89,7 @@ pub record Codes : Type 0 where
   pub register : ℕ
   pub codes : List ℕ
 
--- sdsl_precode and sdsl_decode: octets of coefficients, of the history, of what goes in, and room for what comes out
+-- sdsl_precode and sdsl_unprecode: octets of coefficients, of the history, of what goes in, and room for what comes out
 pub record PrecodeCall : Type 0 where
   pub coefficients : List ℕ
   pub history : List ℕ

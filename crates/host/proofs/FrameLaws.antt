@@ -35,7 +35,8 @@ frame-written {kind} {count} {os} {a} {b} {vendor} {frame} {r} e f =
       left = f;
       check-right = λ z.
           let R = writeRefusals kind count (numbersOf os) a b vendor frame in
-          written {kind = kind} {count = count} {cs = numbersOf os} {a = a} {b = b} (z ∙ sym (none 0 (not (eqb (length os) 720)) R (sym e ∙ z) .1)) f .check-right z;
+          let none-refuses = z ∙ sym (none 0 (not (eqb (length os) 720)) R (sym e ∙ z) .1) in
+          written {kind = kind} {count = count} {cs = numbersOf os} {a = a} {b = b} none-refuses f .check-right z;
     }
 
 -- ---- reading
@@ -106,7 +107,9 @@ module _ (frame os vendor : List ℕ) (cs cs′ : List ℤ) (vendor′ : List �
         let t : hasSync trainingSync B ≡ true = by-training (hasSync trainingSync B) B (sym (ap (λ (x : Found). x .kind) found-is) ∙ k) in
         let c : cs′ ≡ coefficientsOf B =
         p .coefficients-left ∙ given A cs (coefficientsLeft B cs) zero-answer ∙ ap (λ (b : Bool). cond b (coefficientsOf B) cs) t in
-        out os′ (subst (λ (zs : List ℤ). NumbersPut os zs os′) c e ∙ put-whole os l (coefficientsOf B) (numbers-length 22 180 (fieldOf coefficientsField B)) ∙ sym (left-is true t))
+        let put = subst (λ (zs : List ℤ). NumbersPut os zs os′) c e in
+        let filled = put-whole os l (coefficientsOf B) (numbers-length 22 180 (fieldOf coefficientsField B)) in
+        out os′ (put ∙ filled ∙ sym (left-is true t))
 
     pub final-out : (f .kind ≡ 0 → ⊥) → FrameRead frame os vendor (fieldsOf f) os vendor′
     final-out k =

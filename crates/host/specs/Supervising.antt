@@ -24,10 +24,17 @@ stateOf s = record { end = s .end; phase = s .phase; ticks = s .ticks; attempt =
 abbrev pub steppedOf : Answer → Stepped
 steppedOf r = record { answer = r .answer; phase = r .phase; attempt = r .attempt; state = stateOf (r .state) }
 
--- struct sdsl_run: `opened` is how many attempts opened, `ended` what became of the last one
+-- struct sdsl_run
 abbrev pub runFieldsOf : StartupRun → Run
 runFieldsOf r =
-    record { answer = r .answer; opened = r .attempts; «opened_at» = r .«opened_at»; ended = r .outcome; «ended_at» = r .«ended_at»; state = stateOf (r .state) }
+    record {
+      answer = r .answer;
+      attempts = r .attempts;
+      «opened_at» = r .«opened_at»;
+      outcome = r .outcome;
+      «ended_at» = r .«ended_at»;
+      state = stateOf (r .state);
+    }
 
 -- sdsl_start
 abbrev pub Started : ℕ → ℕ → Stepped → Type 0

@@ -28,11 +28,11 @@ pub struct Stepped {
 pub struct Run {
     pub answer: u32,
     // How many attempts opened in the list.
-    pub opened: u64,
+    pub attempts: u64,
     // The place of the code that opened the last one, else 0.
     pub opened_at: u64,
     // What became of it.
-    pub ended: u32,
+    pub outcome: u32,
     // The place of the code that ended it, else 0.
     pub ended_at: u64,
     pub state: Supervisor,
@@ -106,9 +106,9 @@ pub extern "C" fn sdsl_run_codes(state: Supervisor, codes: &[u8]) -> Run
     let after = run.state;
     Run {
         answer: run.answer,
-        opened: run.attempts as u64,
+        attempts: run.attempts as u64,
         opened_at: run.opened_at as u64,
-        ended: run.outcome,
+        outcome: run.outcome,
         ended_at: run.ended_at as u64,
         state: state_out(after),
     }

@@ -29,8 +29,11 @@ returns-2 : tie.Need-returns-2
 returns-2 c =
     let a = c .before .before .before .before .before .before .before .before .before .before .args in
     let w = c .before .before .write in
-    let p = subst (λ (cs : List ℤ). Written (a .kind) (a .count) cs (a .a) (a .b) (a .vendor .now) (a .frame .now) (w .result) (w .last .1 .1 .1 .1 .1 .1 .0)) (c .before .before .before .before .before .numbers .ensures ∙ numbers-whole (a .coefficients .now) (c .before .before .before .before .before .before .if1 .left)) (w .ensures) in
-    frame-written (p .answered ∙ simp (eq-eqb _ _ (c .before .before .before .before .before .before .if1 .left))) (p .left)
+    let whole = c .before .before .before .before .before .before .if1 .left in
+    let same = c .before .before .before .before .before .numbers .ensures ∙ numbers-whole (a .coefficients .now) whole in
+    let frame = w .last .1 .1 .1 .1 .1 .1 .0 in
+    let p = subst (λ (cs : List ℤ). Written (a .kind) (a .count) cs (a .a) (a .b) (a .vendor .now) (a .frame .now) (w .result) frame) same (w .ensures) in
+    frame-written (p .answered ∙ simp (eq-eqb _ _ whole)) (p .left)
 
 pub sdsl-frame-write-spec : {M : Type 1} → statement M
 sdsl-frame-write-spec =

@@ -1,4 +1,4 @@
--- `host::supervisor::sdsl_run_codes` meets its contract.
+-- `host::supervising::sdsl_run_codes` meets its contract.
 use borrow.Author.Needs.{needs}
 use mathlib.Core.Path.{ap, _∙_}
 use Rattle.supervisor.specs.declared.Supervisor.{Supervisor as State}
@@ -21,7 +21,15 @@ returns : tie.Need-returns
 returns c =
     let s = c .before .before .before .before .before .args in
     let r = c .before .before .over in
-    ap (λ (t : Supervisor). record { answer = r .result .answer; opened = r .result .attempts; «opened_at» = r .result .«opened_at»; ended = r .result .outcome; «ended_at» = r .result .«ended_at»; state = t }) (c .state-out .ensures)
+    let run = r .result in
+    ap (λ (t : Supervisor). record {
+      answer = run .answer;
+      attempts = run .attempts;
+      «opened_at» = run .«opened_at»;
+      outcome = run .outcome;
+      «ended_at» = run .«ended_at»;
+      state = t;
+    }) (c .state-out .ensures)
     ∙ ap runFieldsOf (r .ensures ∙ ap (λ (t : State). runOf t (s .codes .now)) (c .before .before .before .state-in .ensures))
 
 pub sdsl-run-codes-spec : {M : Type 1} → statement M

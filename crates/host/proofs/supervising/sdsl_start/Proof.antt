@@ -1,4 +1,4 @@
--- `host::supervisor::sdsl_start` meets its contract.
+-- `host::supervising::sdsl_start` meets its contract.
 use borrow.Author.Needs.{needs}
 use mathlib.Core.Path.{ap, _∙_}
 use Rattle.host.specs.Supervising.{steppedOf}

@@ -1,4 +1,4 @@
--- `host::supervisor::sdsl_step` meets its contract.
+-- `host::supervising::sdsl_step` meets its contract.
 use borrow.Author.Needs.{needs}
 use mathlib.Core.Path.{ap, _∙_}
 use Rattle.supervisor.specs.declared.Supervisor.{Supervisor as State}

@@ -1,4 +1,4 @@
--- `host::supervisor::stepped_out` meets its contract.
+-- `host::supervising::stepped_out` meets its contract.
 use borrow.Author.Needs.{needs}
 use mathlib.Core.Path.{ap}
 use Rattle.host.specs.declared.supervising.Supervisor.{Supervisor}
