@@ -5,14 +5,26 @@ use mathlib.Core.List.{List}
 use Prim.Native.Nat.{ℕ}
 use Rattle.ascii.proofs.One.{put-one, told-one}
 use Rattle.verdict.specs.declared.Verdict.{Verdict}
-use Rattle.cardline.specs.Line.{reason, cardLine, heading}
-use Rattle.cardline.specs.Promises.{ReasonPut, Headed, Lined}
+use Rattle.cardline.specs.Words.{nameOf, todo}
+use Rattle.cardline.specs.Line.{cardLine, heading, csvLine, referenceLine}
+use Rattle.cardline.specs.Promises.{NamePut, TodoPut, Headed, Lined, Separated, Referred}
 
-pub put-reason-one : (room : List ℕ) (at n r r′ : ℕ) (t t′ : List ℕ) → ReasonPut room at n r t → ReasonPut room at n r′ t′ → (r ≡ r′) × (t ≡ t′)
-put-reason-one room at n = put-one room at (reason n)
+pub put-name-one : (room : List ℕ) (at n r r′ : ℕ) (t t′ : List ℕ) → NamePut room at n r t → NamePut room at n r′ t′ → (r ≡ r′) × (t ≡ t′)
+put-name-one room at n = put-one room at (nameOf n)
+
+pub put-todo-one : (room : List ℕ) (at n r r′ : ℕ) (t t′ : List ℕ) → TodoPut room at n r t → TodoPut room at n r′ t′ → (r ≡ r′) × (t ≡ t′)
+put-todo-one room at n = put-one room at (todo n)
 
 pub header-one : (given : Bool) (room : List ℕ) (r r′ : ℕ) (t t′ : List ℕ) → Headed given room r t → Headed given room r′ t′ → (r ≡ r′) × (t ≡ t′)
 header-one given = told-one (heading given)
 
-pub line-one : (name : List ℕ) (v : Verdict) (room : List ℕ) (r r′ : ℕ) (t t′ : List ℕ) → Lined name v room r t → Lined name v room r′ t′ → (r ≡ r′) × (t ≡ t′)
+pub line-one : (name : List ℕ) (v : Verdict) (room : List ℕ) (r r′ : ℕ) (t t′ : List ℕ) → Lined name v room r t → Lined name v room r′ t′
+    → (r ≡ r′) × (t ≡ t′)
 line-one name v = told-one (cardLine name v)
+
+pub csv-one : (line room : List ℕ) (r r′ : ℕ) (t t′ : List ℕ) → Separated line room r t → Separated line room r′ t′ → (r ≡ r′) × (t ≡ t′)
+csv-one line = told-one (csvLine line)
+
+pub reference-one : (name : List ℕ) (v : Verdict) (room : List ℕ) (r r′ : ℕ) (t t′ : List ℕ) → Referred name v room r t → Referred name v room r′ t′
+    → (r ≡ r′) × (t ≡ t′)
+reference-one name v = told-one (referenceLine name v)

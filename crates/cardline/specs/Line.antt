@@ -1,11 +1,16 @@
--- One line for a card, with a tab between its cells: file, kind, verdict, coefficients, A, B, vendor data; with a customer also how A and B
--- compare. A cell that holds nothing is "-".
+-- One line for a card, with a tab between its cells: file, verdict, what to do, kind, coefficients, A, B, vendor data in hex and as text; with
+-- a customer also how A and B compare. A cell that holds nothing is "-".
 use mathlib.Core.Bool.{Bool, cond, _||_}
 use mathlib.Core.List.{List, [], _∷_, _++_}
 use Prim.Native.Nat.{ℕ, zero, suc}
 use lib.Dec.{eqb, ltb}
-use Rattle.ascii.specs.Text.{text, decimal, hexes}
+use lib.ListN.{take}
+use Rattle.ascii.specs.Text.{text, hexes}
+use Rattle.ascii.specs.Plain.{textLength}
+use Rattle.forms.specs.Forms.{formed, rowOf}
 use Rattle.verdict.specs.declared.Verdict.{Verdict}
+use Rattle.verdict.specs.Ranks.{finalFrame, good}
+use Rattle.cardline.specs.Words.{todo, verdictWords}
 
 -- an octet of a file's name as it is printed: a control octet, below 32 or 127, is a question mark
 abbrev pub shownOctet : ℕ → ℕ
@@ -16,53 +21,69 @@ unfoldable pub shown : List ℕ → List ℕ
 shown [] = []
 shown (o ∷ os) = shownOctet o ∷ shown os
 
--- why a card is bad: the answer's number and its meaning in the words of SCOPE; what is none of its numbers stands for a file that
--- cannot be read
-unfoldable pub reason : ℕ → List ℕ
-reason n =
-    cond (eqb n 1) (text "refused 1: a lent buffer has the wrong length")
-    (cond (eqb n 2) (text "refused 2: unknown end, frame kind or report code")
-    (cond (eqb n 3) (text "refused 3: coefficient count outside 128 to 180")
-    (cond (eqb n 4) (text "refused 4: a number outside its range")
-    (cond (eqb n 5) (text "refused 5: the sync word is neither of the two")
-    (cond (eqb n 6) (text "refused 6: a pad bit is not zero")
-    (cond (eqb n 7) (text "refused 7: the check bits differ")
-    (cond (eqb n 8) (text "refused 8: a reserved bit is not zero (training frame)")
-    (text "cannot be read"))))))))
+-- vendor data as text, where it is some: printable octets, and nothing but zeros behind them
+unfoldable pub vendorText : List ℕ → List ℕ
+vendorText os = cond (eqb (textLength os) 0) (text "-") (take (textLength os) os)
 
--- how a word compares with the customer's, a cell of its own; none where no customer is given
-unfoldable pub likeCell : ℕ → List ℕ
-likeCell n =
-    cond (eqb n 0) []
-    (cond (eqb n 1) (text "\tsame") (cond (eqb n 2) (text "\tTURNED") (cond (eqb n 3) (text "\tother") (text "\t-"))))
+-- vendor data in hex and as text
+unfoldable pub vendorCells : List ℕ → List ℕ
+vendorCells os = hexes os ++ text "\t" ++ vendorText os
 
--- the cells of a good training frame
+-- the cells of a training frame that reads
 unfoldable pub trainingCells : ℕ → ℕ → ℕ → List ℕ → List ℕ
-trainingCells used a b vendor =
-    text "\ttraining\tgood\t" ++ decimal used ++ text "\t" ++ decimal a ++ text "\t" ++ decimal b ++ text "\t" ++ hexes vendor
+trainingCells used a b vendor = formed (text "\ttraining\t#\t#\t#\t") (used ∷ a ∷ b ∷ []) ++ vendorCells vendor
 
--- of a good final frame: only vendor data
+-- of a final frame that reads: only vendor data
 unfoldable pub finalCells : List ℕ → List ℕ
-finalCells vendor = text "\tfinal\tgood\t-\t-\t-\t" ++ hexes vendor
+finalCells vendor = text "\tfinal\t-\t-\t-\t" ++ vendorCells vendor
 
--- of a bad card
-unfoldable pub badCells : ℕ → List ℕ
-badCells n = text "\t-\t" ++ reason n ++ text "\t-\t-\t-\t-"
+-- of a card that does not read
+unfoldable pub noCells : List ℕ
+noCells = text "\t-\t-\t-\t-\t-\t-"
 
--- of a good card, by its kind
-abbrev pub goodCells : ℕ → Verdict → List ℕ
-goodCells zero v = trainingCells (v .used) (v .a) (v .b) (v .vendor)
-goodCells (suc n) v = finalCells (v .vendor)
+-- of a card that reads, by its kind
+abbrev pub readCells : ℕ → Verdict → List ℕ
+readCells zero v = trainingCells (v .used) (v .a) (v .b) (v .vendor)
+readCells (suc n) v = finalCells (v .vendor)
 
 -- of a card, by its answer
 abbrev pub cells : ℕ → Verdict → List ℕ
-cells zero v = goodCells (v .kind) v
-cells (suc n) v = badCells (suc n)
+cells zero v = readCells (v .kind) v
+cells (suc n) v = noCells
+
+-- how a word compares with the customer's, a cell of its own; none where no customer is given
+unfoldable pub likeCell : ℕ → List ℕ
+likeCell n = rowOf (text "\n\tsame\n\tTURNED\n\tother\n\t-\n") n
+
+-- the verdict and what to do
+unfoldable pub findings : ℕ → ℕ → List ℕ
+findings rank octets = text "\t" ++ verdictWords rank octets ++ text "\t" ++ todo rank
 
 -- the line of the card whose frame stands in the file of this name
 unfoldable pub cardLine : List ℕ → Verdict → List ℕ
-cardLine name v = shown name ++ cells (v .answer) v ++ likeCell (v .alike) ++ likeCell (v .blike) ++ text "\n"
+cardLine name v =
+    shown name ++ findings (v .rank) (v .octets) ++ cells (v .answer) v ++ likeCell (v .alike) ++ likeCell (v .blike) ++ text "\n"
 
 -- the line above the cards' lines: what each cell is
 unfoldable pub heading : Bool → List ℕ
-heading given = text "file\tkind\tverdict\tcoefficients\tA\tB\tvendor" ++ cond given (text "\tA like\tB like\n") (text "\n")
+heading given =
+    text "file\tverdict\twhat to do\tkind\tcoefficients\tA\tB\tvendor\tvendor text" ++ cond given (text "\tA like\tB like\n") (text "\n")
+
+-- an octet of such a line in comma-separated form (RFC 4180): every cell stands in quotes (34), a quote in it twice; a tab parts cells, a
+-- line end ends the line with CR LF
+unfoldable pub csvOctet : ℕ → List ℕ
+csvOctet o = cond (eqb o 9) (text "\",\"") (cond (eqb o 10) (text "\"\r\n") (cond (eqb o 34) (text "\"\"") (o ∷ [])))
+
+unfoldable pub csvOctets : List ℕ → List ℕ
+csvOctets [] = []
+csvOctets (o ∷ os) = csvOctet o ++ csvOctets os
+
+-- a line in comma-separated form
+unfoldable pub csvLine : List ℕ → List ℕ
+csvLine line = text "\"" ++ csvOctets line
+
+-- a reference frame that does not serve: what it is found to be. One that reads is a final frame
+unfoldable pub referenceLine : List ℕ → Verdict → List ℕ
+referenceLine name v =
+    text "sorter: the reference " ++ shown name ++ text ": "
+    ++ verdictWords (cond (eqb (v .rank) good) finalFrame (v .rank)) (v .octets) ++ text "; a training frame that reads is wanted\n"

@@ -1,14 +1,19 @@
--- What sorting promises.
+-- What the functions for a card's line promise.
 use mathlib.Core.Bool.{Bool}
 use mathlib.Core.List.{List}
 use Prim.Native.Nat.{ℕ}
 use Rattle.ascii.specs.Promises.{Put, Told}
 use Rattle.verdict.specs.declared.Verdict.{Verdict}
-use Rattle.cardline.specs.Line.{reason, cardLine, heading}
+use Rattle.cardline.specs.Words.{nameOf, todo}
+use Rattle.cardline.specs.Line.{cardLine, heading, csvLine, referenceLine}
 
--- put_reason
-abbrev pub ReasonPut : List ℕ → ℕ → ℕ → ℕ → List ℕ → Type 0
-ReasonPut room at n r exit = Put room at (reason n) r exit
+-- put_name
+abbrev pub NamePut : List ℕ → ℕ → ℕ → ℕ → List ℕ → Type 0
+NamePut room at rank r exit = Put room at (nameOf rank) r exit
+
+-- put_todo
+abbrev pub TodoPut : List ℕ → ℕ → ℕ → ℕ → List ℕ → Type 0
+TodoPut room at rank r exit = Put room at (todo rank) r exit
 
 -- header
 abbrev pub Headed : Bool → List ℕ → ℕ → List ℕ → Type 0
@@ -17,3 +22,11 @@ Headed given room r exit = Told (heading given) room r exit
 -- line
 abbrev pub Lined : List ℕ → Verdict → List ℕ → ℕ → List ℕ → Type 0
 Lined name v room r exit = Told (cardLine name v) room r exit
+
+-- csv
+abbrev pub Separated : List ℕ → List ℕ → ℕ → List ℕ → Type 0
+Separated line room r exit = Told (csvLine line) room r exit
+
+-- reference
+abbrev pub Referred : List ℕ → Verdict → List ℕ → ℕ → List ℕ → Type 0
+Referred name v room r exit = Told (referenceLine name v) room r exit

@@ -1,11 +1,127 @@
-// Sorting cards: the text of a card's line, by what its frame is found to be (crate verdict). What the text is, is specs/Line.antt.
+// Sorting cards: the words for a verdict (specs/Words.antt) and the text of a card's line (specs/Line.antt), by what its frame is found to be
+// (crate verdict).
 ghost use mathlib.Core.Path.{_≡_};
 ghost use mathlib.Core.Bool.{cond};
-ghost use lib.Dec.{ltb};
+ghost use lib.Dec.{eqb};
 ghost use Rattle.ascii.specs.Promises.{Put};
-ghost use Rattle.cardline.specs.Line.{shownOctet, shown, likeCell, trainingCells, finalCells, badCells, cells};
-ghost use Rattle.cardline.specs.Promises.{ReasonPut, Headed, Lined};
+ghost use Rattle.verdict.specs.Ranks.{finalFrame, good};
+ghost use Rattle.cardline.specs.Words.{rowOfRank, refusal, lengthWords, verdictWords};
+ghost use Rattle.cardline.specs.Line.{shownOctet, shown, vendorText, vendorCells};
+ghost use Rattle.cardline.specs.Line.{trainingCells, finalCells, cells, likeCell, findings, csvOctet, csvOctets};
+ghost use Rattle.cardline.specs.Promises.{NamePut, TodoPut, Headed, Lined, Separated, Referred};
 use verdict::Verdict;
+
+// A frame's octets, as a number that is printed.
+const FRAME: u32 = layout::FRAME_OCTETS as u32;
+// The row of a refusal in the tables of words.
+const REFUSED_ROW: u32 = 1;
+
+// The row of a verdict in the tables of words.
+fn row(rank: u32) -> u32
+    ensures { λ r. ⌜ r ≡ rowOfRank rank ⌝ }
+{
+    if rank == verdict::CANNOT_BE_READ {
+        return 0;
+    }
+    if verdict::LAST_REFUSAL < rank {
+        return rank - verdict::LAST_REFUSAL + REFUSED_ROW;
+    }
+    REFUSED_ROW
+}
+
+// The number of a refusal and why.
+fn put_refusal(room: &mut [u8], at: usize, n: u32) -> usize
+    ensures { λ r. ⌜ Put (now (room .entry)) at (refusal n) r (now (room .exit)) ⌝ }
+{
+    let next = forms::put_form(room, at, b"#: ", &[n]);
+    forms::put_row(
+        room,
+        next,
+        b"\n\
+          the file is not as long as a frame\n\
+          unknown end, frame kind or report code\n\
+          coefficient count outside 128 to 180\n\
+          a number outside its range\n\
+          the sync word is neither of the two, so it is no frame\n\
+          a pad bit is not zero, so it is more than a frame\n\
+          the check bits differ, so it is damaged\n\
+          a reserved bit is not zero, which no training frame has\n",
+        n,
+    )
+}
+
+// A verdict's name.
+pub fn put_name(room: &mut [u8], at: usize, rank: u32) -> usize
+    ensures { λ r. ⌜ NamePut (now (room .entry)) at rank r (now (room .exit)) ⌝ }
+{
+    let n = row(rank);
+    let next = forms::put_row(
+        room,
+        at,
+        b"cannot be read\nrefused \nfinal frame\nTURNED\nother words\nmatch\ngood\n",
+        n,
+    );
+    if n != REFUSED_ROW {
+        return next;
+    }
+    put_refusal(room, next, rank)
+}
+
+// What to do with a card.
+pub fn put_todo(room: &mut [u8], at: usize, rank: u32) -> usize
+    ensures { λ r. ⌜ TodoPut (now (room .entry)) at rank r (now (room .exit)) ⌝ }
+{
+    forms::put_row(
+        room,
+        at,
+        b"check the file\n\
+          do not ship; capture its frame again\n\
+          capture its training frame; this one has no A and B\n\
+          do not ship; words stand last bit first\n\
+          do not ship as a replacement; A or B differs\n\
+          ship\n\
+          compare with a customer's frame\n",
+        row(rank),
+    )
+}
+
+// A file that is not as long as a frame.
+fn put_length(room: &mut [u8], at: usize, n: u32) -> usize
+    ensures { λ r. ⌜ Put (now (room .entry)) at (lengthWords n) r (now (room .exit)) ⌝ }
+{
+    if FRAME < n {
+        return forms::put_form(
+            room,
+            at,
+            b"refused 1: the file has more than # octets",
+            &[FRAME],
+        );
+    }
+    if n == 1 {
+        return forms::put_form(
+            room,
+            at,
+            b"refused 1: the file has 1 octet, a frame has #",
+            &[FRAME],
+        );
+    }
+    forms::put_form(
+        room,
+        at,
+        b"refused 1: the file has # octets, a frame has #",
+        &[n, FRAME],
+    )
+}
+
+// The verdict on a card.
+fn put_verdict(room: &mut [u8], at: usize, rank: u32, octets: u32) -> usize
+    ensures { λ r. ⌜ Put (now (room .entry)) at (verdictWords rank octets) r (now (room .exit)) ⌝ }
+{
+    if rank == answer::LENGTH {
+        return put_length(room, at, octets);
+    }
+    put_name(room, at, rank)
+}
 
 // An octet of a file's name as it is printed.
 fn shown_octet(o: u8) -> u8
@@ -33,69 +149,40 @@ fn put_shown(room: &mut [u8], at: usize, name: &[u8]) -> usize
     next
 }
 
-// A number, or the most that it may be.
-fn least(n: u32, most: u32) -> u32
-    ensures { λ r. ⌜ r ≡ cond (ltb most n) most n ⌝ }
+// Vendor data as text.
+fn put_text(room: &mut [u8], at: usize, vendor: &[u8]) -> usize
+    ensures { λ r. ⌜ Put (now (room .entry)) at (vendorText (now (vendor .entry))) r (now (room .exit)) ⌝ }
 {
-    if most < n { most } else { n }
+    let n = ascii::text_length(vendor);
+    if n == 0 {
+        return ascii::put_word(room, at, b"-");
+    }
+    ascii::put_word(room, at, &vendor[..n])
 }
 
-// Why a card is bad.
-pub fn put_reason(room: &mut [u8], at: usize, n: u32) -> usize
-    ensures { λ r. ⌜ ReasonPut (now (room .entry)) at n r (now (room .exit)) ⌝ }
+// Vendor data in hex and as text.
+fn put_vendor(room: &mut [u8], at: usize, vendor: &[u8]) -> usize
+    ensures { λ r. ⌜ Put (now (room .entry)) at (vendorCells (now (vendor .entry))) r (now (room .exit)) ⌝ }
 {
-    forms::put_row(
-        room,
-        at,
-        b"cannot be read\n\
-          refused 1: a lent buffer has the wrong length\n\
-          refused 2: unknown end, frame kind or report code\n\
-          refused 3: coefficient count outside 128 to 180\n\
-          refused 4: a number outside its range\n\
-          refused 5: the sync word is neither of the two\n\
-          refused 6: a pad bit is not zero\n\
-          refused 7: the check bits differ\n\
-          refused 8: a reserved bit is not zero (training frame)\n\
-          cannot be read\n",
-        least(n, verdict::UNREAD),
-    )
+    let mut next = ascii::put_hexes(room, at, vendor);
+    next = ascii::put(room, next, b'\t');
+    put_text(room, next, vendor)
 }
 
-// How a word compares with the customer's.
-fn put_like(room: &mut [u8], at: usize, n: u32) -> usize
-    ensures { λ r. ⌜ Put (now (room .entry)) at (likeCell n) r (now (room .exit)) ⌝ }
-{
-    forms::put_row(
-        room,
-        at,
-        b"\n\tsame\n\tTURNED\n\tother\n\t-\n",
-        least(n, verdict::NO_WORD),
-    )
-}
-
-// The cells of a good training frame.
+// The cells of a training frame that reads.
 fn put_training(room: &mut [u8], at: usize, used: u32, a: u32, b: u32, vendor: &[u8]) -> usize
     ensures { λ r. ⌜ Put (now (room .entry)) at (trainingCells used a b (now (vendor .entry))) r (now (room .exit)) ⌝ }
 {
-    let next = forms::put_form(room, at, b"\ttraining\tgood\t#\t#\t#\t", &[used, a, b]);
-    ascii::put_hexes(room, next, vendor)
+    let next = forms::put_form(room, at, b"\ttraining\t#\t#\t#\t", &[used, a, b]);
+    put_vendor(room, next, vendor)
 }
 
-// The cells of a good final frame.
+// The cells of a final frame that reads.
 fn put_final(room: &mut [u8], at: usize, vendor: &[u8]) -> usize
     ensures { λ r. ⌜ Put (now (room .entry)) at (finalCells (now (vendor .entry))) r (now (room .exit)) ⌝ }
 {
-    let next = ascii::put_word(room, at, b"\tfinal\tgood\t-\t-\t-\t");
-    ascii::put_hexes(room, next, vendor)
-}
-
-// The cells of a bad card.
-fn put_bad(room: &mut [u8], at: usize, n: u32) -> usize
-    ensures { λ r. ⌜ Put (now (room .entry)) at (badCells n) r (now (room .exit)) ⌝ }
-{
-    let named = ascii::put_word(room, at, b"\t-\t");
-    let next = put_reason(room, named, n);
-    ascii::put_word(room, next, b"\t-\t-\t-\t-")
+    let next = ascii::put_word(room, at, b"\tfinal\t-\t-\t-\t");
+    put_vendor(room, next, vendor)
 }
 
 // The cells of a card.
@@ -103,7 +190,7 @@ fn put_cells(room: &mut [u8], at: usize, v: Verdict) -> usize
     ensures { λ r. ⌜ Put (now (room .entry)) at (cells (v .answer) v) r (now (room .exit)) ⌝ }
 {
     if v.answer != answer::DONE {
-        return put_bad(room, at, v.answer);
+        return ascii::put_word(room, at, b"\t-\t-\t-\t-\t-\t-");
     }
     let vendor = v.vendor;
     if v.kind == layout::TRAINING {
@@ -112,22 +199,36 @@ fn put_cells(room: &mut [u8], at: usize, v: Verdict) -> usize
     put_final(room, at, &vendor)
 }
 
+// How a word compares with the customer's.
+fn put_like(room: &mut [u8], at: usize, n: u32) -> usize
+    ensures { λ r. ⌜ Put (now (room .entry)) at (likeCell n) r (now (room .exit)) ⌝ }
+{
+    forms::put_row(room, at, b"\n\tsame\n\tTURNED\n\tother\n\t-\n", n)
+}
+
+// The verdict and what to do.
+fn put_findings(room: &mut [u8], at: usize, rank: u32, octets: u32) -> usize
+    ensures { λ r. ⌜ Put (now (room .entry)) at (findings rank octets) r (now (room .exit)) ⌝ }
+{
+    let mut next = ascii::put(room, at, b'\t');
+    next = put_verdict(room, next, rank, octets);
+    next = ascii::put(room, next, b'\t');
+    put_todo(room, next, rank)
+}
+
 // The line above the cards' lines.
 pub fn header(given: bool, room: &mut [u8]) -> usize
     ensures { λ r. ⌜ Headed given (now (room .entry)) r (now (room .exit)) ⌝ }
 {
-    if given {
-        return ascii::put_word(
-            room,
-            0,
-            b"file\tkind\tverdict\tcoefficients\tA\tB\tvendor\tA like\tB like\n",
-        );
-    }
-    ascii::put_word(
+    let next = ascii::put_word(
         room,
         0,
-        b"file\tkind\tverdict\tcoefficients\tA\tB\tvendor\n",
-    )
+        b"file\tverdict\twhat to do\tkind\tcoefficients\tA\tB\tvendor\tvendor text",
+    );
+    if given {
+        return ascii::put_word(room, next, b"\tA like\tB like\n");
+    }
+    ascii::put_word(room, next, b"\n")
 }
 
 // The line of the card whose frame stands in the file of this name.
@@ -135,8 +236,68 @@ pub fn line(name: &[u8], v: Verdict, room: &mut [u8]) -> usize
     ensures { λ r. ⌜ Lined (now (name .entry)) v (now (room .entry)) r (now (room .exit)) ⌝ }
 {
     let mut next = put_shown(room, 0, name);
+    next = put_findings(room, next, v.rank, v.octets);
     next = put_cells(room, next, v);
     next = put_like(room, next, v.alike);
     next = put_like(room, next, v.blike);
-    ascii::put_word(room, next, b"\n")
+    ascii::put(room, next, b'\n')
+}
+
+// An octet of a line in comma-separated form.
+fn put_csv(room: &mut [u8], at: usize, octet: u8) -> usize
+    ensures { λ r. ⌜ Put (now (room .entry)) at (csvOctet octet) r (now (room .exit)) ⌝ }
+{
+    if octet == b'\t' {
+        return ascii::put_word(room, at, b"\",\"");
+    }
+    if octet == b'\n' {
+        return ascii::put_word(room, at, b"\"\r\n");
+    }
+    if octet == b'"' {
+        return ascii::put_word(room, at, b"\"\"");
+    }
+    ascii::put(room, at, octet)
+}
+
+// Octets of a line in comma-separated form.
+fn put_csvs(room: &mut [u8], at: usize, line: &[u8]) -> usize
+    ensures { λ r. ⌜ Put (now (room .entry)) at (csvOctets (now (line .entry))) r (now (room .exit)) ⌝ }
+{
+    let mut next = at;
+    let mut k = 0;
+    while k < line.len() {
+        next = put_csv(room, next, line[k]);
+        k += 1;
+    }
+    next
+}
+
+// A line in comma-separated form.
+pub fn csv(line: &[u8], room: &mut [u8]) -> usize
+    ensures { λ r. ⌜ Separated (now (line .entry)) (now (room .entry)) r (now (room .exit)) ⌝ }
+{
+    let next = ascii::put(room, 0, b'"');
+    put_csvs(room, next, line)
+}
+
+// The verdict to tell of a reference that does not serve.
+fn unfit(rank: u32) -> u32
+    ensures { λ r. ⌜ r ≡ cond (eqb rank good) finalFrame rank ⌝ }
+{
+    if rank == verdict::GOOD {
+        verdict::FINAL_FRAME
+    } else {
+        rank
+    }
+}
+
+// What a reference frame that does not serve is found to be.
+pub fn reference(name: &[u8], v: Verdict, room: &mut [u8]) -> usize
+    ensures { λ r. ⌜ Referred (now (name .entry)) v (now (room .entry)) r (now (room .exit)) ⌝ }
+{
+    let mut next = ascii::put_word(room, 0, b"sorter: the reference ");
+    next = put_shown(room, next, name);
+    next = ascii::put_word(room, next, b": ");
+    next = put_verdict(room, next, unfit(v.rank), v.octets);
+    ascii::put_word(room, next, b"; a training frame that reads is wanted\n")
 }

@@ -11,9 +11,8 @@ use lib.ListN.{length, take, drop, length-append, length-take, length-drop, take
 use lib.Seq.{ext-getD, getD-take, getD-drop, drop-drop}
 use Rattle.octets.specs.Bits.{valueOf, part}
 use Rattle.octets.proofs.Digits.{Bits, nil-bits, cons-bits, take-bits, drop-bits, append-bits}
-use Rattle.octets.proofs.Xor.{xor-swap, no-two}
+use Rattle.octets.proofs.Xor.{xor-swap, shl-xor, no-two}
 use Rattle.remainder.specs.Division.{polynomial}
-use Rattle.remainder.proofs.Division.{times-power}
 use Rattle.remainder.proofs.Errors.{polynomial-lt, polynomial-cons, polynomial-append}
 use Rattle.distance.specs.Errors.{distance, Within}
 
@@ -104,7 +103,7 @@ module _ (at n : ℕ) (B C : List ℕ) (l : length B ≡ length C) (w : Within a
       ∙ laid-out S W D (take-bits n (drop at C) (drop-bits at C k)) (drop-bits (at + n) B h)
       ∙ ap (λ (m : ℕ). bitXor (polynomial S * 2 ^ m) (bitXor (polynomial W * 2 ^ j) (polynomial D))) s)
       ∙ joined (polynomial S * 2 ^ length (Y ++ D)) (polynomial Y * 2 ^ j) (polynomial W * 2 ^ j) (polynomial D)
-      ∙ sym (times-power j (polynomial Y) (polynomial W))
+      ∙ sym (shl-xor j (polynomial Y) (polynomial W))
     where
       parts : (X : List ℕ) → X ≡ take at X ++ (part at n X ++ drop (at + n) X)
       parts X =

@@ -7,5 +7,4 @@ pub mod Fields
 pub mod Numbers
 pub mod One
 pub mod Turn
-pub mod Shift
 pub mod Sums

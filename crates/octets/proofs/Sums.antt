@@ -1,13 +1,13 @@
 -- Sums of shifts: v + v D^e + .. for a list of shifts e, as numbers whose digits are the coefficients of polynomials. Once over the list, and within
 -- a word once over its length: a sum of shifts twice is the sum of the shifts doubled. Assumes nothing.
 use mathlib.Core.Path.{_≡_, refl, sym, ap, ap₂, subst, _∙_}
-use mathlib.Core.Bool.{Bool, true, false, cond}
+use mathlib.Core.Bool.{Bool, true, false, cond, _&&_}
 use mathlib.Core.List.{List, [], _∷_, _++_, reverse, reverse-append}
-use Prim.Native.Nat.{ℕ, zero, suc, _+_, _-_, _*_, _/_, _%_, _^_, _≤_, _<_}
+use Prim.Native.Nat.{ℕ, zero, suc, _+_, _-_, _*_, _/_, _%_, _^_, _≤_, _<_, zero-le}
 use native.Mathlib.Nat.{mul-assoc, mul-mod-left, add-mul-mod-self-right, add-comm, add-mul, mul-right-comm, div-add-mod', add-zero, mod-lt, mod-eq-of-lt, div-eq-of-lt}
 use native.Mathlib.Omega.{arith}
-use borrow.Author.Tests.{ltb-false}
-use lib.Dec.{ltb}
+use borrow.Author.Tests.{ltb-false, leb-true}
+use lib.Dec.{ltb, leb}
 use lib.ListN.{getD, length-reverse}
 use lib.Pow.{pow-add, pow-pos, split, shr-shr, shl-shr}
 use lib.Bits.{bitXor, xor-comm, xor-zero-r, xor-zero-l, xor-lt, xor-mod, xor-shr, xor-shifted}
@@ -231,6 +231,10 @@ turn-shl n d e q h l =
     only : (p x : ℕ) → 0 * p + (x + 0) ≡ x
     only p x = omega arith
 
+-- nothing above
+pub turn-long : (n d q : ℕ) → q < 2 ^ n → turnOf (n + d) q ≡ turnOf n q * 2 ^ d
+turn-long n d q h = let once : q ≡ q * 1 = omega arith in ap (turnOf (n + d)) once ∙ turn-shl n d 0 q h (omega arith) ∙ ap (λ (j : ℕ). turnOf n q * 2 ^ j) (omega arith)
+
 turn-shifts : (n d q : ℕ) (es : List ℕ) → q < 2 ^ n → ((i : ℕ) → getD es i 0 ≤ d) → turnOf (n + d) (shifts es q) ≡ shifts (mirror d es) (turnOf n q)
 unfolding shifts
 turn-shifts n d q [] h l = turn-zero (n + d)
@@ -294,3 +298,22 @@ solved n e es u q h s =
     xor-shr q (shifts all q) n ∙ ap₂ bitXor (div-eq-of-lt (s .0)) (shifts-over n all q h) ∙ xor-zero-l (over n all q) ∙ sym (coded-over-is n (q / 2 ^ (n - e)) es q) in
     let lt : u < 2 ^ n = subst (λ (x : ℕ). x < 2 ^ n) (s .1) (mod-lt (sum all q) (pow-pos n)) in
     sym (split (sum all q) n) ∙ ap₂ (λ (x y : ℕ). x * 2 ^ n + y) hi (s .1) ∙ sym (xor-shifted O n u lt) ∙ xor-comm (O * 2 ^ n) u
+
+-- ---- shifts that are all at most d, computed
+
+abbrev pub within : ℕ → List ℕ → Bool
+within d [] = true
+within d (e ∷ es) = leb e d && within d es
+
+pub within-le : (d : ℕ) (es : List ℕ) → within d es ≡ true → (i : ℕ) → getD es i 0 ≤ d
+within-le d [] h i = zero-le
+within-le d (e ∷ es) h zero = leb-true e d (left (leb e d) (within d es) h)
+  where
+    left : (a b : Bool) → a && b ≡ true → a ≡ true
+    left true b h = refl
+    left false b h = h
+within-le d (e ∷ es) h (suc i) = within-le d es (right (leb e d) (within d es) h) i
+  where
+    right : (a b : Bool) → a && b ≡ true → b ≡ true
+    right true b h = h
+    right false b h = cc

@@ -259,6 +259,16 @@ module _ (B : List ℕ) (ok : Bits B) (first r n at : ℕ) (e : first + r ≡ at
       let f : first + (r + n + i) ≡ at + n + i = omega arith in
       getD-drop (r + n) D i 0 ∙ eight-at (r + n + i) lt ∙ ap (λ (k : ℕ). getD B k 0) f ∙ sym (sets-other B at ds (at + n + i) (inr (omega arith))))
 
+-- the first n bits of a word
+pub word-front : (s : List ℕ) (i n v : ℕ) → n ≤ 64 → 8 * i + n ≤ 8 * length s → v ≡ valueOf (part (8 * i) 64 (bitsOf s)) → digitsOf n v ≡ part (8 * i) n (bitsOf s)
+word-front s i n v h l e =
+    let P = part (8 * i) 64 (bitsOf s) in
+    sym (digits-mod-pow n v)
+    ∙ ap (digitsOf n)
+    (ap (λ (x : ℕ). x % 2 ^ n) e ∙ sym (value-take n P (take-bits 64 (drop (8 * i) (bitsOf s)) (drop-bits (8 * i) (bitsOf s) (bits-bits s))))
+    ∙ ap valueOf (take-take n 64 (drop (8 * i) (bitsOf s)) h))
+    ∙ field-digits s (8 * i) n l
+
 -- the eight octets from an octet on, with bits replaced, are those bits laid
 pub bits-laid : (s : List ℕ) (i r n at v y : ℕ) → 8 * i + r ≡ at → r + n ≤ 64
     → digitsOf 64 y

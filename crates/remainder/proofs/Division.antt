@@ -5,25 +5,19 @@ use mathlib.Core.Bool.{Bool, true, false, not}
 use mathlib.Core.Logic.{_⊎_, inl, inr}
 use mathlib.Core.List.{List, [], _∷_, _++_, reverse-append, append-assoc, append-nil}
 use Prim.Native.Nat.{ℕ, zero, suc, _+_, _-_, _*_, _/_, _%_, _^_, _≤_, _<_}
-use native.Mathlib.Nat.{mod-lt, add-zero, mul-assoc, mul-comm, pow-suc, div-eq-of-lt, le-div-iff-mul-le}
+use native.Mathlib.Nat.{mod-lt, mul-assoc, mul-comm, pow-suc, div-eq-of-lt, le-div-iff-mul-le}
+use native.Mathlib.Numerals.{add-one}
 use native.Mathlib.Omega.{arith}
 use lib.Arith.{digits-mod}
-use lib.Bits.{bitXor, xor-comm, xor-self, xor-zero-r, xor-lt, xor-block, xor-shifted, xor-shr}
+use lib.Bits.{bitXor, xor-comm, xor-self, xor-zero-r, xor-zero-l, xor-lt, xor-shifted, xor-shr}
+use lib.ListN.{length, length-append}
 use lib.Pow.{pow-pos, shr-lt, split}
 use Rattle.octets.specs.Bits.{valueOf}
 use Rattle.octets.proofs.Digits.{Bits}
 use Rattle.octets.proofs.Complement.{twice}
-use Rattle.octets.proofs.Xor.{xor-assoc, xor-swap, xor-cancel, dbl, no-two}
-use Rattle.remainder.specs.Division.{scale, times, polynomial, Degree, Remainder}
+use Rattle.octets.proofs.Xor.{xor-assoc, xor-swap, xor-cancel, dbl, shl-xor, no-two}
+use Rattle.remainder.specs.Division.{scale, times, polynomial, Degree, Remainder, RemainderFrom}
 use Rattle.remainder.specs.Register.{stepOf, registerOf}
-
--- ---- sums and products
-
--- a sum times D^k
-pub times-power : (k a b : ℕ) → bitXor a b * 2 ^ k ≡ bitXor (a * 2 ^ k) (b * 2 ^ k)
-times-power k a b =
-    sym (add-zero (bitXor a b * 2 ^ k)) ∙ sym (xor-block k a b 0 0 (pow-pos k) (pow-pos k))
-    ∙ ap₂ bitXor (add-zero (a * 2 ^ k)) (add-zero (b * 2 ^ k))
 
 -- one bit more, the lowest
 pub polynomial-more : (bs : List ℕ) (b : ℕ) → polynomial (bs ++ (b ∷ [])) ≡ polynomial bs * 2 + b
@@ -75,11 +69,6 @@ core H g x l h b hh hb = left ∙ right h b hh hb
     right (suc zero) (suc (suc b)) p q = no-two b q
     right (suc (suc h)) b p q = no-two h p
 
--- nothing is left of no bits
-pub nothing : (k g : ℕ) → Remainder k g [] 0
-unfolding times valueOf
-nothing k g = record { quotient = []; divided = omega arith; below = pow-pos k }
-
 -- the register's top digit and the rest, for a register r of k digits
 module _ (k r : ℕ) (hk : 1 ≤ k) (hr : r < 2 ^ k) where
   pub top-lt : r / 2 ^ (k - 1) < 2
@@ -125,40 +114,74 @@ module _ (k g : ℕ) (hk : 1 ≤ k) (dg : Degree g k) where
       small (suc zero) h = omega (arith, rest-lt)
       small (suc (suc c)) h = no-two c h
 
-  -- a remainder, one bit further
-  pub step-remainder : (bs : List ℕ) (r b : ℕ) → b < 2 → Remainder k g bs r → Remainder k g (bs ++ (b ∷ [])) (stepOf k g r b)
+  -- what is left of v, one bit further
+  step-left : (v r b : ℕ) (q : List Bool) → b < 2 → r < 2 ^ k → v ≡ bitXor (times q g) r
+      → bitXor (v * 2) (b * 2 ^ k) ≡ bitXor (times (quot (r / 2 ^ (k - 1)) b ∷ q) g) (stepOf k g r b)
   unfolding times
-  step-remainder bs r b hb d =
+  step-left v r b q hb hr e =
       let H = 2 ^ k in
       let h = r / 2 ^ (k - 1) in
       let l = r * 2 % H in
-      let x = times (d .quotient) g * 2 in
-      let m = polynomial bs in
-      let hr = d .below in
-      let swap : m * 2 * H ≡ m * H * 2 = mul-assoc m 2 H ∙ ap (λ (n : ℕ). m * n) (mul-comm 2 H) ∙ sym (mul-assoc m H 2) in
-      record {
-        quotient = quot h b ∷ d .quotient;
-        below = step-lt r b hr hb;
-        divided =
-            ap (λ (n : ℕ). n * H) (polynomial-more bs b ∙ sym (xor-shifted m 1 b hb))
-            ∙ times-power k (m * 2) b
-            ∙ ap (λ (n : ℕ). bitXor n (b * H)) (swap ∙ ap (λ (n : ℕ). n * 2) (d .divided) ∙ dbl (times (d .quotient) g) r)
-            ∙ ap (λ (n : ℕ). bitXor (bitXor x n) (b * H)) (doubled k r hk hr ∙ sym (xor-shifted h k l (mod-lt (r * 2) (pow-pos k))))
-            ∙ core H rest x l h b (top-lt k r hk hr) hb
-            ∙ ap (λ (n : ℕ). bitXor (bitXor x (scale (quot h b) n)) (stepOf k g r b)) (sym high-rest);
-      }
+      let x = times q g * 2 in
+      ap (λ (n : ℕ). bitXor n (b * H)) (ap (λ (n : ℕ). n * 2) e ∙ dbl (times q g) r)
+      ∙ ap (λ (n : ℕ). bitXor (bitXor x n) (b * H)) (doubled k r hk hr ∙ sym (xor-shifted h k l (mod-lt (r * 2) (pow-pos k))))
+      ∙ core H rest x l h b (top-lt k r hk hr) hb
+      ∙ ap (λ (n : ℕ). bitXor (bitXor x (scale (quot h b) n)) (stepOf k g r b)) (sym high-rest)
 
-  -- two ranges one after the other: what is left of the first goes on as the register of the second
-  pub continues : (a b : List ℕ) (r : ℕ) → Bits b → Remainder k g a r → Remainder k g (a ++ b) (registerOf k g r b)
-  unfolding registerOf
-  continues a [] r h d = subst (λ (l : List ℕ). Remainder k g l r) (sym (append-nil a)) d
-  continues a (x ∷ b) r h d =
-      subst (λ (l : List ℕ). Remainder k g l (registerOf k g (stepOf k g r x) b)) (append-assoc a (x ∷ []) b)
-      (continues (a ++ (x ∷ [])) b (stepOf k g r x) (λ i. h (suc i)) (step-remainder a r x (h 0) d))
+  -- bits behind a start, one bit further: the start and the bits as one number
+  module _ (start : ℕ) where
+    abbrev above : List ℕ → ℕ
+    above bs = bitXor (start * 2 ^ length bs) (polynomial bs * 2 ^ k)
+
+    above-more : (bs : List ℕ) (b : ℕ) → b < 2 → above (bs ++ (b ∷ [])) ≡ bitXor (above bs * 2) (b * 2 ^ k)
+    above-more bs b hb =
+        let H = 2 ^ k in
+        let m = polynomial bs in
+        let n = length bs in
+        let swap : m * 2 * H ≡ m * H * 2 = mul-assoc m 2 H ∙ ap (λ (n : ℕ). m * n) (mul-comm 2 H) ∙ sym (mul-assoc m H 2) in
+        let up : start * 2 ^ length (bs ++ (b ∷ [])) ≡ start * 2 ^ n * 2 =
+        ap (λ (j : ℕ). start * 2 ^ j) (length-append bs (b ∷ []) ∙ add-one n) ∙ ap (λ (x : ℕ). start * x) (pow-suc 2 n) ∙ sym (mul-assoc start (2 ^ n) 2) in
+        ap₂ bitXor up
+        (ap (λ (n : ℕ). n * H) (polynomial-more bs b ∙ sym (xor-shifted m 1 b hb)) ∙ shl-xor k (m * 2) b ∙ ap (λ (x : ℕ). bitXor x (b * H)) swap)
+        ∙ sym (xor-assoc (start * 2 ^ n * 2) (m * H * 2) (b * H)) ∙ ap (λ (x : ℕ). bitXor x (b * H)) (sym (dbl (start * 2 ^ n) (m * H)))
+
+    -- two ranges one after the other: what is left of the first goes on as the register of the second
+    pub continues-from : (a b : List ℕ) (r : ℕ) → Bits b → RemainderFrom k g start a r → RemainderFrom k g start (a ++ b) (registerOf k g r b)
+    unfolding registerOf
+    continues-from a [] r h d = subst (λ (l : List ℕ). RemainderFrom k g start l r) (sym (append-nil a)) d
+    continues-from a (x ∷ b) r h d =
+        subst (λ (l : List ℕ). RemainderFrom k g start l (registerOf k g (stepOf k g r x) b)) (append-assoc a (x ∷ []) b)
+        (continues-from (a ++ (x ∷ [])) b (stepOf k g r x) (λ i. h (suc i))
+        (record {
+          quotient = quot (r / 2 ^ (k - 1)) x ∷ d .quotient;
+          below = step-lt r x (d .below) (h 0);
+          divided = above-more a x (h 0) ∙ step-left (above a) r x (d .quotient) (h 0) (d .below) (d .divided);
+        }))
+
+    -- there is a remainder behind a start: the register's run from it
+    pub exists-from : (bs : List ℕ) → Bits bs → start < 2 ^ k → RemainderFrom k g start bs (registerOf k g start bs)
+    unfolding times valueOf
+    exists-from bs h l = continues-from [] bs start h (record { quotient = []; divided = begun; below = l })
+      where
+        begun : bitXor (start * 1) (polynomial [] * 2 ^ k) ≡ bitXor (times [] g) start
+        begun =
+            let one : start * 1 ≡ start = omega arith in
+            let none : 0 * 2 ^ k ≡ 0 = omega arith in
+            ap₂ bitXor one none ∙ xor-zero-r start ∙ sym (xor-zero-l start)
+
+  -- from zero it is the remainder
+  pub from-zero : (bs : List ℕ) (r : ℕ) → RemainderFrom k g 0 bs r → Remainder k g bs r
+  from-zero bs r d =
+      let none : 0 * 2 ^ length bs ≡ 0 = omega arith in
+      record {
+        quotient = d .quotient;
+        divided = sym (ap (λ (x : ℕ). bitXor x (polynomial bs * 2 ^ k)) none ∙ xor-zero-l (polynomial bs * 2 ^ k)) ∙ d .divided;
+        below = d .below;
+      }
 
   -- there is a remainder: the register's run from zero
   pub exists : (bs : List ℕ) → Bits bs → Remainder k g bs (registerOf k g 0 bs)
-  exists bs h = continues [] bs 0 h (nothing k g)
+  exists bs h = from-zero bs (registerOf k g 0 bs) (exists-from 0 bs h (pow-pos k))
 
 -- the register's run over joined ranges
 pub register-append : (k g r : ℕ) (a b : List ℕ) → registerOf k g r (a ++ b) ≡ registerOf k g (registerOf k g r a) b
@@ -224,16 +247,23 @@ small-multiple k g d q h = pick (multiple k g d q)
     pick (inl e) = e
     pick (inr l) = absurd (omega arith)
 
-pub unique : (k g : ℕ) → Degree g k → (bs : List ℕ) (r r′ : ℕ) → Remainder k g bs r → Remainder k g bs r′ → r ≡ r′
-unique k g d bs r r′ a b =
-    let T = times (a .quotient) g in
-    let T′ = times (b .quotient) g in
-    let same : bitXor T r ≡ bitXor T′ r′ = sym (a .divided) ∙ b .divided in
+-- of any number
+pub left-unique : (k g : ℕ) → Degree g k → (v r r′ : ℕ) (p q : List Bool) → v ≡ bitXor (times p g) r → v ≡ bitXor (times q g) r′ → r < 2 ^ k → r′ < 2 ^ k
+    → r ≡ r′
+left-unique k g d v r r′ p q a b h h′ =
+    let T = times p g in
+    let T′ = times q g in
     let zero : bitXor (bitXor T T′) (bitXor r r′) ≡ 0 =
-    xor-swap T T′ r r′ ∙ ap (λ (x : ℕ). bitXor x (bitXor T′ r′)) same ∙ xor-self (bitXor T′ r′) in
-    let e : bitXor r r′ ≡ times (add (a .quotient) (b .quotient)) g =
-    sym (xor-cancel (bitXor T T′) (bitXor r r′) zero) ∙ distrib (a .quotient) (b .quotient) g in
-    xor-cancel r r′ (e ∙ small-multiple k g d (add (a .quotient) (b .quotient)) (subst (λ (x : ℕ). x < 2 ^ k) e (xor-lt k r r′ (a .below) (b .below))))
+    xor-swap T T′ r r′ ∙ ap (λ (x : ℕ). bitXor x (bitXor T′ r′)) (sym a ∙ b) ∙ xor-self (bitXor T′ r′) in
+    let e : bitXor r r′ ≡ times (add p q) g = sym (xor-cancel (bitXor T T′) (bitXor r r′) zero) ∙ distrib p q g in
+    xor-cancel r r′ (e ∙ small-multiple k g d (add p q) (subst (λ (x : ℕ). x < 2 ^ k) e (xor-lt k r r′ h h′)))
+
+pub unique : (k g : ℕ) → Degree g k → (bs : List ℕ) (r r′ : ℕ) → Remainder k g bs r → Remainder k g bs r′ → r ≡ r′
+unique k g d bs r r′ a b = left-unique k g d (polynomial bs * 2 ^ k) r r′ (a .quotient) (b .quotient) (a .divided) (b .divided) (a .below) (b .below)
+
+pub unique-from : (k g : ℕ) → Degree g k → (start : ℕ) (bs : List ℕ) (r r′ : ℕ) → RemainderFrom k g start bs r → RemainderFrom k g start bs r′ → r ≡ r′
+unique-from k g d start bs r r′ a b =
+    left-unique k g d (bitXor (start * 2 ^ length bs) (polynomial bs * 2 ^ k)) r r′ (a .quotient) (b .quotient) (a .divided) (b .divided) (a .below) (b .below)
 
 -- so the remainder is the register's run
 pub computed : (k g : ℕ) → 1 ≤ k → Degree g k → (bs : List ℕ) (r : ℕ) → Bits bs → Remainder k g bs r → r ≡ registerOf k g 0 bs

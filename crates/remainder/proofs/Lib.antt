@@ -2,3 +2,4 @@ pub mod Division
 pub mod Errors
 pub mod One
 pub mod Quotient
+pub mod Start

@@ -1,264 +1,285 @@
--- The register 32 bits at a time: a division from the low end. Once over the number of bits taken together (`divide`). Assumes nothing.
-use mathlib.Core.Path.{_≡_, refl, sym, ap, ap₂, _∙_}
-use mathlib.Core.List.{List, [], _∷_}
-use Prim.Native.Nat.{ℕ, zero, suc, _+_, _*_, _/_, _%_, _^_, _≤_, _<_}
-use native.Mathlib.Nat.{pow-suc, mod-eq-of-lt}
+-- The register 64 bits at a time, for any generator with a constant term: its terms as shifts (Sums.antt). A word stands for all bits before it where the
+-- two have the same remainder; the word 64 bits further on is what a power of the generator leaves of it. Assumes nothing.
+use mathlib.Core.Path.{_≡_, refl, sym, ap, ap₂, subst, _∙_}
+use mathlib.Core.Bool.{Bool, true, false}
+use mathlib.Core.List.{List, [], _∷_, _++_, append-assoc}
+use Prim.Native.Nat.{ℕ, zero, suc, _+_, _-_, _*_, _/_, _%_, _^_, _≤_, _<_}
+use native.Mathlib.Nat.{mul-assoc, pow-suc, div-one, mod-eq-of-lt, div-eq-of-lt}
 use native.Mathlib.Omega.{arith}
-use lib.Arith.{lt-one}
+use lib.Arith.{bin-ind}
+use lib.Bits.{bitXor, bitOr, or-mod, or-shifted, xor-comm, xor-zero-r, xor-zero-l, xor-self, xor-lt, xor-shifted}
 use lib.Dec.{lit≤}
-use lib.Pow.{split}
-use lib.Bits.{bitXor, differ, xor-comm, xor-zero-r, xor-zero-l, xor-lt, xor-shifted, xor-shr, xor-mod, shifted-half, shifted-even}
-use lib.ListN.{length, take, drop}
+use lib.ListN.{length, getD, take, drop}
+use lib.Pow.{pow-add, pow-pos, shr-lt, split}
 use Rattle.octets.specs.Bits.{digitsOf, valueOf, bitsOf, bitOf, part}
-use Rattle.octets.proofs.Digits.{Bits, take-bits, drop-bits, turned-lt}
+use Rattle.octets.proofs.Digits.{Bits, append-bits, digits-bits, digits-length, digits-mod-pow, take-bits, drop-bits, turned-lt}
 use Rattle.octets.proofs.Laws.{bits-bits, part-bits, part-next}
-use Rattle.octets.proofs.Words.{part-more, field-digits}
-use Rattle.octets.proofs.Turn.{turnOf, turn-half, turn-odd, turn-double, turn-xor, turn-times, turn-turn}
-use Rattle.octets.proofs.Xor.{xor-assoc, xor-swap, xor-cancel, half, odd, bit, bit-xor, no-two, back, mid}
-use Rattle.octets.proofs.Shift.{sh, sh-lt, sh-xor, sh-sh, sh-far, trinomial, squared, doubled}
-use Rattle.remainder.specs.Division.{generator}
+use Rattle.octets.proofs.Words.{digits-cut, digits-join, part-more}
+use Rattle.octets.proofs.Turn.{turnOf, turn-xor, turn-turn}
+use Rattle.octets.proofs.Xor.{xor-assoc, xor-swap, shl-xor, back, mid}
+use Rattle.octets.proofs.Sums.{sum, shifts, doubled, sum-xor, sum-shl, sum-twice, Solves, solves-far, solves-root, near, coded, coded-sum, sum-near, mirror, turn-long, turned-sum, coded-over, solved, within-le}
+use Rattle.remainder.specs.Division.{scale, times, polynomial, Degree, Remainder, RemainderFrom, Multiple, generator}
 use Rattle.remainder.specs.Register.{stepOf, registerOf}
-use Rattle.remainder.proofs.Division.{step-lt, register-append}
-use Rattle.remainder.proofs.Errors.{generator-degree}
+use Rattle.remainder.proofs.Division.{add, distrib, step-lt, exists, exists-from, left-unique, unique, register-append}
+use Rattle.remainder.proofs.Errors.{polynomial-append, generator-degree}
 
--- ---- the turned step
+-- ---- multiples
 
--- the generator below D^16, turned
-abbrev taps : ℕ
-taps = 0x8408
+-- times a power of D
+pub shl-multiple : (g n i : ℕ) → Multiple g n → Multiple g (n * 2 ^ i)
+unfolding times
+shl-multiple g n zero m = let one : n ≡ n * 1 = omega arith in subst (Multiple g) one m
+shl-multiple g n (suc i) m =
+    let d = shl-multiple g n i m in
+    record {
+      quotient = false ∷ d .quotient;
+      product =
+          ap (λ (x : ℕ). n * x) (pow-suc 2 i) ∙ sym (mul-assoc n (2 ^ i) 2) ∙ ap (λ (x : ℕ). x * 2) (d .product) ∙ sym (xor-zero-r (times (d .quotient) g * 2));
+    }
 
-abbrev turnedStep : ℕ → ℕ → ℕ
-turnedStep R b = bitXor (R / 2) (bitXor (R % 2) b * taps)
-
-taps-are : turnOf 16 (generator % 2 ^ 16) ≡ taps
-unfolding digitsOf valueOf
-taps-are = refl
-
-turn-step : (r b : ℕ) → r < 2 ^ 16 → b < 2 → turnOf 16 (stepOf 16 generator r b) ≡ turnedStep (turnOf 16 r) b
-turn-step r b h l =
-    let t = r / 2 ^ 15 in
-    let ht : t < 2 = omega arith in
-    let c = bitXor t b in
-    let hc : c < 2 = xor-lt 1 t b ht l in
-    let e : turnOf 16 r % 2 ≡ t = turn-odd 15 r ∙ mod-eq-of-lt ht in
-    turn-xor 16 (r * 2 % 2 ^ 16) (c * (generator % 2 ^ 16))
-    ∙ ap₂ bitXor (turn-double 15 r ∙ sym (turn-half 15 r)) (turn-times 16 c (generator % 2 ^ 16) hc ∙ ap (λ (x : ℕ). c * x) taps-are)
-    ∙ ap (λ (x : ℕ). bitXor (turnOf 16 r / 2) (bitXor x b * taps)) (sym e)
-
--- the turned register after the n low digits of f
-turnedRun : ℕ → ℕ → ℕ → ℕ
-turnedRun R zero f = R
-turnedRun R (suc n) f = turnedRun (turnedStep R (f % 2)) n (f / 2)
-
-turn-run : (n r f : ℕ) → r < 2 ^ 16 → turnedRun (turnOf 16 r) n f ≡ turnOf 16 (registerOf 16 generator r (digitsOf n f))
-unfolding turnedRun registerOf digitsOf
-turn-run zero r f h = refl
-turn-run (suc n) r f h =
-    ap (λ (x : ℕ). turnedRun x n (f / 2)) (sym (turn-step r (f % 2) h (bit f)))
-    ∙ turn-run n (stepOf 16 generator r (f % 2)) (f / 2) (step-lt 16 generator (lit≤ tt) generator-degree r (f % 2) h (bit f))
-
--- ---- any quotient gives the register, for any number of bits
-
--- q times the turned generator, 1 + D^4 + D^11 + D^16
-abbrev product : ℕ → ℕ
-product q = bitXor (bitXor (bitXor q (q * 2 ^ 4)) (q * 2 ^ 11)) (q * 2 ^ 16)
-
-differ-zero : (x : ℕ) → differ x zero ≡ x
-differ-zero zero = refl
-differ-zero (suc x) = refl
-
--- a shifted word adds nothing to the lowest digit
-odd-shifted : (a q k : ℕ) → bitXor a (q * 2 ^ suc k) % 2 ≡ a % 2
-odd-shifted a q k = odd a (q * 2 ^ suc k) ∙ ap (differ (a % 2)) (shifted-even q k) ∙ differ-zero (a % 2)
-
-product-odd : (q : ℕ) → product q % 2 ≡ q % 2
-product-odd q = odd-shifted (bitXor (bitXor q (q * 2 ^ 4)) (q * 2 ^ 11)) q 15 ∙ odd-shifted (bitXor q (q * 2 ^ 4)) q 10 ∙ odd-shifted q q 3
-
-taps-sum : (t : ℕ) → t < 2 → bitXor (bitXor (t * 2 ^ 3) (t * 2 ^ 10)) (t * 2 ^ 15) ≡ t * taps
-taps-sum zero h = refl
-taps-sum (suc zero) h = refl
-taps-sum (suc (suc t)) h = no-two t h
-
-product-half : (q : ℕ) → product q / 2 ≡ bitXor (product (q / 2)) (q % 2 * taps)
-product-half q =
-    let p = q / 2 in
-    let t = q % 2 in
-    let ht : t < 2 = bit q in
-    let A = t * 2 ^ 3 in
-    let B = t * 2 ^ 10 in
-    let C = t * 2 ^ 15 in
-    let a : q * 2 ^ 4 / 2 ≡ bitXor (p * 2 ^ 4) A = shifted-half q 3 ∙ cut3 q ∙ sym (xor-shifted p 4 A (omega arith)) in
-    let b : q * 2 ^ 11 / 2 ≡ bitXor (p * 2 ^ 11) B = shifted-half q 10 ∙ cut10 q ∙ sym (xor-shifted p 11 B (omega arith)) in
-    let c : q * 2 ^ 16 / 2 ≡ bitXor (p * 2 ^ 16) C = shifted-half q 15 ∙ cut15 q ∙ sym (xor-shifted p 16 C (omega arith)) in
-    half (bitXor (bitXor q (q * 2 ^ 4)) (q * 2 ^ 11)) (q * 2 ^ 16)
-    ∙ ap₂ bitXor (half (bitXor q (q * 2 ^ 4)) (q * 2 ^ 11) ∙ ap₂ bitXor (half q (q * 2 ^ 4) ∙ ap (bitXor p) a) b) c
-    ∙ ap (λ (x : ℕ). bitXor (bitXor x (bitXor (p * 2 ^ 11) B)) (bitXor (p * 2 ^ 16) C)) (sym (xor-assoc p (p * 2 ^ 4) A))
-    ∙ ap (λ (x : ℕ). bitXor x (bitXor (p * 2 ^ 16) C)) (xor-swap (bitXor p (p * 2 ^ 4)) A (p * 2 ^ 11) B)
-    ∙ xor-swap (bitXor (bitXor p (p * 2 ^ 4)) (p * 2 ^ 11)) (bitXor A B) (p * 2 ^ 16) C
-    ∙ ap (bitXor (product p)) (taps-sum t ht)
+-- a sum of shifts, whatever it is of: of the polynomial that the shifts are the powers of
+pub sum-times : (gs : List ℕ) (v : ℕ) → Multiple (sum gs 1) (sum gs v)
+unfolding times
+sum-times gs =
+    bin-ind (λ (v : ℕ). Multiple (sum gs 1) (sum gs v)) (record { quotient = []; product = none })
+    (λ v m. more v m (v % 2) refl)
   where
-    cut3 : (q : ℕ) → q * 2 ^ 3 ≡ q / 2 * 2 ^ 4 + q % 2 * 2 ^ 3
-    cut3 q = omega arith
+    none : sum gs 0 ≡ 0
+    none = let e : sum gs 0 ≡ sum gs 0 * 2 = sum-shl gs 1 0 in omega arith
 
-    cut10 : (q : ℕ) → q * 2 ^ 10 ≡ q / 2 * 2 ^ 11 + q % 2 * 2 ^ 10
-    cut10 q = omega arith
+    halves : (v c : ℕ) → v % 2 ≡ c → sum gs v ≡ bitXor (sum gs (v / 2) * 2) (sum gs c)
+    halves v c e =
+        let p : v ≡ v / 2 * 2 + c = omega arith in
+        let lt : c < 2 = omega arith in
+        ap (sum gs) (p ∙ sym (xor-shifted (v / 2) 1 c lt)) ∙ sum-xor gs (v / 2 * 2) c ∙ ap (λ (x : ℕ). bitXor x (sum gs c)) (sum-shl gs 1 (v / 2))
 
-    cut15 : (q : ℕ) → q * 2 ^ 15 ≡ q / 2 * 2 ^ 16 + q % 2 * 2 ^ 15
-    cut15 q = omega arith
+    more : (v : ℕ) → Multiple (sum gs 1) (sum gs (v / 2)) → (c : ℕ) → v % 2 ≡ c → Multiple (sum gs 1) (sum gs v)
+    more v m zero e =
+        record { quotient = false ∷ m .quotient; product = halves v 0 e ∙ ap₂ (λ (x y : ℕ). bitXor (x * 2) y) (m .product) none }
+    more v m (suc zero) e =
+        record { quotient = true ∷ m .quotient; product = halves v 1 e ∙ ap (λ (x : ℕ). bitXor (x * 2) (sum gs 1)) (m .product) }
+    more v m (suc (suc c)) e = absurd (omega arith)
 
--- where a product of n digits is what came in, register and bits, and reaches over by E, then E is the register after the n bits
-divide : (n q R f E : ℕ) → q < 2 ^ n → f < 2 ^ n → product q ≡ bitXor (bitXor R f) (E * 2 ^ n) → E ≡ turnedRun R n f
-unfolding turnedRun
-divide zero q R f E hq hf e =
-    let e1 : E * 1 ≡ E = omega arith in
-    sym (xor-cancel R E
-    (sym (sym (ap product (lt-one hq)) ∙ e ∙ ap₂ (λ (x y : ℕ). bitXor (bitXor R x) y) (lt-one hf) e1 ∙ ap (λ (x : ℕ). bitXor x E) (xor-zero-r R))))
-divide (suc n) q R f E hq hf e =
-    let t = q % 2 in
-    let F = E * 2 ^ n in
-    let lq : q / 2 < 2 ^ n = omega (arith, pow-suc 2 n) in
-    let lf : f / 2 < 2 ^ n = omega (arith, pow-suc 2 n) in
-    let o : t ≡ bitXor (R % 2) (f % 2) =
-    sym (product-odd q) ∙ ap (λ (x : ℕ). x % 2) e ∙ odd-shifted (bitXor R f) E n ∙ odd R f ∙ sym (bit-xor (R % 2) (f % 2) (bit R) (bit f)) in
-    let T = bitXor (R % 2) (f % 2) * taps in
-    let h : bitXor (product (q / 2)) T ≡ bitXor (bitXor (R / 2) (f / 2)) F =
-    ap (λ (x : ℕ). bitXor (product (q / 2)) (x * taps)) (sym o) ∙ sym (product-half q) ∙ ap (λ (x : ℕ). x / 2) e ∙ half (bitXor R f) (E * 2 ^ suc n)
-    ∙ ap₂ bitXor (half R f) (shifted-half E n) in
-    let g : product (q / 2) ≡ bitXor (bitXor (bitXor (R / 2) T) (f / 2)) F =
-    sym (back (product (q / 2)) T) ∙ ap (λ (x : ℕ). bitXor x T) h ∙ xor-right (bitXor (R / 2) (f / 2)) F T ∙ ap (λ (x : ℕ). bitXor x F) (xor-right (R / 2) (f / 2) T) in
-    divide n (q / 2) (turnedStep R (f % 2)) (f / 2) E lq lf g
-  where
-    xor-right : (a b c : ℕ) → bitXor (bitXor a b) c ≡ bitXor (bitXor a c) b
-    xor-right a b c = xor-assoc a b c ∙ ap (bitXor a) (xor-comm b c) ∙ sym (xor-assoc a c b)
+-- ---- a register that starts at zero passes zeros over
 
--- ---- the quotient's word: the turned generator is inverted within 32 digits by squaring it three times, when it is 1
+module _ (k g : ℕ) where
+  step-zero : stepOf k g 0 0 ≡ 0
+  step-zero =
+      let G = g % 2 ^ k in
+      let none : 0 * G ≡ 0 = omega arith in
+      ap₂ (λ (x y : ℕ). bitXor x (bitXor y 0 * G)) (mod-eq-of-lt (pow-pos k)) (div-eq-of-lt (pow-pos (k - 1))) ∙ ap (bitXor 0) none
 
--- the product within the word
-abbrev low : ℕ → ℕ
-low v = bitXor (bitXor (bitXor v (sh 4 v)) (sh 11 v)) (sh 16 v)
+  zeros-over : (n : ℕ) (bs : List ℕ) → registerOf k g 0 (digitsOf n 0 ++ bs) ≡ registerOf k g 0 bs
+  unfolding registerOf digitsOf
+  zeros-over zero bs = refl
+  zeros-over (suc n) bs = ap (λ (r : ℕ). registerOf k g r (digitsOf n 0 ++ bs)) step-zero ∙ zeros-over n bs
 
--- its square, and the square's square
-abbrev square : ℕ → ℕ
-square v = trinomial 8 22 (lit≤ tt) v
+-- ---- words that stand for bits
 
-abbrev fourth : ℕ → ℕ
-fourth v = bitXor v (sh 16 v)
+module _ (k g : ℕ) (hk : 1 ≤ k) (dg : Degree g k) where
+  -- the remainder is that of any polynomial that differs by a multiple
+  same-left : (a b : List ℕ) → Bits a → Bits b → Multiple g (bitXor (polynomial a) (polynomial b)) → registerOf k g 0 a ≡ registerOf k g 0 b
+  same-left a b ha hb m =
+      let A = exists k g hk dg a ha in
+      let B = exists k g hk dg b hb in
+      let p = polynomial a in
+      let q = polynomial b in
+      let T = times (A .quotient) g in
+      let r = registerOf k g 0 a in
+      let M = shl-multiple g (bitXor p q) k m in
+      let e : q * 2 ^ k ≡ bitXor (times (add (A .quotient) (M .quotient)) g) r =
+      sym (back-left (p * 2 ^ k) (q * 2 ^ k)) ∙ ap₂ bitXor (A .divided) (sym (shl-xor k p q) ∙ M .product) ∙ moved T r (times (M .quotient) g)
+      ∙ ap (λ (x : ℕ). bitXor x r) (distrib (A .quotient) (M .quotient) g) in
+      left-unique k g dg (q * 2 ^ k) r (registerOf k g 0 b) (add (A .quotient) (M .quotient)) (B .quotient) e (B .divided) (A .below) (B .below)
+    where
+      back-left : (x y : ℕ) → bitXor x (bitXor x y) ≡ y
+      back-left x y = sym (xor-assoc x x y) ∙ ap (λ (z : ℕ). bitXor z y) (xor-self x) ∙ xor-zero-l y
 
-rows : (v a b c A p q B r : ℕ)
-    → bitXor (bitXor (bitXor (bitXor (bitXor (bitXor v a) b) c) (bitXor (bitXor (bitXor a A) p) q)) (bitXor (bitXor (bitXor b p) B) r)) (bitXor (bitXor (bitXor c q) r) 0)
-    ≡ bitXor (bitXor v A) B
-rows v a b c A p q B r =
-    let x = bitXor v A in
-    let y = bitXor b p in
-    let z = bitXor c q in
-    let w = bitXor B r in
-    ap₂ (λ (m n : ℕ). bitXor (bitXor m n) (bitXor (bitXor z r) 0))
-    (xor-swap (bitXor (bitXor v a) b) c (bitXor (bitXor a A) p) q
-    ∙ ap (λ (n : ℕ). bitXor n z) (xor-swap (bitXor v a) b (bitXor a A) p ∙ ap (λ (n : ℕ). bitXor n y) (mid v a A)))
-    (xor-assoc y B r)
-    ∙ ap₂ bitXor (xor-assoc (bitXor x y) z (bitXor y w) ∙ ap (bitXor (bitXor x y)) (xor-comm z (bitXor y w)) ∙ sym (xor-assoc (bitXor x y) (bitXor y w) z)
-    ∙ ap (λ (n : ℕ). bitXor n z) (mid x y w)) (xor-zero-r (bitXor z r))
-    ∙ mid (bitXor x w) z r ∙ xor-assoc x w r ∙ ap (bitXor x) (back B r)
+      moved : (x y z : ℕ) → bitXor (bitXor x y) z ≡ bitXor (bitXor x z) y
+      moved x y z = xor-assoc x y z ∙ ap (bitXor x) (xor-comm y z) ∙ sym (xor-assoc x z y)
 
-low-low : (v : ℕ) → low (low v) ≡ square v
-low-low v =
-    let z : sh 16 (sh 16 v) ≡ 0 = sh-sh 16 16 32 v refl ∙ sh-far 32 v (lit≤ tt) in
-    let shifted : (k a b c d : ℕ) → sh k v ≡ a → sh k (sh 4 v) ≡ b → sh k (sh 11 v) ≡ c → sh k (sh 16 v) ≡ d → sh k (low v) ≡ bitXor (bitXor (bitXor a b) c) d =
-    λ k a b c d ea eb ec ed. sh-xor k (bitXor (bitXor v (sh 4 v)) (sh 11 v)) (sh 16 v)
-    ∙ ap₂ bitXor (sh-xor k (bitXor v (sh 4 v)) (sh 11 v) ∙ ap₂ bitXor (sh-xor k v (sh 4 v) ∙ ap₂ bitXor ea eb) ec) ed in
-    let one = shifted 4 (sh 4 v) (sh 8 v) (sh 15 v) (sh 20 v) refl (sh-sh 4 4 8 v refl) (sh-sh 4 11 15 v refl) (sh-sh 4 16 20 v refl) in
-    let two = shifted 11 (sh 11 v) (sh 15 v) (sh 22 v) (sh 27 v) refl (sh-sh 11 4 15 v refl) (sh-sh 11 11 22 v refl) (sh-sh 11 16 27 v refl) in
-    let three = shifted 16 (sh 16 v) (sh 20 v) (sh 27 v) 0 refl (sh-sh 16 4 20 v refl) (sh-sh 16 11 27 v refl) z in
-    ap (λ (n : ℕ). bitXor (bitXor (bitXor (low v) n) (sh 11 (low v))) (sh 16 (low v))) one
-    ∙ ap₂ (λ (m n : ℕ). bitXor (bitXor (bitXor (low v) (bitXor (bitXor (bitXor (sh 4 v) (sh 8 v)) (sh 15 v)) (sh 20 v))) m) n) two three
-    ∙ rows v (sh 4 v) (sh 11 v) (sh 16 v) (sh 8 v) (sh 15 v) (sh 20 v) (sh 22 v) (sh 27 v)
+  -- a start is the first bits changed by it
+  pub start-in : (r w : ℕ) → k ≤ 64 → r < 2 ^ k → registerOf k g r (digitsOf 64 w) ≡ registerOf k g 0 (digitsOf 64 (bitXor w (turnOf k r)))
+  start-in r w h l =
+      let A = exists-from k g hk dg r (digitsOf 64 w) (digits-bits 64 w) l in
+      let y = bitXor w (turnOf k r) in
+      let B = exists k g hk dg (digitsOf 64 y) (digits-bits 64 y) in
+      let j = 64 - k in
+      let c : k + j ≡ 64 = omega arith in
+      let c′ : j + k ≡ 64 = omega arith in
+      let short : turnOf 64 (turnOf k r) ≡ r * 2 ^ j =
+      ap (λ (n : ℕ). turnOf n (turnOf k r)) (sym c) ∙ turn-long k j (turnOf k r) (turned-lt k r) ∙ ap (λ (x : ℕ). x * 2 ^ j) (turn-turn k r l) in
+      let up : r * 2 ^ j * 2 ^ k ≡ r * 2 ^ 64 = mul-assoc r (2 ^ j) (2 ^ k) ∙ ap (λ (x : ℕ). r * x) (sym (pow-add 2 j k) ∙ ap (λ (n : ℕ). 2 ^ n) c′) in
+      let e : turnOf 64 y * 2 ^ k ≡ bitXor (r * 2 ^ 64) (turnOf 64 w * 2 ^ k) =
+      ap (λ (x : ℕ). x * 2 ^ k) (turn-xor 64 w (turnOf k r) ∙ ap (bitXor (turnOf 64 w)) short) ∙ shl-xor k (turnOf 64 w) (r * 2 ^ j)
+      ∙ ap (bitXor (turnOf 64 w * 2 ^ k)) up ∙ xor-comm (turnOf 64 w * 2 ^ k) (r * 2 ^ 64) in
+      let f : bitXor (r * 2 ^ length (digitsOf 64 w)) (turnOf 64 w * 2 ^ k) ≡ bitXor (r * 2 ^ 64) (turnOf 64 w * 2 ^ k) =
+      ap (λ (n : ℕ). bitXor (r * 2 ^ n) (turnOf 64 w * 2 ^ k)) (digits-length 64 w) in
+      left-unique k g dg (turnOf 64 y * 2 ^ k) (registerOf k g r (digitsOf 64 w)) (registerOf k g 0 (digitsOf 64 y)) (A .quotient) (B .quotient)
+      (e ∙ sym f ∙ A .divided) (B .divided) (A .below) (B .below)
 
-abbrev quotient : ℕ → ℕ
-quotient u = low (square (fourth u))
+  -- the word x, and n bits behind it, moved up to the end of two words
+  pub moved-up : (x t n : ℕ) → 1 ≤ n → n < 64 → x < 2 ^ 64
+      → registerOf k g 0 (digitsOf 64 x ++ digitsOf n t)
+      ≡ registerOf k g 0 (digitsOf 64 (x * 2 ^ (64 - n) % 2 ^ 64) ++ digitsOf 64 (bitOr (t * 2 ^ (64 - n) % 2 ^ 64) (x / 2 ^ n)))
+  moved-up x t n h l hx =
+      let j = 64 - n in
+      let c : 64 ≡ j + n = omega arith in
+      let c′ : 64 ≡ n + j = omega arith in
+      let B = x / 2 ^ n in
+      let lB : B < 2 ^ j = shr-lt j n (subst (λ (m : ℕ). x < 2 ^ m) c hx) in
+      let none : x * 2 ^ j ≡ x * 2 ^ j + 0 = omega arith in
+      let low : digitsOf 64 (x * 2 ^ j % 2 ^ 64) ≡ digitsOf j 0 ++ digitsOf n x =
+      digits-mod-pow 64 (x * 2 ^ j) ∙ ap (digitsOf 64) none ∙ digits-join j n 64 x 0 c (pow-pos j) in
+      let high : digitsOf 64 (bitOr (t * 2 ^ j % 2 ^ 64) B) ≡ digitsOf j B ++ digitsOf n t =
+      sym (digits-mod-pow 64 (bitOr (t * 2 ^ j % 2 ^ 64) B))
+      ∙ ap (digitsOf 64) (or-mod (t * 2 ^ j % 2 ^ 64) B 64 ∙ ap (λ (y : ℕ). bitOr y (B % 2 ^ 64)) (mod-mod (t * 2 ^ j)) ∙ sym (or-mod (t * 2 ^ j) B 64))
+      ∙ digits-mod-pow 64 (bitOr (t * 2 ^ j) B) ∙ ap (digitsOf 64) (or-shifted t j B lB) ∙ digits-join j n 64 t B c lB in
+      sym (ap₂ (λ (a b : List ℕ). registerOf k g 0 (a ++ b)) low high
+      ∙ ap (registerOf k g 0) (append-assoc (digitsOf j 0) (digitsOf n x) (digitsOf j B ++ digitsOf n t)) ∙ zeros-over k g j (digitsOf n x ++ (digitsOf j B ++ digitsOf n t))
+      ∙ ap (registerOf k g 0) (sym (append-assoc (digitsOf n x) (digitsOf j B) (digitsOf n t)) ∙ ap (λ (a : List ℕ). a ++ digitsOf n t) (sym (digits-cut n j 64 x c′))))
+    where
+      mod-mod : (y : ℕ) → y % 2 ^ 64 % 2 ^ 64 ≡ y % 2 ^ 64
+      mod-mod y = omega arith
 
-quotient-is : (u : ℕ) → low (quotient u) ≡ u
-quotient-is u =
-    low-low (square (fourth u)) ∙ squared 8 22 (lit≤ tt) (fourth u) ∙ doubled 16 u ∙ ap (bitXor u) (sh-far 32 u (lit≤ tt)) ∙ xor-zero-r u
+  -- a word 64 bits further on: a quotient q by a sum of shifts that is a multiple, turned, and E, which reaches over the word
+  module _ (d q X E : ℕ) (es hs : List ℕ) (hd : d ≤ 64) (hq : q < 2 ^ 64) (hX : X < 2 ^ 64) (hE : E < 2 ^ d) (le : (i : ℕ) → getD (0 ∷ es) i 0 ≤ d)
+      (m : mirror d (0 ∷ es) ≡ hs ++ (0 ∷ [])) (mul : (t : ℕ) → Multiple g (sum hs t)) (e : sum es q ≡ bitXor X (E * 2 ^ 64)) where
+    left-over : Multiple g (bitXor (turnOf 64 X * 2 ^ d) (turnOf d E))
+    left-over = subst (Multiple g) (sym (turned-sum 64 d q X E es hs hq hX le m e)) (mul (turnOf 64 q))
 
--- what reaches over the word
-abbrev over : ℕ → ℕ
-over q = bitXor (bitXor (q / 2 ^ 28) (q / 2 ^ 21)) (q / 2 ^ 16)
+    pub further-on : (w : ℕ) → registerOf k g 0 (digitsOf 64 X ++ digitsOf 64 w) ≡ registerOf k g 0 (digitsOf 64 (bitXor E w))
+    further-on w =
+        let j = 64 - d in
+        let c : d + j ≡ 64 = omega arith in
+        let tX = turnOf 64 X in
+        let tw = turnOf 64 w in
+        let tE : turnOf d E * 2 ^ j ≡ turnOf 64 E = sym (ap (λ (n : ℕ). turnOf n E) (sym c) ∙ turn-long d j E hE) in
+        let up : tX * 2 ^ d * 2 ^ j ≡ tX * 2 ^ 64 = mul-assoc tX (2 ^ d) (2 ^ j) ∙ ap (λ (x : ℕ). tX * x) (sym (pow-add 2 d j) ∙ ap (λ (n : ℕ). 2 ^ n) c) in
+        let f : bitXor (tX * 2 ^ d) (turnOf d E) * 2 ^ j ≡ bitXor (tX * 2 ^ 64) (turnOf 64 E) = shl-xor j (tX * 2 ^ d) (turnOf d E) ∙ ap₂ bitXor up tE in
+        let a = digitsOf 64 X ++ digitsOf 64 w in
+        let pa : polynomial a ≡ bitXor (tX * 2 ^ 64) tw =
+        polynomial-append (digitsOf 64 X) (digitsOf 64 w) (digits-bits 64 w) ∙ ap (λ (n : ℕ). bitXor (tX * 2 ^ n) tw) (digits-length 64 w) in
+        let g-is : bitXor (tX * 2 ^ 64) (turnOf 64 E) ≡ bitXor (polynomial a) (turnOf 64 (bitXor E w)) =
+        sym (mid (tX * 2 ^ 64) tw (turnOf 64 E)) ∙ ap₂ bitXor (sym pa) (xor-comm tw (turnOf 64 E) ∙ sym (turn-xor 64 E w)) in
+        same-left a (digitsOf 64 (bitXor E w)) (append-bits (digitsOf 64 X) (digitsOf 64 w) (digits-bits 64 X) (digits-bits 64 w)) (digits-bits 64 (bitXor E w))
+        (subst (Multiple g) (f ∙ g-is) (shl-multiple g (bitXor (tX * 2 ^ d) (turnOf d E)) j left-over))
 
-module _ (R f : ℕ) (hR : R < 2 ^ 16) (hf : f < 2 ^ 32) where
-  start-lt : bitXor R f < 2 ^ 32
-  start-lt = xor-lt 32 R f (omega arith) hf
+    -- where the sum of shifts is the generator itself, E is the register, turned
+    pub at-the-end : d ≡ k → turnOf k (registerOf k g 0 (digitsOf 64 X)) ≡ E
+    at-the-end c =
+        let M = left-over in
+        let r : registerOf k g 0 (digitsOf 64 X) ≡ turnOf d E =
+        unique k g dg (digitsOf 64 X) (registerOf k g 0 (digitsOf 64 X)) (turnOf d E) (exists k g hk dg (digitsOf 64 X) (digits-bits 64 X))
+        (record {
+          quotient = M .quotient;
+          divided = ap (λ (n : ℕ). turnOf 64 X * 2 ^ n) (sym c) ∙ sym (back (turnOf 64 X * 2 ^ d) (turnOf d E)) ∙ ap (λ (x : ℕ). bitXor x (turnOf d E)) (M .product);
+          below = subst (λ (n : ℕ). turnOf d E < 2 ^ n) c (turned-lt d E);
+        }) in
+        ap (turnOf k) r ∙ ap (λ (n : ℕ). turnOf n (turnOf d E)) (sym c) ∙ turn-turn d E hE
 
-  quotient-lt : quotient (bitXor R f) < 2 ^ 32
-  quotient-lt =
-      let u = bitXor R f in
-      let c = fourth u in
-      let b = square c in
-      let hc : c < 2 ^ 32 = xor-lt 32 u (sh 16 u) start-lt (sh-lt 16 u) in
-      let hb : b < 2 ^ 32 = xor-lt 32 (bitXor c (sh 8 c)) (sh 22 c) (xor-lt 32 c (sh 8 c) hc (sh-lt 8 c)) (sh-lt 22 c) in
-      xor-lt 32 (bitXor (bitXor b (sh 4 b)) (sh 11 b)) (sh 16 b) (xor-lt 32 (bitXor b (sh 4 b)) (sh 11 b) (xor-lt 32 b (sh 4 b) hb (sh-lt 4 b)) (sh-lt 11 b)) (sh-lt 16 b)
+-- ---- D^16 + D^12 + D^5 + 1
 
-  whole : (q : ℕ) → q < 2 ^ 32 → low q ≡ bitXor R f → product q ≡ bitXor (bitXor R f) (over q * 2 ^ 32)
-  whole q h e =
-      let d0 : q / 2 ^ 32 ≡ 0 = omega arith in
-      let d4 : q * 2 ^ 4 / 2 ^ 32 ≡ q / 2 ^ 28 = omega arith in
-      let d11 : q * 2 ^ 11 / 2 ^ 32 ≡ q / 2 ^ 21 = omega arith in
-      let d16 : q * 2 ^ 16 / 2 ^ 32 ≡ q / 2 ^ 16 = omega arith in
-      let hi : product q / 2 ^ 32 ≡ over q =
-      xor-shr (bitXor (bitXor q (q * 2 ^ 4)) (q * 2 ^ 11)) (q * 2 ^ 16) 32
-      ∙ ap₂ bitXor (xor-shr (bitXor q (q * 2 ^ 4)) (q * 2 ^ 11) 32
-      ∙ ap₂ bitXor (xor-shr q (q * 2 ^ 4) 32 ∙ ap₂ bitXor d0 d4 ∙ xor-zero-l (q / 2 ^ 28)) d11) d16 in
-      let lo : product q % 2 ^ 32 ≡ bitXor R f =
-      xor-mod (bitXor (bitXor q (q * 2 ^ 4)) (q * 2 ^ 11)) (q * 2 ^ 16) 32
-      ∙ ap (λ (x : ℕ). bitXor x (sh 16 q)) (xor-mod (bitXor q (q * 2 ^ 4)) (q * 2 ^ 11) 32
-      ∙ ap (λ (x : ℕ). bitXor x (sh 11 q)) (xor-mod q (q * 2 ^ 4) 32 ∙ ap (λ (x : ℕ). bitXor x (sh 4 q)) (mod-eq-of-lt h))) ∙ e in
-      sym (split (product q) 32) ∙ ap₂ (λ (x y : ℕ). x * 2 ^ 32 + y) hi lo ∙ sym (xor-shifted (over q) 32 (bitXor R f) start-lt) ∙ xor-comm (over q * 2 ^ 32) (bitXor R f)
+abbrev powers : List ℕ
+powers = 16 ∷ 12 ∷ 5 ∷ []
 
-  -- the word's step is the register's run over its 32 bits
-  pub word-is : over (quotient (bitXor R f)) ≡ turnOf 16 (registerOf 16 generator (turnOf 16 R) (digitsOf 32 f))
-  word-is =
-      let q = quotient (bitXor R f) in
-      divide 32 q R f (over q) quotient-lt hf (whole q quotient-lt (quotient-is (bitXor R f)))
-      ∙ ap (λ (x : ℕ). turnedRun x 32 f) (sym (turn-turn 16 R hR)) ∙ turn-run 32 (turnOf 16 R) f (turned-lt 16 R)
+-- turned, without the constant term; squared; and squared again
+abbrev pub turned : List ℕ
+turned = 4 ∷ 11 ∷ 16 ∷ []
 
--- ---- words and bits one after the other
+abbrev pub square : List ℕ
+square = doubled turned
 
-register-lt : (r : ℕ) (bs : List ℕ) → r < 2 ^ 16 → Bits bs → registerOf 16 generator r bs < 2 ^ 16
-unfolding registerOf
-register-lt r [] h l = h
-register-lt r (b ∷ bs) h l = register-lt (stepOf 16 generator r b) bs (step-lt 16 generator (lit≤ tt) generator-degree r b h (l 0)) (λ i. l (suc i))
+abbrev pub fourthPower : List ℕ
+fourthPower = doubled square
 
-pub register-none : (r : ℕ) → r ≡ registerOf 16 generator r []
-unfolding registerOf
-register-none r = refl
+powers-are : sum powers 1 ≡ generator
+unfolding shifts
+powers-are = refl
 
-module _ (s : List ℕ) (at r : ℕ) (hr : r < 2 ^ 16) where
-  -- the register after the first n of the bits from the place on
-  abbrev so-far : ℕ → ℕ
-  so-far n = registerOf 16 generator r (part at n (bitsOf s))
+powers-multiple : (t : ℕ) → Multiple generator (sum powers t)
+powers-multiple t = subst (λ (g : ℕ). Multiple g (sum powers t)) powers-are (sum-times powers t)
 
-  pub so-far-lt : (n : ℕ) → so-far n < 2 ^ 16
-  so-far-lt n = register-lt r (part at n (bitsOf s)) hr (take-bits n (drop at (bitsOf s)) (drop-bits at (bitsOf s) (bits-bits s)))
+fourth-multiple : (t : ℕ) → Multiple generator (sum (doubled (doubled powers)) t)
+fourth-multiple t =
+    let two = doubled powers in
+    subst (Multiple generator) (sum-twice powers (sum two t) ∙ sum-twice two t) (powers-multiple (sum powers (sum two t)))
 
-  -- 32 bits more
-  pub word-more : (k R w : ℕ) → R ≡ turnOf 16 (so-far (32 * k)) → at + 32 * k + 32 ≤ 8 * length s → w ≡ valueOf (part (at + 32 * k) 32 (bitsOf s))
-      → turnOf 16 (registerOf 16 generator (turnOf 16 R) (digitsOf 32 w)) ≡ turnOf 16 (so-far (32 * (k + 1)))
-  word-more k R w e h f =
-      let B = bitsOf s in
-      let m : 32 * k + 32 ≡ 32 * (k + 1) = omega arith in
-      ap (turnOf 16)
-      (ap₂ (λ (x : ℕ) (l : List ℕ). registerOf 16 generator x l) (ap (turnOf 16) e ∙ turn-turn 16 (so-far (32 * k)) (so-far-lt (32 * k)))
-      (ap (digitsOf 32) f ∙ field-digits s (at + 32 * k) 32 h)
-      ∙ sym (register-append 16 generator r (part at (32 * k) B) (part (at + 32 * k) 32 B))
-      ∙ ap (registerOf 16 generator r) (part-more B at (32 * k) 32 (32 * (k + 1)) m))
+-- as the code finds the quotients
+module _ (x : ℕ) (hx : x < 2 ^ 64) where
+  abbrev found : ℕ
+  found = coded 64 (coded 64 x (32 ∷ []) x) (16 ∷ 44 ∷ []) (coded 64 x (32 ∷ []) x)
 
-  -- one bit more of the first n
-  pub bit-more : (n k q b : ℕ) → q ≡ registerOf 16 generator r (take k (part at n (bitsOf s))) → k < n → at + k < 8 * length s → b ≡ bitOf s (at + k)
-      → stepOf 16 generator q b ≡ registerOf 16 generator r (take (k + 1) (part at n (bitsOf s)))
+  fourth-found : Solves 64 fourthPower x found
+  fourth-found = solves-root 64 fourthPower x (coded 64 x (32 ∷ []) x) (solves-root 64 (doubled fourthPower) x x (solves-far 64 (doubled (doubled fourthPower)) x hx refl))
+
+  pub fourth-is : coded 64 found (16 ∷ 44 ∷ []) found ≡ x
+  fourth-is = let s = fourth-found in coded-sum 64 (near 64 fourthPower) found (s .0) ∙ sum-near 64 fourthPower found ∙ s .1
+
+  module _ (q : ℕ) (hq : q < 2 ^ 64) (e : coded 64 q (16 ∷ 44 ∷ []) q ≡ x) where
+    fourth-solves : Solves 64 fourthPower x q
+    fourth-solves = (hq, sym (sum-near 64 fourthPower q) ∙ sym (coded-sum 64 (near 64 fourthPower) q hq) ∙ e)
+
+    pub folded-is : (w : ℕ) → registerOf 16 generator 0 (digitsOf 64 x ++ digitsOf 64 w)
+        ≡ registerOf 16 generator 0 (digitsOf 64 (bitXor (bitXor (bitXor (q / 2 ^ 48) (q / 2 ^ 20)) q) w))
+    folded-is w =
+        let O = bitXor (bitXor (q / 2 ^ 48) (q / 2 ^ 20)) (q / 1) in
+        let lt : O < 2 ^ 64 =
+        xor-lt 64 (bitXor (q / 2 ^ 48) (q / 2 ^ 20)) (q / 1) (xor-lt 64 (q / 2 ^ 48) (q / 2 ^ 20) (omega arith) (omega arith)) (omega arith) in
+        further-on 16 generator (lit≤ tt) generator-degree 64 q x O fourthPower (doubled (doubled powers)) (lit≤ tt) hq hx lt
+        (within-le 64 (0 ∷ fourthPower) refl) refl fourth-multiple (solved 64 16 (44 ∷ 64 ∷ []) x q (within-le 64 fourthPower refl) fourth-solves) w
+        ∙ ap (λ (y : ℕ). registerOf 16 generator 0 (digitsOf 64 (bitXor (bitXor (bitXor (q / 2 ^ 48) (q / 2 ^ 20)) y) w))) (div-one q)
+
+    -- the quotient by the generator itself
+    abbrev squared : ℕ
+    squared = coded 64 q (8 ∷ 22 ∷ 32 ∷ []) q
+
+    abbrev whole : ℕ
+    whole = coded 64 squared (4 ∷ 11 ∷ 16 ∷ []) squared
+
+    pub settled-is : turnOf 16 (registerOf 16 generator 0 (digitsOf 64 x)) ≡ bitXor (bitXor (whole / 2 ^ 60) (whole / 2 ^ 53)) (whole / 2 ^ 48)
+    settled-is =
+        let s : Solves 64 turned x whole = solves-root 64 turned x squared (solves-root 64 square x q fourth-solves) in
+        let h : whole < 2 ^ 64 = s .0 in
+        let lt = small whole h in
+        at-the-end 16 generator (lit≤ tt) generator-degree 16 whole x (bitXor (bitXor (whole / 2 ^ 60) (whole / 2 ^ 53)) (whole / 2 ^ 48)) turned powers (lit≤ tt) h hx lt
+        (within-le 16 (0 ∷ turned) refl) refl powers-multiple (solved 64 4 (11 ∷ 16 ∷ []) x whole (within-le 64 turned refl) s) refl
+      where
+        small : (v : ℕ) → v < 2 ^ 64 → bitXor (bitXor (v / 2 ^ 60) (v / 2 ^ 53)) (v / 2 ^ 48) < 2 ^ 16
+        small v h = xor-lt 16 (bitXor (v / 2 ^ 60) (v / 2 ^ 53)) (v / 2 ^ 48) (xor-lt 16 (v / 2 ^ 60) (v / 2 ^ 53) (omega arith) (omega arith)) (omega arith)
+
+-- ---- bits one after the other
+
+module _ (k g : ℕ) (hk : 1 ≤ k) (dg : Degree g k) where
+  pub register-lt : (r : ℕ) (bs : List ℕ) → r < 2 ^ k → Bits bs → registerOf k g r bs < 2 ^ k
   unfolding registerOf
-  bit-more n k q b e h l f =
-      let G = part at n (bitsOf s) in
-      ap (λ (x : ℕ). stepOf 16 generator x b) e ∙ sym (register-append 16 generator r (take k G) (b ∷ []))
-      ∙ ap (registerOf 16 generator r) (part-next s at n k b h l f)
+  register-lt r [] h l = h
+  register-lt r (b ∷ bs) h l = register-lt (stepOf k g r b) bs (step-lt k g hk dg r b h (l 0)) (λ i. l (suc i))
 
-  pub taken-lt : (n k : ℕ) → registerOf 16 generator r (take k (part at n (bitsOf s))) < 2 ^ 16
-  taken-lt n k = register-lt r (take k (part at n (bitsOf s))) hr (part-bits s at n k)
+  pub register-none : (r : ℕ) → r ≡ registerOf k g r []
+  unfolding registerOf
+  register-none r = refl
+
+  module _ (s : List ℕ) (at r : ℕ) (hr : r < 2 ^ k) where
+    pub so-far-lt : (n : ℕ) → registerOf k g r (part at n (bitsOf s)) < 2 ^ k
+    so-far-lt n = register-lt r (part at n (bitsOf s)) hr (take-bits n (drop at (bitsOf s)) (drop-bits at (bitsOf s) (bits-bits s)))
+
+    -- one bit more of the first n
+    pub bit-more : (n j q b : ℕ) → q ≡ registerOf k g r (take j (part at n (bitsOf s))) → j < n → at + j < 8 * length s → b ≡ bitOf s (at + j)
+        → stepOf k g q b ≡ registerOf k g r (take (j + 1) (part at n (bitsOf s)))
+    unfolding registerOf
+    bit-more n j q b e h l f =
+        let G = part at n (bitsOf s) in
+        ap (λ (x : ℕ). stepOf k g x b) e ∙ sym (register-append k g r (take j G) (b ∷ []))
+        ∙ ap (registerOf k g r) (part-next s at n j b h l f)
+
+    pub taken-lt : (n j : ℕ) → registerOf k g r (take j (part at n (bitsOf s))) < 2 ^ k
+    taken-lt n j = register-lt r (take j (part at n (bitsOf s))) hr (part-bits s at n j)
+
+    -- n bits more, where a word stands for those before
+    pub word-more : (m n j x : ℕ) (D : List ℕ) → m + n ≡ j → registerOf k g r (part at m (bitsOf s)) ≡ registerOf k g 0 (digitsOf 64 x) → D ≡ part (at + m) n (bitsOf s)
+        → registerOf k g r (part at j (bitsOf s)) ≡ registerOf k g 0 (digitsOf 64 x ++ D)
+    word-more m n j x D e f d =
+        let B = bitsOf s in
+        sym (ap (registerOf k g r) (part-more B at m n j e)) ∙ register-append k g r (part at m B) (part (at + m) n B)
+        ∙ ap₂ (registerOf k g) f (sym d) ∙ sym (register-append k g 0 (digitsOf 64 x) D)

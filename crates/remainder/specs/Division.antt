@@ -6,6 +6,7 @@ use mathlib.Core.Bool.{Bool, true, false}
 use mathlib.Core.List.{List, [], _∷_, reverse}
 use Prim.Native.Nat.{ℕ, suc, _+_, _*_, _^_, _≤_, _<_}
 use lib.Bits.{bitXor}
+use lib.ListN.{length}
 use Rattle.octets.specs.Bits.{digitsOf, valueOf}
 
 -- a coefficient times g
@@ -35,6 +36,12 @@ pub record Degree (g k : ℕ) : Type 0 where
 pub record Remainder (k g : ℕ) (bs : List ℕ) (r : ℕ) : Type 0 where
   pub quotient : List Bool
   pub divided : polynomial bs * 2 ^ k ≡ bitXor (times quotient g) r
+  pub below : r < 2 ^ k
+
+-- the same of bits that follow others: the start is what was left of those, so it stands above the bits
+pub record RemainderFrom (k g start : ℕ) (bs : List ℕ) (r : ℕ) : Type 0 where
+  pub quotient : List Bool
+  pub divided : bitXor (start * 2 ^ length bs) (polynomial bs * 2 ^ k) ≡ bitXor (times quotient g) r
   pub below : r < 2 ^ k
 
 -- n is a multiple of g

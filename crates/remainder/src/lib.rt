@@ -1,13 +1,14 @@
 // Check bits: the remainder of a polynomial division over GF(2) (SCOPE, "The activation frame"; 000, clause 4.1.3).
 ghost use mathlib.Core.Path.{_≡_};
-ghost use mathlib.Core.Logic.{_⊎_};
-ghost use mathlib.Core.List.{reverse};
-ghost use Prim.Native.Nat.{_+_, _-_, _*_, _^_, _<_, _≤_};
+ghost use mathlib.Core.List.{_++_, reverse};
+ghost use Prim.Native.Nat.{ℕ, _+_, _*_, _%_, _^_, _<_, _≤_};
+ghost use lib.Bits.{bitXor};
 ghost use lib.ListN.{length};
+ghost use Rattle.answer.specs.Answer.{answer};
 ghost use Rattle.octets.specs.Bits.{digitsOf, valueOf, bitsOf, part};
 ghost use Rattle.remainder.specs.Division.{Degree, generator};
 ghost use Rattle.remainder.specs.Register.{stepOf, registerOf};
-ghost use Rattle.remainder.specs.Promises.{CheckBits};
+ghost use Rattle.remainder.specs.Promises.{CheckBits, startRefusals, FromStart};
 
 // D^16 + D^12 + D^5 + 1, each power a digit.
 const GENERATOR: u32 = 0x11021;
@@ -17,7 +18,7 @@ const DEGREE: u32 = 16;
 
 // The register one bit further, for a generator of that degree.
 fn step(register: u32, bit: u32, generator: u32, degree: u32) -> u32
-    requires { ⌜ (1 ≤ degree) × (degree ≤ 31) × (register < 2 ^ degree) × (bit < 2) × Degree generator degree ⌝ }
+    requires { ⌜ (1 ≤ degree) × (degree ≤ 16) × (register < 2 ^ degree) × (bit < 2) × Degree generator degree ⌝ }
     ensures { λ r. ⌜ r ≡ stepOf degree generator register bit ⌝ }
 {
     let size = 1u32 << degree;
@@ -26,78 +27,180 @@ fn step(register: u32, bit: u32, generator: u32, degree: u32) -> u32
 }
 
 // The bits of a word.
-const WORD: u32 = 32;
+const WORD: u32 = 64;
 
-// Places that lie so far ahead are taken bit by bit.
-const FAR: usize = 9223372036854775808;
+// So many bits or more have a word behind the next octet's beginning.
+const WORDS: u32 = 71;
 
-// The register 32 bits further, both turned: the first of the bits at weight 1, and the register's highest digit too. Then a division
-// by D^16 + D^12 + D^5 + 1 goes from the low end: q is the quotient's word, and what reaches over the word is what is left.
-fn word_step(turned: u32, bits: u32) -> u32
-    requires { ⌜ turned < 2 ^ 16 ⌝ }
-    ensures { λ r. ⌜ r ≡ valueOf (reverse (digitsOf 16 (registerOf 16 generator (valueOf (reverse (digitsOf 16 turned))) (digitsOf 32 bits)))) ⌝ }
+// The word's share of the quotient by the generator's fourth power, turned: 1 + D^16 + D^44 + D^64 from the low end, the first of the bits
+// at weight 1. Its square adds D^32, and that one's nothing within the word.
+fn fourth(x: u64) -> u64
+    ensures { λ r. ⌜ bitXor (bitXor r (r * 2 ^ 16 % 2 ^ 64)) (r * 2 ^ 44 % 2 ^ 64) ≡ x ⌝ }
 {
-    let u = turned ^ bits;
-    let c = u ^ (u << 16);
-    let b = (c ^ (c << 8)) ^ (c << 22);
+    let c = x ^ (x << 32);
+    (c ^ (c << 16)) ^ (c << 44)
+}
+
+// The word that stands for x 64 bits further on: what reaches over the word is left of it by the generator's fourth power, so by the
+// generator too.
+fn folded(x: u64) -> u64
+    ensures { λ r. ⌜ ((w : ℕ) → w < 2 ^ 64 → registerOf 16 generator 0 (digitsOf 64 x ++ digitsOf 64 w) ≡ registerOf 16 generator 0 (digitsOf 64 (bitXor r w))) ⌝ }
+{
+    let q = fourth(x);
+    ((q >> 48) ^ (q >> 20)) ^ q
+}
+
+// The register after the 64 bits of x, from zero, turned: the quotient by the generator itself, and what reaches over.
+fn settled(x: u64) -> u64
+    ensures { λ r. ⌜ r ≡ valueOf (reverse (digitsOf 16 (registerOf 16 generator 0 (digitsOf 64 x)))) ⌝ }
+{
+    let c = fourth(x);
+    let b = ((c ^ (c << 8)) ^ (c << 22)) ^ (c << 32);
     let q = ((b ^ (b << 4)) ^ (b << 11)) ^ (b << 16);
-    ((q >> 28) ^ (q >> 21)) ^ (q >> 16)
+    ((q >> 60) ^ (q >> 53)) ^ (q >> 48)
 }
 
-// The whole words among the n bits from place `at` on; none where some of the bits are not there.
-fn words(s: &[u8], at: usize, n: u32) -> u32
-    ensures { λ r. ⌜ (32 * r ≤ n) × ((r ≡ 0) ⊎ ((at + 32 * r < 2 ^ 64) × (at + 32 * r ≤ 8 * length (now (s .entry))))) ⌝ }
+// The word that stands for x and the n low digits of t behind it: both moved up to the end of two words, and the first of them folded.
+fn joined(x: u64, t: u64, n: u32) -> u64
+    requires { ⌜ (1 ≤ n) × (n < 64) ⌝ }
+    ensures { λ r. ⌜ registerOf 16 generator 0 (digitsOf 64 x ++ digitsOf n t) ≡ registerOf 16 generator 0 (digitsOf 64 r) ⌝ }
 {
-    if n < WORD {
-        return 0;
-    }
-    if FAR <= at {
-        return 0;
-    }
-    if !octets::has(s, at, n - 1) {
-        return 0;
-    }
-    n / WORD
+    let low = x << (WORD - n);
+    let high = (t << (WORD - n)) | (x >> n);
+    folded(low) ^ high
 }
 
-// The register after so many words from place `at` on.
-fn by_words(register: u32, s: &[u8], at: usize, count: u32) -> u32
-    requires { ⌜ (register < 2 ^ 16) × ((count ≡ 0) ⊎ ((at + 32 * count < 2 ^ 64) × (at + 32 * count ≤ 8 * length (now s)))) ⌝ }
-    ensures { λ r. ⌜ r ≡ registerOf 16 generator register (part at (32 * count) (bitsOf (now (s .entry)))) ⌝ }
+// The word that stands for a start and so many words from octet i on.
+fn words(start: u32, s: &[u8], i: usize, count: usize) -> u64
+    requires { ⌜ (start < 2 ^ 16) × (1 ≤ count) × (i + 8 * count ≤ length (now s)) ⌝ }
+    ensures { λ r. ⌜ registerOf 16 generator start (part (8 * i) (64 * count) (bitsOf (now (s .entry)))) ≡ registerOf 16 generator 0 (digitsOf 64 r) ⌝ }
 {
-    let mut turned = bitfields::turned(DEGREE, register);
-    let mut k: u32 = 0;
+    let mut x = octets::word(s, i) ^ (bitfields::turned(DEGREE, start) as u64);
+    let mut k: usize = 1;
     while k < count {
-        let bits = bitfields::field(s, at + (WORD as usize) * (k as usize), WORD);
-        turned = word_step(turned, bits);
+        let w = octets::word(s, i + 8 * k);
+        x = folded(x) ^ w;
         k += 1;
     }
-    bitfields::turned(DEGREE, turned)
+    x
 }
 
-// The register after the bits from the one `from` places behind place `at` on, up to n places behind it. Nothing past the end counts.
-fn by_bits(start: u32, s: &[u8], at: usize, from: u32, n: u32) -> u32
-    requires { ⌜ (start < 2 ^ 16) × (from ≤ n) ⌝ }
-    ensures { λ r. ⌜ r ≡ registerOf 16 generator start (part (at + from) (n - from) (bitsOf (now (s .entry)))) ⌝ }
+// The word that stands for x and the n bits from octet i on.
+fn rest(x: u64, s: &[u8], i: usize, n: u32) -> u64
+    requires { ⌜ (n < 64) × (8 * i + n ≤ 8 * length (now s)) ⌝ }
+    ensures { λ r. ⌜ registerOf 16 generator 0 (digitsOf 64 x ++ part (8 * i) n (bitsOf (now (s .entry)))) ≡ registerOf 16 generator 0 (digitsOf 64 r) ⌝ }
+{
+    if n == 0 {
+        return x;
+    }
+    joined(x, octets::word(s, i), n)
+}
+
+// The register after so many words from octet i on, and n bits behind them.
+fn by_words(start: u32, s: &[u8], i: usize, count: usize, n: u32) -> u32
+    requires { ⌜ (start < 2 ^ 16) × (1 ≤ count) × (n < 64) × (8 * i + (64 * count + n) ≤ 8 * length (now s)) ⌝ }
+    ensures { λ r. ⌜ r ≡ registerOf 16 generator start (part (8 * i) (64 * count + n) (bitsOf (now (s .entry)))) ⌝ }
+{
+    let x = words(start, s, i, count);
+    let y = rest(x, s, i + 8 * count, n);
+    bitfields::turned(DEGREE, settled(y) as u32)
+}
+
+// The register after the n bits from place `at` on, bit by bit. Nothing past the end counts.
+fn by_bits(generator: u32, degree: u32, start: u32, s: &[u8], at: usize, n: u32) -> u32
+    requires { ⌜ (1 ≤ degree) × (degree ≤ 16) × Degree generator degree × (start < 2 ^ degree) ⌝ }
+    ensures { λ r. ⌜ r ≡ registerOf degree generator start (part at n (bitsOf (now (s .entry)))) ⌝ }
 {
     let mut register = start;
-    let mut k = from;
+    let mut k: u32 = 0;
     while k < n {
         if !octets::has(s, at, k) {
             return register;
         }
         let b = octets::bit(s, at, k) as u32;
-        register = step(register, b, GENERATOR, DEGREE);
+        register = step(register, b, generator, degree);
         k += 1;
     }
     register
+}
+
+// The register of D^16 + D^12 + D^5 + 1 after the n bits from place `at` on: up to an octet, by words, and the rest.
+fn after(start: u32, s: &[u8], at: usize, n: u32) -> u32
+    requires { ⌜ start < 2 ^ 16 ⌝ }
+    ensures { λ r. ⌜ r ≡ registerOf 16 generator start (part at n (bitsOf (now (s .entry)))) ⌝ }
+{
+    if n < WORDS {
+        return by_bits(GENERATOR, DEGREE, start, s, at, n);
+    }
+    if !octets::has(s, at, n - 1) {
+        return by_bits(GENERATOR, DEGREE, start, s, at, n);
+    }
+    let lead = ((8 - at % 8) % 8) as u32;
+    let register = by_bits(GENERATOR, DEGREE, start, s, at, lead);
+    let octet = at / 8 + (at % 8 + 7) / 8;
+    let rest = n - lead;
+    by_words(register, s, octet, (rest / WORD) as usize, rest % WORD)
 }
 
 // The check bits of the n bits from place `at` on, the first of them highest; c1 is the digit of weight 2^15. Nothing past the end counts.
 pub fn check_bits(s: &[u8], at: usize, n: u32) -> u32
     ensures { λ r. ⌜ CheckBits (now (s .entry)) at n r ⌝ }
 {
-    let count = words(s, at, n);
-    let register = by_words(0, s, at, count);
-    by_bits(register, s, at, WORD * count, n)
+    after(0, s, at, n)
+}
+
+// What `from_start` gives: the answer, and the remainder.
+pub struct Left {
+    pub answer: u32,
+    pub remainder: u32,
+}
+
+// What `from_start` refuses, or 0.
+fn refusal(generator: u32, degree: u32, start: u32) -> u32
+    ensures { λ r. ⌜ r ≡ answer (startRefusals generator degree start) ⌝ }
+{
+    if degree == 0 {
+        return answer::RANGE;
+    }
+    if DEGREE < degree {
+        return answer::RANGE;
+    }
+    let size = 1u32 << degree;
+    if generator < size {
+        return answer::RANGE;
+    }
+    if size * 2 <= generator {
+        return answer::RANGE;
+    }
+    if generator % 2 == 0 {
+        return answer::RANGE;
+    }
+    if size <= start {
+        return answer::RANGE;
+    }
+    answer::DONE
+}
+
+// The remainder of the n bits from place `at` on by any generator of degree 1 to 16 with a constant term, behind a start: what was left of
+// bits before them, or any number below 2 to the degree. Nothing past the end counts.
+pub fn from_start(generator: u32, degree: u32, start: u32, s: &[u8], at: usize, n: u32) -> Left
+    ensures { λ r. ⌜ FromStart generator degree start (now (s .entry)) at n r ⌝ }
+{
+    let no = refusal(generator, degree, start);
+    if no != answer::DONE {
+        return Left {
+            answer: no,
+            remainder: 0,
+        };
+    }
+    if generator == GENERATOR {
+        return Left {
+            answer: answer::DONE,
+            remainder: after(start, s, at, n),
+        };
+    }
+    Left {
+        answer: answer::DONE,
+        remainder: by_bits(generator, degree, start, s, at, n),
+    }
 }

@@ -1,8 +1,8 @@
-// The sorter: `sorter [--like FILE] FILE...`. A line for each card's frame, then the totals. What a frame is found to be is crate verdict's, the
-// texts are those of cardline and totals; here files are only read and texts written.
+// The sorter: `sorter [--like FILE] [--csv] [--status] [--] FILE...`. A line for each card's frame, then the totals. What a frame is found to be
+// is crate verdict's, the texts are those of cardline and totals; here files are only read and texts written.
 use libc::STDERR_FILENO;
 use libc::STDOUT_FILENO;
-ghost use Prim.Native.Nat.{_+_, _≤_, _<_};
+ghost use Prim.Native.Nat.{_≤_, _<_};
 ghost use mathlib.Core.Path.{_≡_};
 ghost use lib.ListN.{length};
 
@@ -11,14 +11,191 @@ const MOST: usize = 65536;
 // A list of more cards than this is long: it shows how far it has come.
 const SHORT: usize = 20;
 // One more than a frame's octets, so that more than 529 show.
-const READ: usize = 530;
+const READ: usize = verdict::MOST_OCTETS;
+// One more than can be read: a read failed.
+const FAILED: usize = READ + 1;
+// Where the status goes that --status asks for.
+const STATUS_FILENO: i32 = 3;
+// The status where the sorter is called wrongly, the reference does not serve, or standard output cannot be written. Else it is that of totals.
+const WRONG: u32 = totals::NOT_READ;
+
+// What the arguments ask for: to sort, or one of the others, the first of which counts.
+const SORT: u32 = 0;
+
+const HELP: u32 = 1;
+
+const VERSION: u32 = 2;
+// An option that the sorter does not have.
+const UNKNOWN: u32 = 3;
+// --like with no FILE behind it.
+const NO_FILE: u32 = 4;
+// --like a second time.
+const TWICE: u32 = 5;
+
+const TOO_MANY: u32 = 6;
+
+// What the arguments ask for.
+struct Asked {
+    what: u32,
+    // The place of the argument that is wrong.
+    at: usize,
+    // The place of the reference's name; 0 where there is none.
+    like: usize,
+    // Whether that is what comes next.
+    waits: bool,
+    cards: usize,
+    csv: bool,
+    status: bool,
+    // Whether -- has come.
+    ended: bool,
+}
+
+// The same, asking for this, where it is the first such argument.
+fn asks(mut asked: Asked, what: u32, at: usize) -> Asked
+    ensures { λ r. ⌜ r .cards ≡ asked .cards ⌝ }
+{
+    if asked.what == SORT {
+        asked.what = what;
+        asked.at = at;
+    }
+    asked
+}
+
+// With --like.
+fn with_like(mut asked: Asked, at: usize) -> Asked
+    ensures { λ r. ⌜ r .cards ≡ asked .cards ⌝ }
+{
+    if asked.like != 0 {
+        return asks(asked, TWICE, at);
+    }
+    asked.waits = true;
+    asked
+}
+
+// With one option more.
+fn with_option(mut asked: Asked, option: u32, at: usize) -> Asked
+    ensures { λ r. ⌜ r .cards ≡ asked .cards ⌝ }
+{
+    if option == options::STATUS {
+        asked.status = true;
+        return asked;
+    }
+    if option == options::CSV {
+        asked.csv = true;
+        return asked;
+    }
+    if option == options::END {
+        asked.ended = true;
+        return asked;
+    }
+    if option == options::LIKE {
+        return with_like(asked, at);
+    }
+    if option == options::HELP {
+        return asks(asked, HELP, at);
+    }
+    if option == options::VERSION {
+        return asks(asked, VERSION, at);
+    }
+    asks(asked, UNKNOWN, at)
+}
+
+// With one card more, whose file the argument at this place names.
+fn with_card(mut asked: Asked, at: usize, files: &mut [usize]) -> Asked
+    requires { ⌜ (length (now files) ≡ 65536) × (asked .cards ≤ 65536) ⌝ }
+    ensures { λ r. ⌜ r .cards ≤ 65536 ⌝ }
+{
+    let n = asked.cards;
+    if n < MOST {
+        files[n] = at;
+        asked.cards = n + 1;
+        return asked;
+    }
+    asks(asked, TOO_MANY, at)
+}
+
+// With one argument more, which is this option or a word.
+fn with(mut asked: Asked, option: u32, at: usize, files: &mut [usize]) -> Asked
+    requires { ⌜ (length (now files) ≡ 65536) × (asked .cards ≤ 65536) ⌝ }
+    ensures { λ r. ⌜ r .cards ≤ 65536 ⌝ }
+{
+    let is_word = option == options::WORD || asked.ended;
+    if !asked.waits {
+        if is_word {
+            return with_card(asked, at, files);
+        }
+        return with_option(asked, option, at);
+    }
+    asked.waits = false;
+    if is_word {
+        asked.like = at;
+        return asked;
+    }
+    with_option(asks(asked, NO_FILE, at), option, at)
+}
+
+// Which option argument i is. One that is too long to be one is a word.
+fn option_at(i: usize) -> u32 {
+    let mut word = io::buffer();
+    let n = os::arg(i, &mut word);
+    options::read(&word[..n])
+}
+
+// What all arguments ask for; the places of the cards' names are put into files.
+fn arguments(count: usize, files: &mut [usize]) -> Asked
+    requires { ⌜ length (now files) ≡ 65536 ⌝ }
+    ensures { λ r. ⌜ r .cards ≤ 65536 ⌝ }
+{
+    let mut asked = Asked {
+        what: SORT,
+        at: 0,
+        like: 0,
+        waits: false,
+        cards: 0,
+        csv: false,
+        status: false,
+        ended: false,
+    };
+    let mut i = 1;
+    while i < count {
+        asked = with(asked, option_at(i), i, files);
+        i += 1;
+    }
+    asked
+}
 
 // Writes text to standard output, or says that it cannot.
-fn say(text: &[u8]) {
-    let is_written = io::write_all(STDOUT_FILENO, text);
-    if !is_written {
-        os::fail(b"sorter: standard output");
+fn say(text: &[u8]) -> bool {
+    if io::write_all(STDOUT_FILENO, text) {
+        return true;
     }
+    os::fail(b"sorter: standard output");
+    false
+}
+
+// Writes a line of cells to standard output, in comma-separated form where that is asked for: 16,384 octets are room for a line of up to
+// 5,000 (cardline's theorem csv-fits).
+fn say_cells(line: &[u8], csv: bool) -> bool {
+    if !csv {
+        return say(line);
+    }
+    let mut room = [0u8; 16384];
+    let n = cardline::csv(line, &mut room);
+    say(&room[..n])
+}
+
+// Writes the line above the cards' lines.
+fn head(given: bool, csv: bool) -> bool {
+    let mut room = [0u8; 128];
+    let n = cardline::header(given, &mut room);
+    say_cells(&room[..n], csv)
+}
+
+// Writes a card's line: a name of at most 4,096 octets leaves room for the rest (cardline's theorem line-fits).
+fn tell(name: &[u8], v: verdict::Verdict, csv: bool) -> bool {
+    let mut room = [0u8; 8192];
+    let n = cardline::line(name, v, &mut room);
+    say_cells(&room[..n], csv)
 }
 
 // Reads up to 530 octets of an open file, and answers how many came; 531 where a read fails.
@@ -31,7 +208,7 @@ fn fill(fd: i32, octets: &mut [u8]) -> usize
         let rest = &mut octets[n..];
         let got = libc::read(fd, rest);
         if got < 0 {
-            return 531;
+            return FAILED;
         }
         let m = io::count(got, rest);
         if m == 0 {
@@ -57,17 +234,6 @@ fn look(name: &[u8], customer: verdict::Customer) -> verdict::Verdict {
     verdict::judge(&octets[..n], customer)
 }
 
-// Writes a card's line: a name of at most 4,096 octets leaves room for the rest.
-fn tell(fd: i32, name: &[u8], v: verdict::Verdict) {
-    let mut room = [0u8; 8192];
-    let n = cardline::line(name, v, &mut room);
-    if fd == STDOUT_FILENO {
-        say(&room[..n]);
-        return;
-    }
-    io::write_all(fd, &room[..n]);
-}
-
 // Shows which card is being looked at.
 fn show(number: usize, cards: usize) {
     io::write_all(STDERR_FILENO, b"\r\x1b[Ksorter: card ");
@@ -77,33 +243,17 @@ fn show(number: usize, cards: usize) {
 }
 
 // Takes that away again.
-fn hide() {
-    io::write_all(STDERR_FILENO, b"\r\x1b[K");
+fn hide(shown: bool) {
+    if shown {
+        io::write_all(STDERR_FILENO, b"\r\x1b[K");
+    }
 }
 
 // The same before a line that goes to a terminal too.
 fn clear(shown: bool) {
-    if shown {
-        if libc::isatty(STDOUT_FILENO) == 1 {
-            hide();
-        }
+    if libc::isatty(STDOUT_FILENO) == 1 {
+        hide(shown);
     }
-}
-
-// Looks at the card whose file argument i names, and writes its line. A name that is too long for a path is cut, and its file unread.
-fn card(i: usize, shown: bool, customer: verdict::Customer) -> verdict::Verdict {
-    let mut path = io::buffer();
-    let n = os::arg(i, &mut path);
-    if os::errno() != 0 {
-        let cut = verdict::unread(customer);
-        clear(shown);
-        tell(STDOUT_FILENO, &path, cut);
-        return cut;
-    }
-    let v = look(&path[..n], customer);
-    clear(shown);
-    tell(STDOUT_FILENO, &path[..n], v);
-    v
 }
 
 // Whether a list of so many cards shows how far it has come: a long one does, where standard error is a terminal.
@@ -114,133 +264,218 @@ fn is_shown(cards: usize) -> bool {
     libc::isatty(STDERR_FILENO) == 1
 }
 
-// Writes the line above the cards' lines.
-fn head(given: bool) {
-    let mut room = [0u8; 128];
-    let n = cardline::header(given, &mut room);
-    say(&room[..n]);
+// A card's verdict, and whether its line is written.
+struct Line {
+    rank: u32,
+    written: bool,
 }
 
-// Writes the totals.
-fn total(given: bool, answers: &[u32], alikes: &[u32], blikes: &[u32]) {
-    let mut room = [0u8; 1024];
-    let n = totals::totals(given, answers, alikes, blikes, &mut room);
-    say(&room[..n]);
+// Writes the line of a card that is found to be this.
+fn done(name: &[u8], v: verdict::Verdict, shown: bool, csv: bool) -> Line {
+    clear(shown);
+    Line {
+        rank: v.rank,
+        written: tell(name, v, csv),
+    }
 }
 
-// One card: shows its number where that is asked for, and looks at it.
-fn turn(
-    first: usize,
-    k: usize,
-    cards: usize,
-    shown: bool,
-    customer: verdict::Customer,
-) -> verdict::Verdict
-    requires { ⌜ (first ≤ 3) × (k < 65536) ⌝ }
+// Looks at the card whose file argument i names, and writes its line. A name that is too long for a path is cut, and its file unread.
+fn card(i: usize, shown: bool, csv: bool, customer: verdict::Customer) -> Line {
+    let mut path = io::buffer();
+    let n = os::arg(i, &mut path);
+    if os::errno() != 0 {
+        return done(&path, verdict::unread(customer), shown, csv);
+    }
+    let v = look(&path[..n], customer);
+    done(&path[..n], v, shown, csv)
+}
+
+// Shows a card's number where that is asked for.
+fn number(shown: bool, k: usize, cards: usize)
+    requires { ⌜ k < 65536 ⌝ }
 {
     if shown {
         show(k + 1, cards);
     }
-    card(first + k, shown, customer)
 }
 
-// Sorts the cards whose files the arguments from `first` on name.
-fn sort(first: usize, cards: usize, customer: verdict::Customer)
-    requires { ⌜ (first ≤ 3) × (cards ≤ 65536) ⌝ }
+// Looks at the cards whose names stand at these places, and puts their verdicts into ranks. Answers whether all lines are written.
+fn look_at(files: &[usize], csv: bool, customer: verdict::Customer, ranks: &mut [u32]) -> bool
+    requires { ⌜ (length (now files) ≤ 65536) × (length (now ranks) ≡ length (now files)) ⌝ }
 {
-    let mut answers = [0u32; MOST];
-    let mut alikes = [0u32; MOST];
-    let mut blikes = [0u32; MOST];
-    let shown = is_shown(cards);
-    head(customer.given);
+    let shown = is_shown(files.len());
     let mut k = 0;
-    while k < cards {
-        let v = turn(first, k, cards, shown, customer);
-        answers[k] = v.answer;
-        alikes[k] = v.alike;
-        blikes[k] = v.blike;
+    while k < files.len() {
+        number(shown, k, files.len());
+        let found = card(files[k], shown, csv, customer);
+        if !found.written {
+            hide(shown);
+            return false;
+        }
+        ranks[k] = found.rank;
         k += 1;
     }
-    if shown {
-        hide();
-    }
-    total(
-        customer.given,
-        &answers[..cards],
-        &alikes[..cards],
-        &blikes[..cards],
-    );
+    hide(shown);
+    true
 }
 
-// Sorts them, or says that there are none or too many.
-fn run(first: usize, count: usize, customer: verdict::Customer)
-    requires { ⌜ first ≤ 3 ⌝ }
+// Writes the totals: 16,384 octets are room for them (totals' theorem totals-fit). With comma-separated cards they go to standard error.
+fn total(given: bool, csv: bool, ranks: &[u32]) -> bool {
+    let mut room = [0u8; 16384];
+    let n = totals::totals(given, ranks, &mut room);
+    if !csv {
+        return say(&room[..n]);
+    }
+    io::write_all(STDERR_FILENO, &room[..n]);
+    true
+}
+
+// Sorts the cards whose names stand at these places, and answers the status.
+fn sort(files: &[usize], csv: bool, customer: verdict::Customer) -> u32
+    requires { ⌜ length (now files) ≤ 65536 ⌝ }
 {
-    if count <= first {
-        usage();
-        return;
+    let mut room = [0u32; MOST];
+    let ranks = &mut room[..files.len()];
+    if !head(customer.given, csv) {
+        return WRONG;
     }
-    let cards = count - first;
-    if MOST < cards {
-        io::write_all(STDERR_FILENO, b"sorter: more than 65536 files\n");
-        return;
+    if !look_at(files, csv, customer, ranks) {
+        return WRONG;
     }
-    sort(first, cards, customer);
+    if !total(customer.given, csv, ranks) {
+        return WRONG;
+    }
+    totals::status(customer.given, ranks)
 }
 
-// How the sorter is called.
-fn usage() {
-    io::write_all(STDERR_FILENO, b"usage: sorter [--like FILE] FILE...\n");
+// Says what a reference that does not serve is found to be.
+fn refer(name: &[u8], v: verdict::Verdict) -> u32 {
+    let mut room = [0u8; 8192];
+    let n = cardline::reference(name, v, &mut room);
+    io::write_all(STDERR_FILENO, &room[..n]);
+    WRONG
 }
 
-// Whether argument i is the word.
-fn is_word(i: usize, word: &[u8]) -> bool {
-    let mut got = [0u8; 8];
-    let n = os::arg(i, &mut got);
-    check::same(&got[..n], word)
-}
-
-// Whether argument i begins as an option does. A file whose name begins so is given as ./-name.
-fn is_option(i: usize) -> bool {
+// Sorts beside the customer whose reference frame argument i names.
+fn sort_like(i: usize, files: &[usize], csv: bool) -> u32
+    requires { ⌜ length (now files) ≤ 65536 ⌝ }
+{
     let mut path = io::buffer();
     let n = os::arg(i, &mut path);
-    if n == 0 {
-        return false;
-    }
-    path[0] == b'-'
-}
-
-// Sorts beside the customer whose reference frame argument 2 names.
-fn run_like(count: usize) {
-    let mut path = io::buffer();
-    let n = os::arg(2, &mut path);
     let v = look(&path[..n], verdict::nobody());
     let customer = verdict::reference(v);
     if !customer.given {
-        io::write_all(
-            STDERR_FILENO,
-            b"sorter: the reference is not a training frame that reads:\n",
-        );
-        tell(STDERR_FILENO, &path[..n], v);
-        return;
+        return refer(&path[..n], v);
     }
-    run(3, count, customer);
+    sort(files, csv, customer)
 }
 
-// Sorts as the arguments say.
+// Says what is wrong with which word, and how the sorter is called.
+fn refuse(word: &[u8], why: &[u8]) -> u32 {
+    io::write_all(STDERR_FILENO, b"sorter: ");
+    io::write_all(STDERR_FILENO, word);
+    io::write_all(STDERR_FILENO, why);
+    io::write_all(
+        STDERR_FILENO,
+        b"\nusage: sorter [--like FILE] [--csv] [--status] [--] FILE...\n",
+    );
+    WRONG
+}
+
+// Says that argument i is no option of the sorter.
+fn refuse_option(i: usize) -> u32 {
+    let mut word = io::buffer();
+    let n = os::arg(i, &mut word);
+    refuse(
+        &word[..n],
+        b": no such option; a file of that name is given as ./NAME",
+    )
+}
+
+// The status of what is written to standard output alone.
+fn printed(text: &[u8]) -> u32 {
+    if say(text) { totals::FINE } else { WRONG }
+}
+
+// How the sorter is called.
+fn help() -> u32 {
+    printed(
+        b"usage: sorter [--like FILE] [--csv] [--status] [--] FILE...\n\
+          Sorts SDSL line cards: each FILE holds a card's captured activation frame, 529 octets.\n\
+          Standard output has a line for each card and then the totals.\n\
+          \x20 --like FILE  compares A and B with those of the customer's frame in FILE\n\
+          \x20 --csv        comma-separated, for a spreadsheet; the totals go to standard error\n\
+          \x20 --status     writes a digit to descriptor 3: 0 all good or matching, 1 not,\n\
+          \x20              2 wrong use, or a file that cannot be read or written\n\
+          \x20 --version    prints the version\n\
+          \x20 --help       prints this\n",
+    )
+}
+
+// The version.
+fn version() -> u32 {
+    if !say(b"sdsl-sorter ") {
+        return WRONG;
+    }
+    if !say(&options::RELEASE) {
+        return WRONG;
+    }
+    printed(b"\n")
+}
+
+// Does what is asked with the cards at these places, and answers the status.
+fn run(what: u32, at: usize, like: usize, csv: bool, files: &[usize]) -> u32
+    requires { ⌜ length (now files) ≤ 65536 ⌝ }
+{
+    match what {
+        HELP => help(),
+        VERSION => version(),
+        UNKNOWN => refuse_option(at),
+        NO_FILE => refuse(b"--like", b": the reference's FILE is missing"),
+        TWICE => refuse(b"--like", b" stands twice"),
+        TOO_MANY => refuse(b"more than 65536", b" cards"),
+        _ => {
+            if files.len() == 0 {
+                return refuse(b"no", b" cards");
+            }
+            if like == 0 {
+                return sort(files, csv, verdict::nobody());
+            }
+            sort_like(like, files, csv)
+        },
+    }
+}
+
+// A status as its digit.
+fn digit(status: u32) -> u8 {
+    match status {
+        totals::FINE => b'0',
+        totals::NOT_FINE => b'1',
+        _ => b'2',
+    }
+}
+
+// What is asked for once all arguments are read.
+fn asked_for(asked: Asked) -> u32 {
+    if asked.what != SORT {
+        return asked.what;
+    }
+    if asked.waits { NO_FILE } else { SORT }
+}
+
+// Does as the arguments say.
 fn main() {
-    let count = os::arg_count();
-    if is_word(1, b"--like") {
-        if count < 4 {
-            usage();
-            return;
-        }
-        run_like(count);
-        return;
+    let mut places = [0usize; MOST];
+    let asked = arguments(os::arg_count(), &mut places);
+    let cards = asked.cards;
+    let status = run(
+        asked_for(asked),
+        asked.at,
+        asked.like,
+        asked.csv,
+        &places[..cards],
+    );
+    if asked.status {
+        io::write_all(STATUS_FILENO, &[digit(status)]);
     }
-    if is_option(1) {
-        usage();
-        return;
-    }
-    run(1, count, verdict::nobody());
 }

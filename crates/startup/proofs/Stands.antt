@@ -5,15 +5,15 @@ use native.Mathlib.Nat.{le-trans}
 use mathlib.Core.Path.{_≡_, refl, sym, ap, subst, _∙_}
 use mathlib.Core.Logic.{inl, inr, ⊎-elim}
 use mathlib.Core.List.{List, [], _∷_}
-use mathlib.Core.Bool.{Bool, true, false, cond}
+use mathlib.Core.Bool.{Bool, true, false, cond, false≢true}
 use lib.Dec.{leb}
 use Rattle.supervisor.specs.declared.Supervisor.{Supervisor}
 use Rattle.supervisor.specs.Limits.{settlingTicks}
-use Rattle.supervisor.specs.Phases.{Ready, Settling, Valid, inAttempt}
+use Rattle.supervisor.specs.Phases.{Ready, Settling, Valid, Exception, inAttempt}
 use Rattle.supervisor.specs.Step.{fresh}
 use Rattle.supervisor.proofs.Laws.{by-cases}
-use Rattle.startup.specs.Attempts.{at, one, count, Need, shown, InOrder, FirstLacking, Needs, ntuNeeds, ltuNeeds, needsOf, meant, all, InTime, StillOpen, EndsInData, OpensAt}
-use Rattle.startup.specs.Stands.{Stands, ready, waiting, trying, settling, valid, silent}
+use Rattle.startup.specs.Attempts.{at, one, count, Need, shown, InOrder, FirstLacking, Needs, ntuNeeds, ltuNeeds, needsOf, meant, all, InTime, StillOpen, EndsInData, SilenceBegins, OpensAt}
+use Rattle.startup.specs.Stands.{Stands, ready, waiting, trying, settling, valid, silent, Exactly}
 use Rattle.startup.specs.Make.{after, answerTo, Taken}
 use Rattle.startup.proofs.History.{Reached, begun, went, reached-le, not-all}
 use Rattle.startup.proofs.Unique.{Hist, ready as readyH, await, trying as tryingH, done, failed, Holds, Sound, histOf, unique, holds}
@@ -162,6 +162,88 @@ module _ (b : Bool) (sil : ℕ) (pos : 0 < sil) (l : List ℕ) (n ph t : ℕ) (x
       let w = is-open (kOf b sil) (sound b sil pos) l m n o y in
       let e = says-once (kOf b sil) (sound b sil pos) l n ph t _ _ x (says (kOf b sil) (sound b sil pos) l n (tryingH (w .0 .0) (w .0 .1) (w .0 .2) m) (w .1)) in
       (ap inAttempt (e .0) ∙ reached-suffix (kOf b sil) l m (InAttempt b sil) (in-attempt b sil) (w .0 .3) .0 .0, e .1)
+
+  in-said : inAttempt ph ≡ true → (m : ℕ) × OpensAt (kOf b sil) l m × StillOpen (kOf b sil) l m n
+  in-said = go b ph t x
+    where
+      go : (b : Bool) (ph t : ℕ) → Stands (kOf b sil) l n ph t → inAttempt ph ≡ true → (m : ℕ) × OpensAt (kOf b sil) l m × StillOpen (kOf b sil) l m n
+      go b ph t (ready x₀ x₁ x₂ x₃) e = absurd (false≢true e)
+      go true ph t (waiting x₀ x₁ x₂ x₃) e = absurd (false≢true e)
+      go false ph t (waiting x₀ x₁ x₂ x₃) e = absurd (false≢true e)
+      go b ph t (trying {m = m} o y f) e = (m, o, y)
+      go true ph t (settling o d h z f) e = absurd (false≢true e)
+      go false ph t (settling o d h z f) e = absurd (false≢true e)
+      go b ph t (valid o d h z f) e = absurd (false≢true e)
+      go true ph t (silent x₀ x₁ x₂ x₃) e = absurd (false≢true e)
+      go false ph t (silent x₀ x₁ x₂ x₃) e = absurd (false≢true e)
+
+  abbrev Settled : Needs → Type 0
+  Settled k = (m : ℕ) × (p : ℕ) × OpensAt k l m × EndsInData k l m p × (suc p ≤ n) × (count 8 l (suc p) n ≡ 0) × (shown (k .settling) l (suc p) n ≡ false)
+
+  abbrev Silent : Needs → Type 0
+  Silent k = (e : ℕ) × SilenceBegins k l e × (e ≤ n) × (count 8 l e n ≡ 0) × (shown (k .silence) l e n ≡ false)
+
+  -- a phase that is not an attempt's
+  not-open : (q : ℕ) → inAttempt q ≡ false → ph ≡ q → (m : ℕ) → OpensAt (kOf b sil) l m → StillOpen (kOf b sil) l m n → ⊥
+  not-open q z e m o y = false≢true (sym z ∙ ap inAttempt (sym e) ∙ open-then m o y .0)
+
+  settled-said : ph ≡ Settling → Settled (kOf b sil)
+  settled-said = go b ph t x not-open
+    where
+      go : (b : Bool) (ph t : ℕ) → Stands (kOf b sil) l n ph t
+          → ((q : ℕ) → inAttempt q ≡ false → ph ≡ q → (m : ℕ) → OpensAt (kOf b sil) l m → StillOpen (kOf b sil) l m n → ⊥) → ph ≡ Settling → Settled (kOf b sil)
+      go b ph t (ready x₀ x₁ x₂ x₃) w e = absurd (omega arith)
+      go true ph t (waiting x₀ x₁ x₂ x₃) w e = absurd (omega arith)
+      go false ph t (waiting x₀ x₁ x₂ x₃) w e = absurd (omega arith)
+      go b ph t (trying {m = m} o y f) w e = absurd (w Settling refl e m o y)
+      go b ph t (settling {m = m} {p = p} o d h z f) w e = (m, p, o, d, h, z, f)
+      go b ph t (valid o d h z f) w e = absurd (omega arith)
+      go true ph t (silent x₀ x₁ x₂ x₃) w e = absurd (omega arith)
+      go false ph t (silent x₀ x₁ x₂ x₃) w e = absurd (omega arith)
+
+  silent-said : ph ≡ Exception → Silent (kOf b sil)
+  silent-said = go b ph t x not-open
+    where
+      go : (b : Bool) (ph t : ℕ) → Stands (kOf b sil) l n ph t
+          → ((q : ℕ) → inAttempt q ≡ false → ph ≡ q → (m : ℕ) → OpensAt (kOf b sil) l m → StillOpen (kOf b sil) l m n → ⊥) → ph ≡ Exception → Silent (kOf b sil)
+      go b ph t (ready x₀ x₁ x₂ x₃) w e = absurd (omega arith)
+      go true ph t (waiting x₀ x₁ x₂ x₃) w e = absurd (omega arith)
+      go false ph t (waiting x₀ x₁ x₂ x₃) w e = absurd (omega arith)
+      go b ph t (trying {m = m} o y f) w e = absurd (w Exception refl e m o y)
+      go true ph t (settling o d h z f) w e = absurd (omega arith)
+      go false ph t (settling o d h z f) w e = absurd (omega arith)
+      go b ph t (valid o d h z f) w e = absurd (omega arith)
+      go b ph t (silent {e = e′} x₀ x₁ x₂ x₃) w e = (e′, x₀, x₁, x₂, x₃)
+
+  exactly : Exactly (kOf b sil) l n ph
+  exactly = record {
+    in-attempt = (in-said, λ w. open-then (w .0) (w .1) (w .2) .0);
+    in-settling = (
+      settled-said,
+      λ w. says-once (kOf b sil) (sound b sil pos) l n ph t _ _ x (settling (w .2) (w .3) (w .4) (w .5) (w .6)) .0 ∙ settling-phase b,
+    );
+    in-exception = (
+      silent-said,
+      λ w. says-once (kOf b sil) (sound b sil pos) l n ph t _ _ x (silent (w .1) (w .2) (w .3) (w .4)) .0 ∙ silence-phase b,
+    );
+  }
+    where
+      settling-phase : (b : Bool) → kOf b sil .settling .phase ≡ Settling
+      settling-phase true = refl
+      settling-phase false = refl
+
+      silence-phase : (b : Bool) → kOf b sil .silence .phase ≡ Exception
+      silence-phase true = refl
+      silence-phase false = refl
+
+pub stands-exactly : (end silence : ℕ) → end ≤ 1 → Taken silence → (l : List ℕ) (n ph t : ℕ) → Stands (needsOf end (meant silence)) l n ph t
+    → Exactly (needsOf end (meant silence)) l n ph
+stands-exactly end silence h x l n ph t =
+    either-end (λ e. Stands (needsOf e (meant silence)) l n ph t → Exactly (needsOf e (meant silence)) l n ph)
+    (λ s. exactly true (meant silence) pos l n ph t s) (λ s. exactly false (meant silence) pos l n ph t s) end h
+  where
+    pos : 0 < meant silence
+    pos = omega (arith, meant-range silence x .0)
 
 pub open-says : (end silence : ℕ) → end ≤ 1 → Taken silence → (l : List ℕ) (m n ph t : ℕ)
     → OpensAt (needsOf end (meant silence)) l m → StillOpen (needsOf end (meant silence)) l m n → Stands (needsOf end (meant silence)) l n ph t

@@ -1,10 +1,11 @@
 -- What a card shows at each moment, from the list alone: the phase and, in an attempt, the ticks since its opening. The list says one thing at
--- each moment (theorem `stands-once`), so "from .. until" below is exactly then.
+-- each moment (theorem `stands-once`), so "from .. until" below is exactly then (`Exactly`, theorem `stands-exactly`).
 use Prim.Native.Nat.{ℕ, suc, _≤_}
 use mathlib.Core.Path.{_≡_}
 use mathlib.Core.Bool.{true, false}
+use mathlib.Core.Logic.{_↔_}
 use mathlib.Core.List.{List}
-use Rattle.supervisor.specs.Phases.{Ready, Valid}
+use Rattle.supervisor.specs.Phases.{Ready, Settling, Valid, Exception, inAttempt}
 use Rattle.startup.specs.Attempts.{count, Need, shown, FirstLacking, Needs, all, StillOpen, EndsInData, ReadyAt, SilenceBegins, CountedOne, OpensAt}
 
 -- at the moment n the list l says this phase and these ticks, for an end that needs k
@@ -23,3 +24,13 @@ pub data Stands (k : Needs) (l : List ℕ) (n : ℕ) : ℕ → ℕ → Type 0 wh
       → Stands k l n Valid 0
   -- Exception, from where a silence begins until it has passed, or an 8 begins it again
   silent : {e : ℕ} → SilenceBegins k l e → e ≤ n → count 8 l e n ≡ 0 → shown (k .silence) l e n ≡ false → Stands k l n (k .silence .phase) 0
+
+-- what it means for the phase ph that the list says at the moment n
+pub record Exactly (k : Needs) (l : List ℕ) (n ph : ℕ) : Type 0 where
+  -- a phase of an attempt is shown exactly while the list has one open
+  pub in-attempt : (inAttempt ph ≡ true) ↔ ((m : ℕ) × OpensAt k l m × StillOpen k l m n)
+  -- Settling exactly from where one ends in data mode until an 8 or what Valid needs
+  pub in-settling : (ph ≡ Settling) ↔ ((m : ℕ) × (p : ℕ) × OpensAt k l m × EndsInData k l m p × (suc p ≤ n)
+      × (count 8 l (suc p) n ≡ 0) × (shown (k .settling) l (suc p) n ≡ false))
+  -- Exception exactly from where a silence begins until it has passed
+  pub in-exception : (ph ≡ Exception) ↔ ((e : ℕ) × SilenceBegins k l e × (e ≤ n) × (count 8 l e n ≡ 0) × (shown (k .silence) l e n ≡ false))

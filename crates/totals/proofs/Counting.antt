@@ -1,18 +1,19 @@
 -- Laws of the totals. Assumes nothing.
-use mathlib.Core.Path.{_≡_, refl, sym, ap, _∙_}
+use mathlib.Core.Path.{_≡_, refl, sym, ap, ap₂, _∙_}
 use mathlib.Core.Bool.{Bool, true, false, cond}
-use mathlib.Core.List.{List, [], _∷_, _++_, append-assoc}
-use Prim.Native.Nat.{ℕ, zero, suc, _+_, _-_, _≤_, _<_, min}
+use mathlib.Core.List.{List, [], _∷_, _++_}
+use Prim.Native.Nat.{ℕ, zero, suc, _+_, _-_, _≤_, _<_}
 use native.Mathlib.Numerals.{add-one}
 use native.Mathlib.Omega.{arith}
-use borrow.Author.Tests.{eq-eqb, ne-eqb}
+use borrow.Author.Tests.{eq-eqb, ne-eqb, eqb-true, eqb-false, lt-ltb, le-ltb}
 use lib.Dec.{eqb}
 use lib.ListN.{length, getD, take}
-use Rattle.ascii.specs.Text.{text, decimal}
 use Rattle.ascii.proofs.Numbers.{word-next}
-use Rattle.forms.specs.Forms.{firstOf, formedBy, formed}
-use Rattle.cardline.specs.Line.{reason}
-use Rattle.totals.specs.Totals.{howMany, bothSame, countText, counted, likeLine, bothLine, reasonLine, reasonLines, allAre, allGood, likeLines, lastLine, cardsLine, totalsText}
+use Rattle.ascii.specs.Text.{text}
+use Rattle.forms.specs.Forms.{formed}
+use Rattle.verdict.specs.Ranks.{cannotBeRead, lastRefusal}
+use Rattle.cardline.specs.Words.{refusedRow, nameOf, todo}
+use Rattle.totals.specs.Totals.{howMany, written, cardsText, fineText, joint, verdictLine, verdictLines}
 
 -- ---- how many are x
 
@@ -44,118 +45,96 @@ unfolding howMany
 many-within x [] = omega arith
 many-within x (y ∷ ys) = omega (arith, many-within x ys, one-small (eqb y x))
 
--- ---- how many have both words the same
+-- ---- numbers as they are written
 
-abbrev both : ℕ → ℕ → ℕ
-both a b = cond (eqb a 1) (cond (eqb b 1) 1 0) 0
+pub cards-form : (n w : ℕ) → (n ≡ 1 → ⊥) → w ≡ written n → formed (text "# cards: ") (w ∷ []) ≡ cardsText n
+unfolding cardsText
+cards-form n w h e = ap (λ (x : ℕ). formed (text "# cards: ") (x ∷ [])) e ∙ (simp (ne-eqb n 1 h))
 
-pub both-not : (a b : ℕ) → (a ≡ 1 → ⊥) → 0 ≡ both a b
-both-not a b n = simp (ne-eqb a 1 n)
+module _ (given : Bool) (n rest w v : ℕ) (ew : w ≡ written n) (ev : v ≡ written rest) where
+  pub match-form : given ≡ true → formed (text "# match, # do not\n") (w ∷ v ∷ []) ≡ fineText given n rest
+  unfolding fineText
+  match-form g = ap₂ (λ (x y : ℕ). formed (text "# match, # do not\n") (x ∷ y ∷ [])) ew ev ∙ ap (λ (t : Bool). fineText t n rest) (sym g)
 
-pub both-second : (a b d : ℕ) → a ≡ 1 → d ≡ cond (eqb b 1) 1 0 → d ≡ both a b
-both-second a b d e h = simp (eq-eqb a 1 e) h
+  pub good-form : given ≡ false → formed (text "# good, # bad\n") (w ∷ v ∷ []) ≡ fineText given n rest
+  unfolding fineText
+  good-form g = ap₂ (λ (x y : ℕ). formed (text "# good, # bad\n") (x ∷ y ∷ [])) ew ev ∙ ap (λ (t : Bool). fineText t n rest) (sym g)
 
-pub both-small : (a b : ℕ) → both a b ≤ 1
-both-small a b = pick (eqb a 1)
+-- ---- lines for verdicts
+
+pub line-none : (n count : ℕ) → count ≡ 0 → [] ≡ verdictLine n count
+unfolding verdictLine
+line-none n count e = simp (eq-eqb count 0 e)
+
+pub some-line : (n count w : ℕ) → (count ≡ 0 → ⊥) → w ≡ written count
+    → formed (text "# ") (w ∷ []) ++ nameOf n ++ joint n ++ todo n ++ text "\n" ≡ verdictLine n count
+unfolding verdictLine
+some-line n count w h e =
+    ap (λ (x : ℕ). formed (text "# ") (x ∷ []) ++ nameOf n ++ joint n ++ todo n ++ text "\n") e ∙ (simp (ne-eqb count 0 h))
+
+pub lines-none : (ranks : List ℕ) → [] ≡ verdictLines 0 ranks
+unfolding verdictLines
+lines-none ranks = refl
+
+pub lines-next : (n c : ℕ) (ranks : List ℕ) → c ≡ howMany n ranks → verdictLines n ranks ++ verdictLine n c ≡ verdictLines (n + 1) ranks
+unfolding verdictLines
+lines-next n c ranks e =
+    ap (λ (m : ℕ). verdictLines n ranks ++ verdictLine n m) e ∙ ap (λ (k : ℕ). verdictLines k ranks) (sym (add-one n))
+
+-- ---- the counts of the lines add up to the cards
+
+-- how many cards have a verdict below n, counted verdict by verdict
+unfoldable pub countedBelow : ℕ → List ℕ → ℕ
+countedBelow zero ranks = 0
+countedBelow (suc n) ranks = countedBelow n ranks + howMany n ranks
+
+-- every card's verdict is below n
+abbrev pub AllBelow : ℕ → List ℕ → Type 0
+AllBelow n [] = Unit {0}
+AllBelow n (y ∷ ys) = (y < n) × AllBelow n ys
+
+none-below : (n : ℕ) → countedBelow n [] ≡ 0
+unfolding countedBelow howMany
+none-below zero = refl
+none-below (suc n) = omega (arith, none-below n)
+
+-- one card more is counted once, with the verdict that it has
+past-below : (n y : ℕ) (ys : List ℕ) → n ≤ y → countedBelow n (y ∷ ys) ≡ countedBelow n ys
+unfolding countedBelow howMany
+past-below zero y ys h = refl
+past-below (suc n) y ys h =
+    omega (arith, past-below n y ys (omega arith), one-not y n (λ e. omega arith))
+
+one-below : (n y : ℕ) (ys : List ℕ) → y < n → countedBelow n (y ∷ ys) ≡ suc (countedBelow n ys)
+unfolding countedBelow howMany
+one-below zero y ys h = absurd (omega arith)
+one-below (suc n) y ys h = pick (eqb y n) refl (one-below n y ys)
   where
-    pick : (t : Bool) → cond t (cond (eqb b 1) 1 0) 0 ≤ 1
-    pick true = one-small (eqb b 1)
-    pick false = omega arith
+    pick : (b : Bool) → eqb y n ≡ b → (y < n → countedBelow n (y ∷ ys) ≡ suc (countedBelow n ys))
+        → countedBelow n (y ∷ ys) + (cond b 1 0 + howMany n ys) ≡ suc (countedBelow n ys + howMany n ys)
+    pick true e rest = omega (arith, past-below n y ys (omega (arith, eqb-true y n e)))
+    pick false e rest = let d : (y ≡ n → ⊥) = eqb-false y n e in omega (arith, rest (omega arith))
 
-pub both-none : 0 ≡ bothSame [] []
-unfolding bothSame
-both-none = refl
+-- the lines' counts are all the cards
+pub all-counted : (n : ℕ) (ranks : List ℕ) → AllBelow n ranks → countedBelow n ranks ≡ length ranks
+all-counted n [] h = none-below n
+all-counted n (y ∷ ys) h = one-below n y ys (h .0) ∙ ap suc (all-counted n ys (h .1))
 
-both-more : (xs ys : List ℕ) (k : ℕ) → k < length xs → k < length ys
-    → bothSame (take k xs) (take k ys) + both (getD xs k 0) (getD ys k 0) ≡ bothSame (take (suc k) xs) (take (suc k) ys)
-unfolding bothSame
-both-more [] ys k h l = absurd (omega arith)
-both-more (x ∷ xs) [] k h l = absurd (omega arith)
-both-more (x ∷ xs) (y ∷ ys) zero h l = omega arith
-both-more (x ∷ xs) (y ∷ ys) (suc k) h l = omega (arith, both-more xs ys k (omega arith) (omega arith))
+-- fine and not fine are all the cards
+pub fine-and-not : (x : ℕ) (ranks : List ℕ) → howMany x ranks + (length ranks - howMany x ranks) ≡ length ranks
+fine-and-not x ranks = omega (arith, many-within x ranks)
 
-pub both-next : (xs ys : List ℕ) (k d : ℕ) → k < length xs → k < length ys → d ≡ both (getD xs k 0) (getD ys k 0)
-    → bothSame (take k xs) (take k ys) + d ≡ bothSame (take (k + 1) xs) (take (k + 1) ys)
-both-next xs ys k d h l e =
-    ap (λ (n : ℕ). bothSame (take k xs) (take k ys) + n) e ∙ both-more xs ys k h l
-    ∙ ap (λ (n : ℕ). bothSame (take n xs) (take n ys)) (sym (add-one k))
+-- ---- what stands between a verdict's name and what to do
 
--- where one of the lists ends, no more are counted
-pub both-first-ends : (xs ys : List ℕ) (k : ℕ) → length xs ≤ k → bothSame (take k xs) (take k ys) ≡ bothSame xs ys
-unfolding bothSame
-both-first-ends [] ys zero h = refl
-both-first-ends [] ys (suc k) h = refl
-both-first-ends (x ∷ xs) ys zero h = absurd (omega arith)
-both-first-ends (x ∷ xs) [] (suc k) h = refl
-both-first-ends (x ∷ xs) (y ∷ ys) (suc k) h = ap (λ (n : ℕ). both x y + n) (both-first-ends xs ys k (omega arith))
+pub unread-joint : (n : ℕ) → n ≡ cannotBeRead → text ": " ≡ joint n
+unfolding joint
+unread-joint n e = simp (eq-eqb n 0 e)
 
-pub both-second-ends : (xs ys : List ℕ) (k : ℕ) → length ys ≤ k → bothSame (take k xs) (take k ys) ≡ bothSame xs ys
-unfolding bothSame
-both-second-ends [] ys zero h = refl
-both-second-ends [] ys (suc k) h = refl
-both-second-ends (x ∷ xs) [] zero h = refl
-both-second-ends (x ∷ xs) [] (suc k) h = refl
-both-second-ends (x ∷ xs) (y ∷ ys) zero h = absurd (omega arith)
-both-second-ends (x ∷ xs) (y ∷ ys) (suc k) h = ap (λ (n : ℕ). both x y + n) (both-second-ends xs ys k (omega arith))
+pub later-joint : (n : ℕ) → lastRefusal < n → text ": " ≡ joint n
+unfolding joint
+later-joint n h =
+    simp (ne-eqb n 0 (λ e. omega arith), lt-ltb lastRefusal n h, ne-eqb (n - lastRefusal + refusedRow) refusedRow (λ e. omega arith))
 
--- ---- lines by their forms
-
-abbrev w : ℕ → ℕ
-w n = min n 4294967295
-
-pub cards-form : (answers : List ℕ) (n g b : ℕ) → n ≡ w (length answers) → g ≡ howMany 0 answers → b ≡ w (length answers - g)
-    → (m : ℕ) → m ≡ w g → formed (text "# cards: # good, # bad\n") (n ∷ m ∷ b ∷ []) ≡ cardsLine answers
-unfolding formed formedBy firstOf cardsLine countText
-cards-form answers n g b en eg eb m em = rw (en, em, eb, eg) (simp append-assoc)
-
--- seven numbers of two lists, as the code has them
-pub likes-form : (xs ys : List ℕ) (a b c d e f m n : ℕ)
-    → a ≡ w (howMany 1 xs) → b ≡ w (howMany 2 xs) → c ≡ w (howMany 3 xs) → d ≡ w (howMany 1 ys) → e ≡ w (howMany 2 ys) → f ≡ w (howMany 3 ys)
-    → n ≡ w m → m ≡ bothSame xs ys
-    → formed (text "A: # same, # TURNED, # other\nB: # same, # TURNED, # other\nA and B: # same\n") (a ∷ b ∷ c ∷ d ∷ e ∷ f ∷ n ∷ [])
-    ≡ likeLine (text "A: ") xs ++ likeLine (text "B: ") ys ++ bothLine xs ys
-unfolding formed formedBy firstOf likeLine bothLine counted countText
-likes-form xs ys a b c d e f m n qa qb qc qd qe qf qn qm = rw (qa, qb, qc, qd, qe, qf, qn, qm) (simp append-assoc)
-
--- ---- lines for reasons
-
-pub reason-none : (n : ℕ) (answers : List ℕ) (m : ℕ) → m ≡ howMany n answers → m ≡ 0 → [] ≡ reasonLine n answers
-unfolding reasonLine
-reason-none n answers m e z = simp (eq-eqb (howMany n answers) 0 (sym e ∙ z))
-
-pub some-reason : (n : ℕ) (answers : List ℕ) (m d : ℕ) → m ≡ howMany n answers → (m ≡ 0 → ⊥) → d ≡ w m
-    → formed (text "# ") (d ∷ []) ++ reason n ++ text "\n" ≡ reasonLine n answers
-unfolding formed formedBy firstOf reasonLine countText
-some-reason n answers m d e h q =
-    ap (λ (x : ℕ). decimal x ++ text " " ++ reason n ++ text "\n") (q ∙ ap w e) ∙ simp (ne-eqb (howMany n answers) 0 (λ z. h (e ∙ z)))
-
-pub reasons-none : (answers : List ℕ) → [] ≡ reasonLines 0 answers
-unfolding reasonLines
-reasons-none answers = refl
-
-pub reasons-next : (n : ℕ) (answers : List ℕ) → reasonLines n answers ++ reasonLine (n + 1) answers ≡ reasonLines (n + 1) answers
-unfolding reasonLines
-reasons-next n answers = let e : n + 1 ≡ suc n = omega arith in ap (λ (k : ℕ). reasonLines n answers ++ reasonLine k answers) e ∙ ap (λ (k : ℕ). reasonLines k answers) (sym e)
-
--- ---- whether all are good, test by test
-
-module _ (given : Bool) (answers alikes blikes : List ℕ) where
-  pub bad-card : allAre 0 answers ≡ false → false ≡ allGood given answers alikes blikes
-  unfolding allGood
-  bad-card e = simp e
-
-  pub no-customer : allAre 0 answers ≡ true → given ≡ false → true ≡ allGood given answers alikes blikes
-  unfolding allGood
-  no-customer e g = simp (e, g)
-
-  pub all-same : allAre 0 answers ≡ true → given ≡ true → (r : Bool) → r ≡ eqb (bothSame alikes blikes) (length answers) → r ≡ allGood given answers alikes blikes
-  unfolding allGood
-  all-same e g r b = simp (e, g) b
-
--- ---- the whole
-
-pub totals-are : (given : Bool) (answers alikes blikes : List ℕ) (r : Bool) → r ≡ allGood given answers alikes blikes
-    → cardsLine answers ++ reasonLines 9 answers ++ likeLines given alikes blikes ++ lastLine r ≡ totalsText given answers alikes blikes
-unfolding totalsText
-totals-are given answers alikes blikes r e =
-    ap (λ (g : Bool). cardsLine answers ++ reasonLines 9 answers ++ likeLines given alikes blikes ++ lastLine g) e
+pub refused-joint : (n : ℕ) → (n ≡ cannotBeRead → ⊥) → n ≤ lastRefusal → text "; " ≡ joint n
+unfolding joint
+refused-joint n h l = simp (ne-eqb n 0 h, le-ltb lastRefusal n l)

@@ -1,63 +1,84 @@
 -- The totals fit the program's room, so that nothing is cut there. Assumes nothing.
-use mathlib.Core.Bool.{Bool}
-use mathlib.Core.List.{List, []}
-use Prim.Native.Nat.{ℕ, zero, suc, _+_, _-_, _*_, _≤_, min}
+use mathlib.Core.Bool.{Bool, true, false}
+use mathlib.Core.List.{List, [], _∷_}
+use Prim.Native.Nat.{ℕ, zero, suc, _+_, _-_, _*_, _≤_, _<_}
 use native.Mathlib.Omega.{arith}
 use lib.Dec.{eqb, lit≤}
 use lib.ListN.{length, length-append}
 use Rattle.ascii.specs.Text.{text}
 use Rattle.ascii.proofs.Numbers.{decimal-length}
-use Rattle.cardline.proofs.Fits.{cond-length, reason-length}
-use Rattle.totals.specs.Totals.{howMany, bothSame, countText, reasonLine, reasonLines, counted, likeLine, bothLine, likeLines, lastLine, cardsLine, totalsText, allGood}
+use Rattle.forms.specs.Forms.{firstOf, formedBy, formed}
+use Rattle.verdict.specs.Ranks.{good}
+use Rattle.cardline.specs.Words.{rowOfRank, refusedRow, nameOf, todo}
+use Rattle.cardline.proofs.Fits.{cond-length, name-length, todo-length}
+use Rattle.totals.specs.Totals.{howMany, fine, written, cardsText, fineText, firstLine, joint, verdictLine, verdictLines, allFine, notText}
+use Rattle.totals.specs.Totals.{lastLine, totalsText}
 
-count-length : (n : ℕ) → length (countText n) ≤ 10
-unfolding countText
-count-length n = decimal-length 9 (min n 4294967295) (omega arith)
+many-length : (w : ℕ) → w < 10000000000 → length (formed (text "# cards: ") (w ∷ [])) ≤ 18
+unfolding formed formedBy firstOf
+many-length w h = simp length-append (omega (arith, decimal-length 9 w h))
 
-reason-line-length : (n : ℕ) (answers : List ℕ) → length (reasonLine n answers) ≤ 66
-unfolding reasonLine
-reason-line-length n answers =
-    cond-length (eqb (howMany n answers) 0) [] _ 66 (lit≤ tt)
-    (simp length-append (omega (arith, count-length (howMany n answers), reason-length n)))
+cards-length : (n : ℕ) → length (cardsText n) ≤ 18
+unfolding cardsText
+cards-length n = cond-length (eqb n 1) _ _ 18 (lit≤ tt) (many-length (written n) (omega arith))
 
-reason-lines-length : (n : ℕ) (answers : List ℕ) → length (reasonLines n answers) ≤ n * 66
-unfolding reasonLines
-reason-lines-length zero answers = lit≤ tt
-reason-lines-length (suc n) answers =
-    omega (arith, length-append (reasonLines n answers) (reasonLine (suc n) answers), reason-lines-length n answers, reason-line-length (suc n) answers)
+match-length : (w v : ℕ) → w < 10000000000 → v < 10000000000 → length (formed (text "# match, # do not\n") (w ∷ v ∷ [])) ≤ 36
+unfolding formed formedBy firstOf
+match-length w v h l = simp length-append (omega (arith, decimal-length 9 w h, decimal-length 9 v l))
 
-counted-length : (x : ℕ) (likes word : List ℕ) → length (counted x likes word) ≤ length word + 10
-unfolding counted
-counted-length x likes word = simp length-append (omega (arith, count-length (howMany x likes)))
+good-length : (w v : ℕ) → w < 10000000000 → v < 10000000000 → length (formed (text "# good, # bad\n") (w ∷ v ∷ [])) ≤ 36
+unfolding formed formedBy firstOf
+good-length w v h l = simp length-append (omega (arith, decimal-length 9 w h, decimal-length 9 v l))
 
-like-line-length : (name likes : List ℕ) → length (likeLine name likes) ≤ length name + 53
-unfolding likeLine
-like-line-length name likes =
+fine-length : (given : Bool) (n rest : ℕ) → length (fineText given n rest) ≤ 36
+unfolding fineText
+fine-length true n rest = match-length (written n) (written rest) (omega arith) (omega arith)
+fine-length false n rest = good-length (written n) (written rest) (omega arith) (omega arith)
+
+first-length : (given : Bool) (ranks : List ℕ) → length (firstLine given ranks) ≤ 54
+unfolding firstLine
+first-length given ranks =
     simp length-append
-    (omega (arith, counted-length 1 likes (text " same, "), counted-length 2 likes (text " TURNED, "), counted-length 3 likes (text " other\n")))
+    (omega (
+      arith,
+      cards-length (length ranks),
+      fine-length given (howMany (fine given) ranks) (length ranks - howMany (fine given) ranks),
+    ))
 
-both-line-length : (alikes blikes : List ℕ) → length (bothLine alikes blikes) ≤ 25
-unfolding bothLine
-both-line-length alikes blikes = simp length-append (omega (arith, count-length (bothSame alikes blikes)))
+joint-length : (n : ℕ) → length (joint n) ≤ 2
+unfolding joint
+joint-length n = cond-length (eqb (rowOfRank n) refusedRow) _ _ 2 (lit≤ tt) (lit≤ tt)
 
-like-lines-length : (given : Bool) (alikes blikes : List ℕ) → length (likeLines given alikes blikes) ≤ 137
-unfolding likeLines
-like-lines-length given alikes blikes =
-    cond-length given _ [] 137
-    (simp length-append (omega (arith, like-line-length (text "A: ") alikes, like-line-length (text "B: ") blikes, both-line-length alikes blikes))) (lit≤ tt)
+count-length : (w : ℕ) → w < 10000000000 → length (formed (text "# ") (w ∷ [])) ≤ 11
+unfolding formed formedBy firstOf
+count-length w h = simp length-append (omega (arith, decimal-length 9 w h))
 
-cards-length : (answers : List ℕ) → length (cardsLine answers) ≤ 50
-unfolding cardsLine
-cards-length answers =
-    simp length-append
-    (omega (arith, count-length (length answers), count-length (howMany 0 answers), count-length (length answers - howMany 0 answers)))
+line-length : (n count : ℕ) → n < 10000000 → length (verdictLine n count) ≤ 734
+unfolding verdictLine
+line-length n count h =
+    cond-length (eqb count 0) [] _ 734 (lit≤ tt)
+    (simp length-append (omega (arith, count-length (written count) (omega arith), name-length n h, joint-length n, todo-length n)))
 
-last-length : (good : Bool) → length (lastLine good) ≤ 13
-unfolding lastLine
-last-length good = cond-length good _ _ 13 (lit≤ tt) (lit≤ tt)
+lines-length : (n : ℕ) (ranks : List ℕ) → n < 10000000 → length (verdictLines n ranks) ≤ n * 734
+unfolding verdictLines
+lines-length zero ranks h = lit≤ tt
+lines-length (suc n) ranks h =
+    omega (
+      arith,
+      length-append (verdictLines n ranks) (verdictLine n (howMany n ranks)),
+      lines-length n ranks (omega arith),
+      line-length n (howMany n ranks) (omega arith),
+    )
 
-pub totals-fit : (given : Bool) (answers alikes blikes : List ℕ) → length (totalsText given answers alikes blikes) ≤ 1024
+last-length : (given all : Bool) → length (lastLine given all) ≤ 14
+unfolding lastLine notText
+last-length true true = lit≤ tt
+last-length true false = lit≤ tt
+last-length false true = lit≤ tt
+last-length false false = lit≤ tt
+
+pub totals-fit : (given : Bool) (ranks : List ℕ) → length (totalsText given ranks) ≤ 16384
 unfolding totalsText
-totals-fit given answers alikes blikes =
+totals-fit given ranks =
     simp length-append
-    (omega (arith, cards-length answers, reason-lines-length 9 answers, like-lines-length given alikes blikes, last-length (allGood given answers alikes blikes)))
+    (omega (arith, first-length given ranks, lines-length (suc good) ranks (lit≤ tt), last-length given (allFine given ranks)))

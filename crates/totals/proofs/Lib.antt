@@ -1,3 +1,4 @@
 pub mod Counting
+pub mod Sums
 pub mod Fits
 pub mod One

@@ -1,72 +1,72 @@
--- The totals: so many cards good, so many bad, the bad ones by reason, and with a customer how A and B compare. They are counted over three
--- lists with an entry for each card: its answer, and how its A and its B compare.
-use mathlib.Core.Bool.{Bool, cond, not, _&&_, _||_}
+-- The totals of sorted cards, over a list with each card's verdict (verdict: Ranks): how many there are and how many are fine, then a line
+-- for each verdict that occurs, the worst first, and a last line for a script.
+use mathlib.Core.Bool.{Bool, cond}
 use mathlib.Core.List.{List, [], _∷_, _++_}
 use Prim.Native.Nat.{ℕ, zero, suc, _+_, _-_, min}
-use lib.Dec.{eqb}
+use lib.Dec.{eqb, ltb}
 use lib.ListN.{length}
 use Rattle.ascii.specs.Text.{text, decimal}
-use Rattle.cardline.specs.Line.{reason}
+use Rattle.forms.specs.Forms.{formed}
+use Rattle.verdict.specs.Ranks.{cannotBeRead, matching, good}
+use Rattle.cardline.specs.Words.{rowOfRank, refusedRow, nameOf, todo}
 
--- how many entries of a list are x
+-- how many verdicts of a list are x
 unfoldable pub howMany : ℕ → List ℕ → ℕ
 howMany x [] = 0
 howMany x (y ∷ ys) = cond (eqb y x) 1 0 + howMany x ys
 
--- how many cards have both words the same
-unfoldable pub bothSame : List ℕ → List ℕ → ℕ
-bothSame [] blikes = 0
-bothSame (a ∷ alikes) [] = 0
-bothSame (a ∷ alikes) (b ∷ blikes) = cond (eqb a 1) (cond (eqb b 1) 1 0) 0 + bothSame alikes blikes
+-- the verdict of a card that is fine: beside a customer a match, without one good
+abbrev pub fine : Bool → ℕ
+fine given = cond given matching good
 
--- a count in decimal; one over 4,294,967,295 is written as that
-unfoldable pub countText : ℕ → List ℕ
-countText n = decimal (min n 4294967295)
+-- the highest number that is written; a higher count is written as this
+abbrev pub mostWritten : ℕ
+mostWritten = 4294967295
 
--- a line for a reason, where a card has it: "2 refused 7: the check bits differ"
-unfoldable pub reasonLine : ℕ → List ℕ → List ℕ
-reasonLine n answers = cond (eqb (howMany n answers) 0) [] (countText (howMany n answers) ++ text " " ++ reason n ++ text "\n")
+abbrev pub written : ℕ → ℕ
+written n = min n mostWritten
 
--- the lines for reasons 1 to n
-unfoldable pub reasonLines : ℕ → List ℕ → List ℕ
-reasonLines zero answers = []
-reasonLines (suc n) answers = reasonLines n answers ++ reasonLine (suc n) answers
+-- so many cards: "1 card: ", "340 cards: "
+unfoldable pub cardsText : ℕ → List ℕ
+cardsText n = cond (eqb n 1) (text "1 card: ") (formed (text "# cards: ") (written n ∷ []))
 
--- so many, and a word behind: "290 same, "
-unfoldable pub counted : ℕ → List ℕ → List ℕ → List ℕ
-counted x likes word = countText (howMany x likes) ++ word
+-- so many fine, so many not: "204 match, 136 do not"
+unfoldable pub fineText : Bool → ℕ → ℕ → List ℕ
+fineText given n rest = formed (cond given (text "# match, # do not\n") (text "# good, # bad\n")) (written n ∷ written rest ∷ [])
 
--- how a word compares: "A: 290 same, 8 TURNED, 3 other"
-unfoldable pub likeLine : List ℕ → List ℕ → List ℕ
-likeLine name likes = name ++ counted 1 likes (text " same, ") ++ counted 2 likes (text " TURNED, ") ++ counted 3 likes (text " other\n")
+-- the first line
+unfoldable pub firstLine : Bool → List ℕ → List ℕ
+firstLine given ranks =
+    cardsText (length ranks) ++ fineText given (howMany (fine given) ranks) (length ranks - howMany (fine given) ranks)
 
--- every entry is x
-abbrev pub allAre : ℕ → List ℕ → Bool
-allAre x ys = eqb (howMany x ys) (length ys)
+-- between a verdict's name and what to do: a refusal's name has a colon already
+unfoldable pub joint : ℕ → List ℕ
+joint n = cond (eqb (rowOfRank n) refusedRow) (text "; ") (text ": ")
 
--- whether every card is good, and with a customer has both words the same
-unfoldable pub allGood : Bool → List ℕ → List ℕ → List ℕ → Bool
-allGood given answers alikes blikes = allAre 0 answers && (not given || eqb (bothSame alikes blikes) (length answers))
+-- a line for a verdict that so many cards have: "44 TURNED: do not ship; words stand last bit first"
+unfoldable pub verdictLine : ℕ → ℕ → List ℕ
+verdictLine n count = cond (eqb count 0) [] (formed (text "# ") (written count ∷ []) ++ nameOf n ++ joint n ++ todo n ++ text "\n")
 
--- the last line, for a script
-unfoldable pub lastLine : Bool → List ℕ
-lastLine good = cond good (text "all good\n") (text "not all good\n")
+-- the lines for the verdicts below n
+unfoldable pub verdictLines : ℕ → List ℕ → List ℕ
+verdictLines zero ranks = []
+verdictLines (suc n) ranks = verdictLines n ranks ++ verdictLine n (howMany n ranks)
 
--- cards that have both: "A and B: 288 same"
-unfoldable pub bothLine : List ℕ → List ℕ → List ℕ
-bothLine alikes blikes = text "A and B: " ++ countText (bothSame alikes blikes) ++ text " same\n"
+-- whether every card is fine
+abbrev pub allFine : Bool → List ℕ → Bool
+allFine given ranks = eqb (howMany (fine given) ranks) (length ranks)
 
--- how the words compare, with a customer
-unfoldable pub likeLines : Bool → List ℕ → List ℕ → List ℕ
-likeLines given alikes blikes = cond given (likeLine (text "A: ") alikes ++ likeLine (text "B: ") blikes ++ bothLine alikes blikes) []
+-- the last line: "all match", "not all match", and with no customer "all good", "not all good"
+unfoldable pub notText : Bool → List ℕ
+notText all = cond all [] (text "not ")
 
--- the first line: "340 cards: 301 good, 39 bad"
-unfoldable pub cardsLine : List ℕ → List ℕ
-cardsLine answers =
-    countText (length answers) ++ text " cards: " ++ countText (howMany 0 answers) ++ text " good, "
-    ++ countText (length answers - howMany 0 answers) ++ text " bad\n"
+unfoldable pub lastLine : Bool → Bool → List ℕ
+lastLine given all = notText all ++ cond given (text "all match\n") (text "all good\n")
 
 -- the totals
-unfoldable pub totalsText : Bool → List ℕ → List ℕ → List ℕ → List ℕ
-totalsText given answers alikes blikes =
-    cardsLine answers ++ reasonLines 9 answers ++ likeLines given alikes blikes ++ lastLine (allGood given answers alikes blikes)
+unfoldable pub totalsText : Bool → List ℕ → List ℕ
+totalsText given ranks = firstLine given ranks ++ verdictLines (suc good) ranks ++ lastLine given (allFine given ranks)
+
+-- the digit that says how it went: 0 every card is fine, 1 not, 2 where a file cannot be read
+unfoldable pub statusOf : Bool → List ℕ → ℕ
+statusOf given ranks = cond (ltb 0 (howMany cannotBeRead ranks)) 2 (cond (allFine given ranks) 0 1)

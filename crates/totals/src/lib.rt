@@ -1,12 +1,23 @@
-// The totals of a sorting: their text, of three lists with an entry for each card. What it is, is specs/Totals.antt.
+// The totals of sorted cards: their text, of a list with each card's verdict (specs/Totals.antt).
 ghost use mathlib.Core.Path.{_≡_};
 ghost use mathlib.Core.Bool.{cond};
-ghost use Prim.Native.Nat.{min};
 ghost use lib.Dec.{eqb};
 ghost use Rattle.ascii.specs.Promises.{Put};
-ghost use Rattle.totals.specs.Totals.{howMany, bothSame, reasonLine, reasonLines, likeLines};
-ghost use Rattle.totals.specs.Totals.{allAre, allGood, lastLine, cardsLine};
-ghost use Rattle.totals.specs.Promises.{Totalled};
+ghost use Rattle.totals.specs.Totals.{howMany, fine as fineOf, written as writtenOf, cardsText, fineText, firstLine};
+ghost use Rattle.totals.specs.Totals.{joint, verdictLine, verdictLines, allFine, notText, lastLine};
+ghost use Rattle.totals.specs.Promises.{Totalled, IsStatus};
+
+// The highest number that is written.
+const MOST_WRITTEN: usize = 4294967295;
+// How many verdicts there are.
+const VERDICTS: u32 = verdict::GOOD + 1;
+
+// How a sorting went: every card is fine; not; a file cannot be read.
+pub const FINE: u32 = 0;
+
+pub const NOT_FINE: u32 = 1;
+
+pub const NOT_READ: u32 = 2;
 
 // 1 where y is x, else 0.
 fn one_if(y: u32, x: u32) -> usize
@@ -28,154 +39,146 @@ fn how_many(xs: &[u32], x: u32) -> usize
     n
 }
 
-// 1 where both words are the same, else 0.
-fn one_if_both(a: u32, b: u32) -> usize
-    ensures { λ r. ⌜ r ≡ cond (eqb a 1) (cond (eqb b 1) 1 0) 0 ⌝ }
+// The verdict of a card that is fine.
+fn fine(given: bool) -> u32
+    ensures { λ r. ⌜ r ≡ fineOf given ⌝ }
 {
-    if a != verdict::SAME {
-        return 0;
+    if given {
+        verdict::MATCHING
+    } else {
+        verdict::GOOD
     }
-    one_if(b, verdict::SAME)
-}
-
-// How many cards have both words the same.
-fn both_same(alikes: &[u32], blikes: &[u32]) -> usize
-    ensures { λ r. ⌜ r ≡ bothSame (now (alikes .entry)) (now (blikes .entry)) ⌝ }
-{
-    let mut n: usize = 0;
-    let mut k = 0;
-    while k < alikes.len() {
-        if blikes.len() <= k {
-            return n;
-        }
-        n += one_if_both(alikes[k], blikes[k]);
-        k += 1;
-    }
-    n
 }
 
 // A count as it is written.
 fn written(n: usize) -> u32
-    ensures { λ r. ⌜ r ≡ min n 4294967295 ⌝ }
+    ensures { λ r. ⌜ r ≡ writtenOf n ⌝ }
 {
-    if n < 4294967295 { n as u32 } else { 4294967295 }
+    if n < MOST_WRITTEN {
+        n as u32
+    } else {
+        MOST_WRITTEN as u32
+    }
 }
 
-// How many entries of a list are x, as it is written.
-fn counted(xs: &[u32], x: u32) -> u32
-    ensures { λ r. ⌜ r ≡ min (howMany x (now (xs .entry))) 4294967295 ⌝ }
+// So many cards.
+fn put_cards(room: &mut [u8], n: usize) -> usize
+    ensures { λ r. ⌜ Put (now (room .entry)) 0 (cardsText n) r (now (room .exit)) ⌝ }
 {
-    written(how_many(xs, x))
+    if n == 1 {
+        return ascii::put_word(room, 0, b"1 card: ");
+    }
+    forms::put_form(room, 0, b"# cards: ", &[written(n)])
 }
 
-// A line for a reason, where a card has it.
-fn put_reason_line(room: &mut [u8], at: usize, answers: &[u32], n: u32) -> usize
-    ensures { λ r. ⌜ Put (now (room .entry)) at (reasonLine n (now (answers .entry))) r (now (room .exit)) ⌝ }
+// So many fine, so many not.
+fn put_fine(room: &mut [u8], at: usize, given: bool, n: usize, rest: usize) -> usize
+    ensures { λ r. ⌜ Put (now (room .entry)) at (fineText given n rest) r (now (room .exit)) ⌝ }
 {
-    let m = how_many(answers, n);
-    if m == 0 {
+    let numbers = [written(n), written(rest)];
+    if given {
+        return forms::put_form(room, at, b"# match, # do not\n", &numbers);
+    }
+    forms::put_form(room, at, b"# good, # bad\n", &numbers)
+}
+
+// The first line.
+fn put_first(room: &mut [u8], given: bool, ranks: &[u32]) -> usize
+    ensures { λ r. ⌜ Put (now (room .entry)) 0 (firstLine given (now (ranks .entry))) r (now (room .exit)) ⌝ }
+{
+    let n = how_many(ranks, fine(given));
+    let rest = ranks.len() - n;
+    let next = put_cards(room, ranks.len());
+    put_fine(room, next, given, n, rest)
+}
+
+// Between a verdict's name and what to do.
+fn put_joint(room: &mut [u8], at: usize, rank: u32) -> usize
+    ensures { λ r. ⌜ Put (now (room .entry)) at (joint rank) r (now (room .exit)) ⌝ }
+{
+    if rank == verdict::CANNOT_BE_READ {
+        return ascii::put_word(room, at, b": ");
+    }
+    if verdict::LAST_REFUSAL < rank {
+        return ascii::put_word(room, at, b": ");
+    }
+    ascii::put_word(room, at, b"; ")
+}
+
+// A line for a verdict, where a card has it.
+fn put_line(room: &mut [u8], at: usize, rank: u32, count: usize) -> usize
+    ensures { λ r. ⌜ Put (now (room .entry)) at (verdictLine rank count) r (now (room .exit)) ⌝ }
+{
+    if count == 0 {
         return at;
     }
-    let mut next = forms::put_form(room, at, b"# ", &[written(m)]);
-    next = cardline::put_reason(room, next, n);
+    let mut next = forms::put_form(room, at, b"# ", &[written(count)]);
+    next = cardline::put_name(room, next, rank);
+    next = put_joint(room, next, rank);
+    next = cardline::put_todo(room, next, rank);
     ascii::put(room, next, b'\n')
 }
 
-// A line for each reason that a card has.
-fn put_reason_lines(room: &mut [u8], at: usize, answers: &[u32]) -> usize
-    ensures { λ r. ⌜ Put (now (room .entry)) at (reasonLines 9 (now (answers .entry))) r (now (room .exit)) ⌝ }
+// A line for each verdict that a card has.
+fn put_lines(room: &mut [u8], at: usize, ranks: &[u32]) -> usize
+    ensures { λ r. ⌜ Put (now (room .entry)) at (verdictLines 21 (now (ranks .entry))) r (now (room .exit)) ⌝ }
 {
     let mut next = at;
     let mut n: u32 = 0;
-    while n < verdict::UNREAD {
+    while n < VERDICTS {
+        next = put_line(room, next, n, how_many(ranks, n));
         n += 1;
-        next = put_reason_line(room, next, answers, n);
     }
     next
 }
 
-// How the words compare, with a customer.
-fn put_like_lines(room: &mut [u8], at: usize, given: bool, alikes: &[u32], blikes: &[u32]) -> usize
-    ensures { λ r. ⌜ Put (now (room .entry)) at (likeLines given (now (alikes .entry)) (now (blikes .entry))) r (now (room .exit)) ⌝ }
+// Whether every card is fine.
+fn all_fine(given: bool, ranks: &[u32]) -> bool
+    ensures { λ r. ⌜ r ≡ allFine given (now (ranks .entry)) ⌝ }
 {
-    if !given {
+    how_many(ranks, fine(given)) == ranks.len()
+}
+
+// The first word of the last line.
+fn put_not(room: &mut [u8], at: usize, all: bool) -> usize
+    ensures { λ r. ⌜ Put (now (room .entry)) at (notText all) r (now (room .exit)) ⌝ }
+{
+    if all {
         return at;
     }
-    forms::put_form(
-        room,
-        at,
-        b"A: # same, # TURNED, # other\n\
-          B: # same, # TURNED, # other\n\
-          A and B: # same\n",
-        &[
-            counted(alikes, verdict::SAME),
-            counted(alikes, verdict::TURNED),
-            counted(alikes, verdict::OTHER),
-            counted(blikes, verdict::SAME),
-            counted(blikes, verdict::TURNED),
-            counted(blikes, verdict::OTHER),
-            written(both_same(alikes, blikes)),
-        ],
-    )
-}
-
-// So many cards, so many good and bad.
-fn put_cards(room: &mut [u8], answers: &[u32]) -> usize
-    ensures { λ r. ⌜ Put (now (room .entry)) 0 (cardsLine (now (answers .entry))) r (now (room .exit)) ⌝ }
-{
-    let good = how_many(answers, answer::DONE);
-    let cards = written(answers.len());
-    let bad = written(answers.len() - good);
-    forms::put_form(
-        room,
-        0,
-        b"# cards: # good, # bad\n",
-        &[cards, written(good), bad],
-    )
-}
-
-// Whether every entry is x.
-fn all_are(ys: &[u32], x: u32) -> bool
-    ensures { λ r. ⌜ r ≡ allAre x (now (ys .entry)) ⌝ }
-{
-    how_many(ys, x) == ys.len()
-}
-
-// Whether every card is good, and with a customer has both words the same.
-fn all_good(given: bool, answers: &[u32], alikes: &[u32], blikes: &[u32]) -> bool
-    ensures { λ r. ⌜ r ≡ allGood given (now (answers .entry)) (now (alikes .entry)) (now (blikes .entry)) ⌝ }
-{
-    if !all_are(answers, answer::DONE) {
-        return false;
-    }
-    if !given {
-        return true;
-    }
-    both_same(alikes, blikes) == answers.len()
+    ascii::put_word(room, at, b"not ")
 }
 
 // The last line.
-fn put_last(room: &mut [u8], at: usize, good: bool) -> usize
-    ensures { λ r. ⌜ Put (now (room .entry)) at (lastLine good) r (now (room .exit)) ⌝ }
+fn put_last(room: &mut [u8], at: usize, given: bool, all: bool) -> usize
+    ensures { λ r. ⌜ Put (now (room .entry)) at (lastLine given all) r (now (room .exit)) ⌝ }
 {
-    if good {
-        return ascii::put_word(room, at, b"all good\n");
+    let next = put_not(room, at, all);
+    if given {
+        return ascii::put_word(room, next, b"all match\n");
     }
-    ascii::put_word(room, at, b"not all good\n")
+    ascii::put_word(room, next, b"all good\n")
 }
 
-// The totals of the cards: of each its answer and how its words compare.
-pub fn totals(
-    given: bool,
-    answers: &[u32],
-    alikes: &[u32],
-    blikes: &[u32],
-    room: &mut [u8],
-) -> usize
-    ensures { λ r. ⌜ Totalled given (now (answers .entry)) (now (alikes .entry)) (now (blikes .entry)) (now (room .entry)) r (now (room .exit)) ⌝ }
+// The totals of the cards with these verdicts.
+pub fn totals(given: bool, ranks: &[u32], room: &mut [u8]) -> usize
+    ensures { λ r. ⌜ Totalled given (now (ranks .entry)) (now (room .entry)) r (now (room .exit)) ⌝ }
 {
-    let mut next = put_cards(room, answers);
-    next = put_reason_lines(room, next, answers);
-    next = put_like_lines(room, next, given, alikes, blikes);
-    put_last(room, next, all_good(given, answers, alikes, blikes))
+    let mut next = put_first(room, given, ranks);
+    next = put_lines(room, next, ranks);
+    put_last(room, next, given, all_fine(given, ranks))
+}
+
+// How a sorting of cards with these verdicts went.
+pub fn status(given: bool, ranks: &[u32]) -> u32
+    ensures { λ r. ⌜ IsStatus given (now (ranks .entry)) r ⌝ }
+{
+    if 0 < how_many(ranks, verdict::CANNOT_BE_READ) {
+        return NOT_READ;
+    }
+    if all_fine(given, ranks) {
+        FINE
+    } else {
+        NOT_FINE
+    }
 }

@@ -18,7 +18,9 @@ use Rattle.highest.specs.Highest.{highest}
 use Rattle.reader.proofs.Given.{found, found-is, none-applies, coefficients-are, vendor-is}
 use Rattle.verdict.specs.declared.Customer.{Customer}
 use Rattle.verdict.specs.declared.Verdict.{Verdict}
-use Rattle.verdict.specs.Verdict.{lastFirst, likeOf, absent, refusedVerdict, trainingVerdict, finalVerdict, judged, verdictOf, nobody, customerBy, customerOf}
+use Rattle.verdict.specs.Ranks.{trainingRank, finalRank}
+use Rattle.verdict.specs.Verdict.{lastFirst, likeOf, absent, octetsOf, refusedVerdict, trainingBy, trainingVerdict, finalBy, finalVerdict, judged, verdictOf}
+use Rattle.verdict.specs.Verdict.{nobody, customerBy, customerOf}
 
 -- ---- a word beside the customer's
 
@@ -36,7 +38,8 @@ like-other given x y g n m = simp (g, ne-eqb x y n, ne-eqb x (lastFirst y) m)
 
 -- ---- the verdict, of what reading gives
 
-module _ (f : List ℕ) (cs : List ℤ) (v : List ℕ) (lc : length cs ≡ 180) (lv : length v ≡ 16) (r : Found) (cs′ : List ℤ) (v′ : List ℕ) (d : Read f cs v r cs′ v′) (k : Customer) where
+module _ (f : List ℕ) (cs : List ℤ) (v : List ℕ) (lc : length cs ≡ 180) (lv : length v ≡ 16) (r : Found) (cs′ : List ℤ) (v′ : List ℕ)
+    (d : Read f cs v r cs′ v′) (k : Customer) where
   abbrev B : List ℕ
   B = bitsOf f
 
@@ -47,70 +50,56 @@ module _ (f : List ℕ) (cs : List ℤ) (v : List ℕ) (lc : length cs ≡ 180) 
   abbrev F : Found
   F = record { answer = 0; kind = 1; a = 0; b = 0 }
 
-  pub refused-is : (r .answer ≡ 0 → ⊥) → refusedVerdict (r .answer) k ≡ verdictOf f k
+  pub refused-is : (r .answer ≡ 0 → ⊥) → (o : ℕ) → o ≡ octetsOf f → refusedVerdict (r .answer) o k ≡ verdictOf f k
   unfolding verdictOf judged
-  refused-is h = go (answer (checkRefusals f)) (found f cs v lc lv r cs′ v′ d)
+  refused-is h o eo =
+      go (answer (checkRefusals f)) (found f cs v lc lv r cs′ v′ d) ∙ ap (λ (x : ℕ). judged (answer (checkRefusals f)) x B k) eo
     where
       done : (t : Bool) → cond {A = Found} t T F .answer ≡ 0
       done true = refl
       done false = refl
 
-      go : (n : ℕ) → r ≡ foundOf n B → refusedVerdict (r .answer) k ≡ judged n B k
+      go : (n : ℕ) → r ≡ foundOf n B → refusedVerdict (r .answer) o k ≡ judged n o B k
       go zero e = absurd (h (ap (λ (x : Found). x .answer) e ∙ done (hasSync trainingSync B)))
-      go (suc n) e = ap (λ (x : Found). refusedVerdict (x .answer) k) e
+      go (suc n) e = ap (λ (x : Found). refusedVerdict (x .answer) o k) e
 
-  module _ (z : r .answer ≡ 0) where
-    judged-is : judged 0 B k ≡ verdictOf f k
+  module _ (z : r .answer ≡ 0) (o : ℕ) (eo : o ≡ octetsOf f) where
+    judged-is : judged 0 o B k ≡ verdictOf f k
     unfolding verdictOf
-    judged-is = ap (λ (n : ℕ). judged n B k) (sym (none-applies f cs v lc lv r cs′ v′ d z))
+    judged-is = ap₂ (λ (n x : ℕ). judged n x B k) (sym (none-applies f cs v lc lv r cs′ v′ d z)) eo
 
-    -- the verdict on a training frame with these coefficients, numbers and vendor data
-    abbrev made : List ℤ → Found → List ℕ → Verdict
-    made cs x v =
-        record {
-          answer = 0;
-          kind = 0;
-          used = highest cs;
-          a = x .a;
-          b = x .b;
-          alike = likeOf (k .given) (x .a) (k .a);
-          blike = likeOf (k .given) (x .b) (k .b);
-          vendor = v;
-        }
-
-    training-is : r .kind ≡ 0 → made cs′ r v′ ≡ verdictOf f k
+    training-is : r .kind ≡ 0 → trainingBy o (highest cs′) (r .a) (r .b) v′ k ≡ verdictOf f k
     unfolding judged
     training-is e =
         go (hasSync trainingSync B) (found-is f cs v lc lv r cs′ v′ d z) (coefficients-are f cs v lc lv r cs′ v′ d z) ∙ judged-is
       where
-        go : (t : Bool) → r ≡ cond t T F → cs′ ≡ cond t (coefficientsOf B) cs → made cs′ r v′ ≡ cond t (trainingVerdict B k) (finalVerdict B k)
+        go : (t : Bool) → r ≡ cond t T F → cs′ ≡ cond t (coefficientsOf B) cs
+            → trainingBy o (highest cs′) (r .a) (r .b) v′ k ≡ cond t (trainingVerdict o B k) (finalVerdict o B k)
         go true p q =
-            ap (λ (x : List ℤ). made x r v′) q ∙ ap (λ (x : Found). made (coefficientsOf B) x v′) p
-            ∙ ap (made (coefficientsOf B) T) (vendor-is f cs v lc lv r cs′ v′ d z)
+            ap (λ (x : List ℤ). trainingBy o (highest x) (r .a) (r .b) v′ k) q
+            ∙ ap (λ (x : Found). trainingBy o (highest (coefficientsOf B)) (x .a) (x .b) v′ k) p
+            ∙ ap (λ (x : List ℕ). trainingBy o (highest (coefficientsOf B)) (T .a) (T .b) x k) (vendor-is f cs v lc lv r cs′ v′ d z)
         go false p q =
             let kind-is : _≡_ {A = ℕ} 0 1 = sym e ∙ ap (λ (x : Found). x .kind) p in
             absurd (omega arith)
 
     -- as the code makes it
-    pub training-made : (u l m : ℕ) → u ≡ highest cs′ → l ≡ likeOf (k .given) (r .a) (k .a) → m ≡ likeOf (k .given) (r .b) (k .b) → r .kind ≡ 0
-        → record { answer = 0; kind = 0; used = u; a = r .a; b = r .b; alike = l; blike = m; vendor = v′ } ≡ verdictOf f k
-    training-made u l m qu ql qm e = rw (qu, ql, qm) (training-is e)
+    pub training-made : (w u l m : ℕ) → u ≡ highest cs′ → l ≡ likeOf (k .given) (r .a) (k .a) → m ≡ likeOf (k .given) (r .b) (k .b)
+        → w ≡ trainingRank l m → r .kind ≡ 0
+        → record { rank = w; octets = o; answer = 0; kind = 0; used = u; a = r .a; b = r .b; alike = l; blike = m; vendor = v′ } ≡ verdictOf f k
+    training-made w u l m qu ql qm qw e = rw (qw, qu, ql, qm) (training-is e)
 
-    -- the verdict on a final frame with this vendor data
-    abbrev with-vendor : List ℕ → Verdict
-    with-vendor x = record { answer = 0; kind = 1; used = 0; a = 0; b = 0; alike = absent (k .given); blike = absent (k .given); vendor = x }
-
-    final-is : (r .kind ≡ 0 → ⊥) → with-vendor v′ ≡ verdictOf f k
+    final-is : (r .kind ≡ 0 → ⊥) → finalBy o v′ k ≡ verdictOf f k
     unfolding judged
     final-is n = go (hasSync trainingSync B) (found-is f cs v lc lv r cs′ v′ d z) ∙ judged-is
       where
-        go : (t : Bool) → r ≡ cond t T F → with-vendor v′ ≡ cond t (trainingVerdict B k) (finalVerdict B k)
+        go : (t : Bool) → r ≡ cond t T F → finalBy o v′ k ≡ cond t (trainingVerdict o B k) (finalVerdict o B k)
         go true p = absurd (n (ap (λ (x : Found). x .kind) p))
-        go false p = ap with-vendor (vendor-is f cs v lc lv r cs′ v′ d z)
+        go false p = ap (λ (x : List ℕ). finalBy o x k) (vendor-is f cs v lc lv r cs′ v′ d z)
 
-    pub final-made : (l m : ℕ) → l ≡ absent (k .given) → m ≡ absent (k .given) → (r .kind ≡ 0 → ⊥)
-        → record { answer = 0; kind = 1; used = 0; a = 0; b = 0; alike = l; blike = m; vendor = v′ } ≡ verdictOf f k
-    final-made l m ql qm n = rw (ql, qm) (final-is n)
+    pub final-made : (w l m : ℕ) → w ≡ finalRank (k .given) → l ≡ absent (k .given) → m ≡ absent (k .given) → (r .kind ≡ 0 → ⊥)
+        → record { rank = w; octets = o; answer = 0; kind = 1; used = 0; a = 0; b = 0; alike = l; blike = m; vendor = v′ } ≡ verdictOf f k
+    final-made w l m qw ql qm n = rw (qw, ql, qm) (final-is n)
 
 -- ---- the customer
 

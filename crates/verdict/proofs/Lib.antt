@@ -1,3 +1,4 @@
 pub mod Laws
+pub mod Ranks
 pub mod Turned
 pub mod One

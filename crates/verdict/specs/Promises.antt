@@ -4,15 +4,16 @@ use mathlib.Core.List.{List}
 use Prim.Native.Nat.{ℕ}
 use Rattle.verdict.specs.declared.Customer.{Customer}
 use Rattle.verdict.specs.declared.Verdict.{Verdict}
+use Rattle.verdict.specs.Ranks.{unreadable}
 use Rattle.verdict.specs.Verdict.{verdictOf, refusedVerdict, nobody, customerOf}
 
 -- judge
 abbrev pub Judged : List ℕ → Customer → Verdict → Type 0
 Judged frame k r = r ≡ verdictOf frame k
 
--- unread: 9, which is none of SCOPE's numbers
+-- unread
 abbrev pub Unread : Customer → Verdict → Type 0
-Unread k r = r ≡ refusedVerdict 9 k
+Unread k r = r ≡ refusedVerdict unreadable 0 k
 
 -- nobody
 abbrev pub IsNobody : Customer → Type 0

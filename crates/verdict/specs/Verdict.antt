@@ -1,66 +1,104 @@
--- What a card's frame is found to be: the answer of reading it, its kind, what a buyer compares, and how its words compare with those of
--- a customer.
+-- What a card's frame is found to be: the verdict (Ranks), how many octets were read, the answer of reading them, the frame's kind, what a
+-- buyer compares, and how its words compare with those of a customer.
 use mathlib.Core.Bool.{Bool, true, false, cond}
 use mathlib.Core.List.{List, reverse}
-use Prim.Native.Nat.{ℕ, zero, suc}
+use Prim.Native.Nat.{ℕ, zero, suc, min}
 use lib.Dec.{eqb}
-use lib.ListN.{replicate}
+use lib.ListN.{length, replicate}
 use Rattle.answer.specs.Answer.{answer}
 use Rattle.octets.specs.Bits.{digitsOf, valueOf, bitsOf}
-use Rattle.layout.specs.Places.{aField, bField}
+use Rattle.ranges.specs.Ranges.{wordWidth}
+use Rattle.layout.specs.Places.{vendorLength, frameLength, aField, bField}
 use Rattle.layout.specs.Frame.{trainingSync, fieldOf, coefficientsOf}
 use Rattle.layout.specs.Refusals.{hasSync, checkRefusals}
 use Rattle.reader.specs.Promises.{vendorOctets}
 use Rattle.highest.specs.Highest.{highest}
 use Rattle.verdict.specs.declared.Customer.{Customer}
 use Rattle.verdict.specs.declared.Verdict.{Verdict}
+use Rattle.verdict.specs.Ranks.{noCustomer, sameWord, turnedWord, otherWord, noWord, refusedRank, trainingRank, finalRank}
 
--- a word of 21 bits read last bit first, the old bench program's mistake
+-- a word read last bit first, the old bench program's mistake
 unfoldable pub lastFirst : ℕ → ℕ
-lastFirst y = valueOf (reverse (digitsOf 21 y))
+lastFirst y = valueOf (reverse (digitsOf wordWidth y))
 
--- word x beside the customer's word y: the same, 1; else the customer's read last bit first, 2; else another, 3. A word that reads the same
--- from both ends is the same. With no customer, 0
+-- word x beside the customer's word y. A word that reads the same from both ends is the same
 abbrev pub likeOf : Bool → ℕ → ℕ → ℕ
-likeOf given x y = cond given (cond (eqb x y) 1 (cond (eqb x (lastFirst y)) 2 3)) 0
+likeOf given x y = cond given (cond (eqb x y) sameWord (cond (eqb x (lastFirst y)) turnedWord otherWord)) noCustomer
 
--- a card that carries no words to compare, 4; with no customer, 0
+-- a card that carries no words
 abbrev pub absent : Bool → ℕ
-absent given = cond given 4 0
+absent given = cond given noWord noCustomer
 
--- refused with n: every other number is 0, and vendor data too
-abbrev pub refusedVerdict : ℕ → Customer → Verdict
-refusedVerdict n k =
-    record { answer = n; kind = 0; used = 0; a = 0; b = 0; alike = absent (k .given); blike = absent (k .given); vendor = replicate 16 0 }
+-- how many octets a file has; more than a frame has are counted as one more
+abbrev pub octetsOf : List ℕ → ℕ
+octetsOf file = min (length file) (suc frameLength)
 
--- a training frame: the number of the highest non-zero coefficient, A, B, and vendor data. The frame doesn't carry the count of
--- coefficients in use; those behind the highest are zero, whether in use or not
-abbrev pub trainingVerdict : List ℕ → Customer → Verdict
-trainingVerdict bits k =
+-- a file of so many octets, refused with n: every other number is 0, and vendor data too
+abbrev pub refusedVerdict : ℕ → ℕ → Customer → Verdict
+refusedVerdict n octets k =
     record {
-      answer = 0;
+      rank = refusedRank n;
+      octets = octets;
+      answer = n;
       kind = 0;
-      used = highest (coefficientsOf bits);
-      a = valueOf (fieldOf aField bits);
-      b = valueOf (fieldOf bField bits);
-      alike = likeOf (k .given) (valueOf (fieldOf aField bits)) (k .a);
-      blike = likeOf (k .given) (valueOf (fieldOf bField bits)) (k .b);
-      vendor = vendorOctets bits;
+      used = 0;
+      a = 0;
+      b = 0;
+      alike = absent (k .given);
+      blike = absent (k .given);
+      vendor = replicate vendorLength 0;
     }
 
--- a final frame: vendor data
-abbrev pub finalVerdict : List ℕ → Customer → Verdict
-finalVerdict bits k =
-    record { answer = 0; kind = 1; used = 0; a = 0; b = 0; alike = absent (k .given); blike = absent (k .given); vendor = vendorOctets bits }
+-- a training frame with these: the number of the highest non-zero coefficient, A, B, and vendor data. The frame doesn't carry the count of
+-- coefficients in use; those behind the highest are zero, whether in use or not
+abbrev pub trainingBy : ℕ → ℕ → ℕ → ℕ → List ℕ → Customer → Verdict
+trainingBy octets used a b vendor k =
+    record {
+      rank = trainingRank (likeOf (k .given) a (k .a)) (likeOf (k .given) b (k .b));
+      octets = octets;
+      answer = 0;
+      kind = 0;
+      used = used;
+      a = a;
+      b = b;
+      alike = likeOf (k .given) a (k .a);
+      blike = likeOf (k .given) b (k .b);
+      vendor = vendor;
+    }
 
--- with an answer, of a frame's bits
-unfoldable pub judged : ℕ → List ℕ → Customer → Verdict
-judged zero bits k = cond (hasSync trainingSync bits) (trainingVerdict bits k) (finalVerdict bits k)
-judged (suc n) bits k = refusedVerdict (suc n) k
+-- a training frame
+abbrev pub trainingVerdict : ℕ → List ℕ → Customer → Verdict
+trainingVerdict octets bits k =
+    trainingBy octets (highest (coefficientsOf bits)) (valueOf (fieldOf aField bits)) (valueOf (fieldOf bField bits)) (vendorOctets bits) k
+
+-- a final frame with this vendor data
+abbrev pub finalBy : ℕ → List ℕ → Customer → Verdict
+finalBy octets vendor k =
+    record {
+      rank = finalRank (k .given);
+      octets = octets;
+      answer = 0;
+      kind = 1;
+      used = 0;
+      a = 0;
+      b = 0;
+      alike = absent (k .given);
+      blike = absent (k .given);
+      vendor = vendor;
+    }
+
+-- a final frame
+abbrev pub finalVerdict : ℕ → List ℕ → Customer → Verdict
+finalVerdict octets bits k = finalBy octets (vendorOctets bits) k
+
+-- with an answer, of a file's octets and bits
+unfoldable pub judged : ℕ → ℕ → List ℕ → Customer → Verdict
+judged zero octets bits k = cond (hasSync trainingSync bits) (trainingVerdict octets bits k) (finalVerdict octets bits k)
+judged (suc n) octets bits k = refusedVerdict (suc n) octets k
 
 -- what a card's frame is found to be
 unfoldable pub verdictOf : List ℕ → Customer → Verdict
-verdictOf frame k = judged (answer (checkRefusals frame)) (bitsOf frame) k
+verdictOf frame k = judged (answer (checkRefusals frame)) (octetsOf frame) (bitsOf frame) k
 
 -- no customer
 abbrev pub nobody : Customer

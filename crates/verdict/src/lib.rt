@@ -1,5 +1,7 @@
 // What a card's frame is found to be, beside a customer's where one is given. What each means is specs/.
 ghost use mathlib.Core.Path.{_≡_};
+ghost use Prim.Native.Nat.{min};
+ghost use Rattle.verdict.specs.Ranks.{refusedRank, trainingRank, finalRank};
 ghost use Rattle.verdict.specs.Verdict.{likeOf, absent, refusedVerdict};
 ghost use Rattle.verdict.specs.Promises.{Judged, Unread, IsCustomer, IsNobody};
 
@@ -10,8 +12,10 @@ pub struct Customer {
     pub b: u32,
 }
 
-// What a card's frame is found to be.
+// What a card's frame is found to be: rank is the verdict.
 pub struct Verdict {
+    pub rank: u32,
+    pub octets: u32,
     pub answer: u32,
     pub kind: u32,
     pub used: u32,
@@ -33,8 +37,26 @@ pub const OTHER: u32 = 3;
 
 pub const NO_WORD: u32 = 4;
 
-// The answer for a file that cannot be read: none of SCOPE's.
-pub const UNREAD: u32 = 9;
+// The verdicts, the worst first. From 1 to LAST_REFUSAL it is the number of the answer that the frame is refused with.
+pub const CANNOT_BE_READ: u32 = 0;
+
+pub const LAST_REFUSAL: u32 = 15;
+
+pub const FINAL_FRAME: u32 = 16;
+
+pub const TURNED_WORDS: u32 = 17;
+
+pub const OTHER_WORDS: u32 = 18;
+
+pub const MATCHING: u32 = 19;
+
+pub const GOOD: u32 = 20;
+
+// The answer for a file that cannot be read: past the last that any refusal may have.
+pub const UNREADABLE: u32 = 255;
+
+// The most octets of a file that are counted: one more than a frame has.
+pub const MOST_OCTETS: usize = layout::FRAME_OCTETS + 1;
 
 // How word x compares with the customer's word y.
 fn like(given: bool, x: u32, y: u32) -> u32
@@ -60,11 +82,60 @@ fn no_word(given: bool) -> u32
     if given { NO_WORD } else { NO_CUSTOMER }
 }
 
-// A card that is refused with n.
-fn refused(n: u32, customer: Customer) -> Verdict
-    ensures { λ r. ⌜ r ≡ refusedVerdict n customer ⌝ }
+// The verdict on a card that is refused with n.
+fn refused_rank(n: u32) -> u32
+    ensures { λ r. ⌜ r ≡ refusedRank n ⌝ }
+{
+    if LAST_REFUSAL < n { CANNOT_BE_READ } else { n }
+}
+
+// The verdict on a training frame, by how its words compare.
+fn training_rank(a: u32, b: u32) -> u32
+    ensures { λ r. ⌜ r ≡ trainingRank a b ⌝ }
+{
+    if a == NO_CUSTOMER {
+        return GOOD;
+    }
+    if a == TURNED {
+        return TURNED_WORDS;
+    }
+    if b == TURNED {
+        return TURNED_WORDS;
+    }
+    if a != SAME {
+        return OTHER_WORDS;
+    }
+    if b != SAME {
+        return OTHER_WORDS;
+    }
+    MATCHING
+}
+
+// The verdict on a final frame.
+fn final_rank(given: bool) -> u32
+    ensures { λ r. ⌜ r ≡ finalRank given ⌝ }
+{
+    if given { FINAL_FRAME } else { GOOD }
+}
+
+// How many octets a file has, as they are counted.
+fn counted(n: usize) -> u32
+    ensures { λ r. ⌜ r ≡ min n 530 ⌝ }
+{
+    if n < MOST_OCTETS {
+        n as u32
+    } else {
+        MOST_OCTETS as u32
+    }
+}
+
+// A file of so many octets that is refused with n.
+fn refused(n: u32, octets: u32, customer: Customer) -> Verdict
+    ensures { λ r. ⌜ r ≡ refusedVerdict n octets customer ⌝ }
 {
     Verdict {
+        rank: refused_rank(n),
+        octets: octets,
         answer: n,
         kind: 0,
         used: 0,
@@ -83,22 +154,29 @@ pub fn judge(frame: &[u8], customer: Customer) -> Verdict
     let mut cs = [0i32; layout::COEFFICIENTS];
     let mut vendor = [0u8; layout::VENDOR_OCTETS];
     let found = reader::read(frame, &mut cs, &mut vendor);
+    let octets = counted(frame.len());
     if found.answer != answer::DONE {
-        return refused(found.answer, customer);
+        return refused(found.answer, octets, customer);
     }
     if found.kind == layout::TRAINING {
+        let alike = like(customer.given, found.a, customer.a);
+        let blike = like(customer.given, found.b, customer.b);
         return Verdict {
+            rank: training_rank(alike, blike),
+            octets: octets,
             answer: answer::DONE,
             kind: layout::TRAINING,
             used: highest::highest(&cs) as u32,
             a: found.a,
             b: found.b,
-            alike: like(customer.given, found.a, customer.a),
-            blike: like(customer.given, found.b, customer.b),
+            alike: alike,
+            blike: blike,
             vendor: vendor,
         };
     }
     Verdict {
+        rank: final_rank(customer.given),
+        octets: octets,
         answer: answer::DONE,
         kind: layout::FINAL,
         used: 0,
@@ -114,7 +192,7 @@ pub fn judge(frame: &[u8], customer: Customer) -> Verdict
 pub fn unread(customer: Customer) -> Verdict
     ensures { λ r. ⌜ Unread customer r ⌝ }
 {
-    refused(UNREAD, customer)
+    refused(UNREADABLE, 0, customer)
 }
 
 // No customer.

@@ -1,18 +1,26 @@
 -- `cardline::put_cells` meets its contract.
 use borrow.Author.Needs.{needs}
 use Rattle.ascii.proofs.Room.{put-as}
+use Rattle.cardline.specs.Line.{noCells}
 use Rattle.cardline.proofs.Lines.{bad-cells, training-cells, final-cells}
 use Rattle.cardline.proofs.put_cells.Statement.{statement}
 use Rattle.cardline.proofs.put_cells.Tie as tie
 
-put-bad-requires : tie.Need-put-bad-requires
-put-bad-requires c κs = search needs
+slice-aggregate-put-word : tie.Need-slice-aggregate-put-word
+slice-aggregate-put-word c = search needs
+
+put-word-requires : tie.Need-put-word-requires
+put-word-requires c κs = search needs
 
 same-length : tie.Need-same-length
 same-length c = search needs
 
 returns : tie.Need-returns
-returns c = put-as (c .before .before .put-bad .ensures) (bad-cells (c .before .before .before .before .before .before .before .args .v) (c .before .before .before .before .if1 .taken))
+unfolding noCells
+returns c =
+    let p5 = c .before .before .before .before .before in
+    let p8 = p5 .before .before .before in
+    put-as (c .before .before .put-word .ensures) (bad-cells (p8 .args .v) (p5 .if1 .taken))
 
 slice-aggregate-put-training : tie.Need-slice-aggregate-put-training
 slice-aggregate-put-training c = search needs
@@ -24,7 +32,11 @@ same-length-2 : tie.Need-same-length-2
 same-length-2 c = search needs
 
 returns-2 : tie.Need-returns-2
-returns-2 c = put-as (c .before .before .put-training .ensures) (training-cells (c .before .before .before .before .before .before .before .before .before .before .before .args .v) (c .before .before .before .before .before .before .before .before .if1 .left) (c .before .before .before .before .before .if2 .taken))
+returns-2 c =
+    let p5 = c .before .before .before .before .before in
+    let p8 = p5 .before .before .before in
+    let p11 = p8 .before .before .before in
+    put-as (c .before .before .put-training .ensures) (training-cells (p11 .args .v) (p8 .if1 .left) (p5 .if2 .taken))
 
 slice-aggregate-put-final : tie.Need-slice-aggregate-put-final
 slice-aggregate-put-final c = search needs
@@ -36,13 +48,18 @@ same-length-3 : tie.Need-same-length-3
 same-length-3 c = search needs
 
 returns-3 : tie.Need-returns-3
-returns-3 c = put-as (c .before .before .put-final .ensures) (final-cells (c .before .before .before .before .before .before .before .before .before .before .before .args .v) (c .before .before .before .before .before .before .before .before .if1 .left) (c .before .before .before .before .before .if2 .left))
+returns-3 c =
+    let p5 = c .before .before .before .before .before in
+    let p8 = p5 .before .before .before in
+    let p11 = p8 .before .before .before in
+    put-as (c .before .before .put-final .ensures) (final-cells (p11 .args .v) (p8 .if1 .left) (p5 .if2 .left))
 
 pub put-cells-spec : {M : Type 1} → statement M
 put-cells-spec =
     tie.close
     (tie.spec
-    put-bad-requires
+    slice-aggregate-put-word
+    put-word-requires
     same-length
     returns
     slice-aggregate-put-training

@@ -1,17 +1,11 @@
 -- `cardline::put_like` meets its contract.
-use mathlib.Core.Path.{ap, _∙_}
-use Rattle.forms.specs.Forms.{rowOf}
-use Rattle.ascii.proofs.Room.{put-as}
-use Rattle.cardline.proofs.Lines.{likes, like-told}
 use borrow.Author.Needs.{needs}
+use Rattle.cardline.specs.Line.{likeCell}
 use Rattle.cardline.proofs.put_like.Statement.{statement}
 use Rattle.cardline.proofs.put_like.Tie as tie
 
 slice-aggregate-put-row : tie.Need-slice-aggregate-put-row
 slice-aggregate-put-row c = search needs
-
-least-requires : tie.Need-least-requires
-least-requires c κs = search needs
 
 put-row-requires : tie.Need-put-row-requires
 put-row-requires c κs = search needs
@@ -20,9 +14,8 @@ same-length : tie.Need-same-length
 same-length c = search needs
 
 returns : tie.Need-returns
-returns c = put-as (c .before .before .put-row .ensures) (ap (rowOf likes) (c .before .before .before .least .ensures) ∙ like-told (c .before .before .before .before .before .before .before .args .n))
+unfolding likeCell
+returns c = c .before .before .put-row .ensures
 
 pub put-like-spec : {M : Type 1} → statement M
-put-like-spec =
-    tie.close
-    (tie.spec slice-aggregate-put-row least-requires put-row-requires same-length returns)
+put-like-spec = tie.close (tie.spec slice-aggregate-put-row put-row-requires same-length returns)

@@ -38,7 +38,16 @@ loop-less : tie.Need-loop-less Inv-loop μ-loop
 loop-less c = omega arith
 
 loop-again : tie.Need-loop-again Inv-loop μ-loop
-loop-again c = (omega arith, put-as (put-more (shown (take (c .before .before .before .before .before .before .before .loop .k) (c .before .before .before .before .before .before .before .before .before .before .args .name .now))) (c .before .before .before .shown-octet .result ∷ []) (c .before .before .before .before .before .before .before .loop .inv .1) (c .before .before .put .ensures)) (shown-next (c .before .before .before .before .before .before .before .before .before .before .args .name .now) (c .before .before .before .before .before .before .before .loop .k) (c .before .before .before .shown-octet .result) (c .before .before .before .before .before .before .loop-test .taken) (c .before .before .before .shown-octet .ensures)))
+loop-again c =
+    let p3 = c .before .before .before in
+    let p6 = p3 .before .before .before in
+    let p7 = p6 .before in
+    let p10 = p7 .before .before .before in (
+      omega arith,
+      put-as (put-more (shown (take (p7 .loop .k) (p10 .args .name .now))) (p3 .shown-octet .result ∷ []) (p7 .loop .inv .1)
+          (c .before .before .put .ensures))
+          (shown-next (p10 .args .name .now) (p7 .loop .k) (p3 .shown-octet .result) (p6 .loop-test .taken) (p3 .shown-octet .ensures)),
+    )
 
 same-length : tie.Need-same-length Inv-loop μ-loop
 same-length c = put-length (shown (take (c .before .loop .k) (c .before .before .before .before .args .name .now))) (c .before .loop .inv .1)

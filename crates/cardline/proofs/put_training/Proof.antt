@@ -1,8 +1,7 @@
 -- `cardline::put_training` meets its contract.
-use Rattle.ascii.specs.Text.{hexes}
-use Rattle.ascii.proofs.Room.{put-more, put-as}
-use Rattle.cardline.proofs.Lines.{training-form}
 use borrow.Author.Needs.{needs}
+use Rattle.ascii.proofs.Room.{put-more}
+use Rattle.cardline.specs.Line.{vendorCells, trainingCells}
 use Rattle.cardline.proofs.put_training.Statement.{statement}
 use Rattle.cardline.proofs.put_training.Tie as tie
 
@@ -15,14 +14,18 @@ slice-aggregate-put-form-2 c = search needs
 put-form-requires : tie.Need-put-form-requires
 put-form-requires c κs = search needs
 
-put-hexes-requires : tie.Need-put-hexes-requires
-put-hexes-requires c κs = search needs
+put-vendor-requires : tie.Need-put-vendor-requires
+put-vendor-requires c κs = search needs
 
 same-length : tie.Need-same-length
 same-length c = search needs
 
 returns : tie.Need-returns
-returns c = let a = c .before .before .before .before .before .before .before .before .before .before .before .before .args in put-as (put-more _ (hexes (a .vendor .now)) (c .before .before .before .before .before .before .put-form .ensures) (c .before .before .put-hexes .ensures)) (training-form (a .used) (a .a) (a .b) (a .vendor .now))
+unfolding trainingCells
+returns c =
+    let p6 = c .before .before .before .before .before .before in
+    let p12 = p6 .before .before .before .before .before .before in
+    put-more _ (vendorCells (p12 .args .vendor .now)) (p6 .put-form .ensures) (c .before .before .put-vendor .ensures)
 
 pub put-training-spec : {M : Type 1} → statement M
 put-training-spec =
@@ -31,6 +34,6 @@ put-training-spec =
     slice-aggregate-put-form
     slice-aggregate-put-form-2
     put-form-requires
-    put-hexes-requires
+    put-vendor-requires
     same-length
     returns)

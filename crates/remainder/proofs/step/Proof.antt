@@ -21,10 +21,10 @@ shr-top c = search needs
 
 -- 2 to the degree, as the code shifts it, fits; so does twice the register
 size-is : (c : tie.Start) → 1 * 2 ^ c .args .degree % 2 ^ 32 ≡ 2 ^ c .args .degree
-size-is c = let h : c .args .degree ≤ 31 = c .pre .1 in omega (arith, pow-mono h)
+size-is c = let h : c .args .degree ≤ 16 = c .pre .1 in omega (arith, pow-mono h)
 
-register-lt : (c : tie.Start) → c .args .register < 2 ^ 31
-register-lt c = let h : c .args .degree ≤ 31 = c .pre .1 in omega (arith, pow-mono h)
+register-lt : (c : tie.Start) → c .args .register < 2 ^ 16
+register-lt c = let h : c .args .degree ≤ 16 = c .pre .1 in omega (arith, pow-mono h)
 
 few : (b n : ℕ) → b < 2 → n < 2 ^ 32 → b * n < 2 ^ 32
 few zero n h l = omega arith

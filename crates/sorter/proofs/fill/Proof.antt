@@ -35,7 +35,10 @@ read-requires : tie.Need-read-requires Inv-loop μ-loop
 read-requires c κs = search needs
 
 same-length : tie.Need-same-length Inv-loop μ-loop
-same-length c = omega (arith, same-len-mid (c .before .before .before .before .before .before .before .before .before .loop .n) (length (c .before .before .before .before .before .before .before .before .before .loop .octets) - c .before .before .before .before .before .before .before .before .before .loop .n) (c .before .before .before .before .before .before .before .before .before .loop .octets) (c .before .before .before .before .before .read .last .1 .0) (c .before .before .before .before .before .read .kept .1 .0))
+same-length c =
+    let p5 = c .before .before .before .before .before in
+    let p9 = p5 .before .before .before .before in
+    omega (arith, same-len-mid (p9 .loop .n) (length (p9 .loop .octets) - p9 .loop .n) (p9 .loop .octets) (p5 .read .last .1 .0) (p5 .read .kept .1 .0))
 
 returns : tie.Need-returns Inv-loop μ-loop
 returns c = omega arith
@@ -44,19 +47,45 @@ count-requires : tie.Need-count-requires Inv-loop μ-loop
 count-requires c κs = search needs
 
 same-length-2 : tie.Need-same-length-2 Inv-loop μ-loop
-same-length-2 c = omega (arith, same-len-mid (c .before .before .before .before .before .before .before .before .before .before .before .before .loop .n) (length (c .before .before .before .before .before .before .before .before .before .before .before .before .loop .octets) - c .before .before .before .before .before .before .before .before .before .before .before .before .loop .n) (c .before .before .before .before .before .before .before .before .before .before .before .before .loop .octets) (c .before .before .before .before .before .before .before .before .read .last .1 .0) (c .before .before .before .before .before .before .before .before .read .kept .1 .0))
+same-length-2 c =
+    let p8 = c .before .before .before .before .before .before .before .before in
+    let p12 = p8 .before .before .before .before in
+    omega (
+      arith,
+      same-len-mid (p12 .loop .n) (length (p12 .loop .octets) - p12 .loop .n) (p12 .loop .octets) (p8 .read .last .1 .0)
+          (p8 .read .kept .1 .0),
+    )
 
 returns-2 : tie.Need-returns-2 Inv-loop μ-loop
 returns-2 c = omega arith
 
 add-n : tie.Need-add-n Inv-loop μ-loop
-add-n c = omega (arith, c .before .before .before .count .ensures .0 .0, rest-length (c .before .before .before .before .before .before .before .before .before .before .before .before .loop .n) (c .before .before .before .before .before .before .before .before .before .before .before .before .loop .octets) (c .before .before .before .before .before .before .before .before .read .last .1 .0) (c .before .before .before .before .before .before .before .before .read .kept .1 .0))
+add-n c =
+    let p3 = c .before .before .before in
+    let p8 = p3 .before .before .before .before .before in
+    let p12 = p8 .before .before .before .before in
+    omega (arith, p3 .count .ensures .0 .0, rest-length (p12 .loop .n) (p12 .loop .octets) (p8 .read .last .1 .0) (p8 .read .kept .1 .0))
 
 loop-less : tie.Need-loop-less Inv-loop μ-loop
-loop-less c = omega (arith, c .before .before .before .count .ensures .0 .0, rest-length (c .before .before .before .before .before .before .before .before .before .before .before .before .loop .n) (c .before .before .before .before .before .before .before .before .before .before .before .before .loop .octets) (c .before .before .before .before .before .before .before .before .read .last .1 .0) (c .before .before .before .before .before .before .before .before .read .kept .1 .0))
+loop-less c =
+    let p3 = c .before .before .before in
+    let p8 = p3 .before .before .before .before .before in
+    let p12 = p8 .before .before .before .before in
+    omega (arith, p3 .count .ensures .0 .0, rest-length (p12 .loop .n) (p12 .loop .octets) (p8 .read .last .1 .0) (p8 .read .kept .1 .0))
 
 loop-again : tie.Need-loop-again Inv-loop μ-loop
-loop-again c = (omega (arith, same-len-mid (c .before .before .before .before .before .before .before .before .before .before .before .before .loop .n) (length (c .before .before .before .before .before .before .before .before .before .before .before .before .loop .octets) - c .before .before .before .before .before .before .before .before .before .before .before .before .loop .n) (c .before .before .before .before .before .before .before .before .before .before .before .before .loop .octets) (c .before .before .before .before .before .before .before .before .read .last .1 .0) (c .before .before .before .before .before .before .before .before .read .kept .1 .0)), omega (arith, c .before .before .before .count .ensures .0 .0, rest-length (c .before .before .before .before .before .before .before .before .before .before .before .before .loop .n) (c .before .before .before .before .before .before .before .before .before .before .before .before .loop .octets) (c .before .before .before .before .before .before .before .before .read .last .1 .0) (c .before .before .before .before .before .before .before .before .read .kept .1 .0)))
+loop-again c =
+    let p3 = c .before .before .before in
+    let p8 = p3 .before .before .before .before .before in
+    let p12 = p8 .before .before .before .before in (
+      omega (
+        arith,
+        same-len-mid (p12 .loop .n) (length (p12 .loop .octets) - p12 .loop .n) (p12 .loop .octets) (p8 .read .last .1 .0)
+            (p8 .read .kept .1 .0),
+      ),
+      omega
+          (arith, p3 .count .ensures .0 .0, rest-length (p12 .loop .n) (p12 .loop .octets) (p8 .read .last .1 .0) (p8 .read .kept .1 .0)),
+    )
 
 same-length-3 : tie.Need-same-length-3 Inv-loop μ-loop
 same-length-3 c = omega arith

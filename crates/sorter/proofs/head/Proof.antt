@@ -15,11 +15,12 @@ header-requires c κs = search needs
 array-share-prefix-room : tie.Need-array-share-prefix-room
 array-share-prefix-room c = search needs
 
-slice-aggregate-say : tie.Need-slice-aggregate-say
-slice-aggregate-say c = sym (length-take-le (c .before .before .header .result) (c .before .before .header .last .1 .0) (omega (arith, c .before .before .header .ensures .count, c .before .before .header .kept .1 .0)))
+slice-aggregate-say-cells : tie.Need-slice-aggregate-say-cells
+slice-aggregate-say-cells c =
+    let r = c .before .before .header in sym (length-take-le (r .result) (r .last .1 .0) (omega (arith, r .ensures .count, r .kept .1 .0)))
 
-say-requires : tie.Need-say-requires
-say-requires c κs = search needs
+say-cells-requires : tie.Need-say-cells-requires
+say-cells-requires c κs = search needs
 
 returns : tie.Need-returns
 returns c = search needs
@@ -31,6 +32,6 @@ head-spec =
     slice-aggregate-header
     header-requires
     array-share-prefix-room
-    slice-aggregate-say
-    say-requires
+    slice-aggregate-say-cells
+    say-cells-requires
     returns)

@@ -34,7 +34,7 @@ array-share-prefix-octets : tie.Need-array-share-prefix-octets
 array-share-prefix-octets c = search needs
 
 slice-aggregate-judge : tie.Need-slice-aggregate-judge
-slice-aggregate-judge c = sym (length-take-le (c .before .before .before .before .fill .result) (c .before .before .before .before .fill .last .1 .0) (omega (arith, c .before .before .before .before .fill .kept .1 .0)))
+slice-aggregate-judge c = let r = c .before .before .before .before .fill in sym (length-take-le (r .result) (r .last .1 .0) (omega (arith, r .kept .1 .0)))
 
 judge-requires : tie.Need-judge-requires
 judge-requires c κs = search needs

@@ -15,26 +15,15 @@ line-requires c κs = search needs
 array-share-prefix-room : tie.Need-array-share-prefix-room
 array-share-prefix-room c = search needs
 
-slice-aggregate-say : tie.Need-slice-aggregate-say
-slice-aggregate-say c = sym (length-take-le (c .before .before .before .line .result) (c .before .before .before .line .last .1 .1 .0) (omega (arith, c .before .before .before .line .ensures .count, c .before .before .before .line .kept .1 .1 .0)))
+slice-aggregate-say-cells : tie.Need-slice-aggregate-say-cells
+slice-aggregate-say-cells c =
+    let r = c .before .before .line in sym (length-take-le (r .result) (r .last .1 .1 .0) (omega (arith, r .ensures .count, r .kept .1 .1 .0)))
 
-say-requires : tie.Need-say-requires
-say-requires c κs = search needs
+say-cells-requires : tie.Need-say-cells-requires
+say-cells-requires c κs = search needs
 
 returns : tie.Need-returns
 returns c = search needs
-
-array-share-prefix-room-2 : tie.Need-array-share-prefix-room-2
-array-share-prefix-room-2 c = search needs
-
-slice-aggregate-write-all : tie.Need-slice-aggregate-write-all
-slice-aggregate-write-all c = sym (length-take-le (c .before .before .before .line .result) (c .before .before .before .line .last .1 .1 .0) (omega (arith, c .before .before .before .line .ensures .count, c .before .before .before .line .kept .1 .1 .0)))
-
-write-all-requires : tie.Need-write-all-requires
-write-all-requires c κs = search needs
-
-returns-2 : tie.Need-returns-2
-returns-2 c = search needs
 
 pub tell-spec : {M : Type 1} → statement M
 tell-spec =
@@ -43,10 +32,6 @@ tell-spec =
     slice-aggregate-line
     line-requires
     array-share-prefix-room
-    slice-aggregate-say
-    say-requires
-    returns
-    array-share-prefix-room-2
-    slice-aggregate-write-all
-    write-all-requires
-    returns-2)
+    slice-aggregate-say-cells
+    say-cells-requires
+    returns)

@@ -30,7 +30,10 @@ one-if-requires : tie.Need-one-if-requires Inv-loop μ-loop
 one-if-requires c κs = search needs
 
 add-n : tie.Need-add-n Inv-loop μ-loop
-add-n c = omega (arith, c .one-if .ensures, one-small (eqb (getD (c .before .before .before .before .before .args .xs .now) (c .before .before .before .loop .k) 0) (c .before .before .before .before .before .args .x)))
+add-n c =
+    let p3 = c .before .before .before in
+    let p5 = p3 .before .before in
+    omega (arith, c .one-if .ensures, one-small (eqb (getD (p5 .args .xs .now) (p3 .loop .k) 0) (p5 .args .x)))
 
 add-k : tie.Need-add-k Inv-loop μ-loop
 add-k c = omega arith
@@ -39,10 +42,20 @@ loop-less : tie.Need-loop-less Inv-loop μ-loop
 loop-less c = omega arith
 
 loop-again : tie.Need-loop-again Inv-loop μ-loop
-loop-again c = (omega arith, omega (arith, c .one-if .ensures, one-small (eqb (getD (c .before .before .before .before .before .args .xs .now) (c .before .before .before .loop .k) 0) (c .before .before .before .before .before .args .x))), ap (λ m. m + c .one-if .result) (c .before .before .before .loop .inv .2) ∙ many-next (c .before .before .before .before .before .args .x) (c .before .before .before .before .before .args .xs .now) (c .before .before .before .loop .k) (c .one-if .result) (c .before .before .loop-test .taken) (c .one-if .ensures))
+loop-again c =
+    let p3 = c .before .before .before in
+    let p5 = p3 .before .before in (
+      omega arith,
+      omega (arith, c .one-if .ensures, one-small (eqb (getD (p5 .args .xs .now) (p3 .loop .k) 0) (p5 .args .x))),
+      ap
+          (λ m. m + c .one-if .result) (p3 .loop .inv .2) ∙ many-next (p5 .args .x) (p5 .args .xs .now) (p3 .loop .k) (c .one-if .result)
+          (c .before .before .loop-test .taken) (c .one-if .ensures),
+    )
 
 returns : tie.Need-returns Inv-loop μ-loop
-returns c = c .before .loop .inv .2 ∙ ap (howMany (c .before .before .before .args .x)) (take-all (c .before .loop .k) (c .before .before .before .args .xs .now) (omega arith))
+returns c =
+    let p3 = c .before .before .before in
+    c .before .loop .inv .2 ∙ ap (howMany (p3 .args .x)) (take-all (c .before .loop .k) (p3 .args .xs .now) (omega arith))
 
 pub how-many-spec : {M : Type 1} → statement M
 how-many-spec =

@@ -1,24 +1,20 @@
 -- `totals::totals` meets its contract.
 use borrow.Author.Needs.{needs}
+use mathlib.Core.Path.{ap}
 use mathlib.Core.List.{_++_}
-use Rattle.ascii.proofs.Room.{put-more, put-as}
-use Rattle.totals.specs.Totals.{reasonLines, likeLines, lastLine, cardsLine, totalsText}
-use Rattle.ascii.proofs.Room.{told}
-use Rattle.totals.proofs.Counting.{totals-are}
+use Rattle.ascii.proofs.Room.{put-more, put-as, told}
+use Rattle.totals.specs.Totals.{firstLine, verdictLines, lastLine, totalsText}
 use Rattle.totals.proofs.totals.Statement.{statement}
 use Rattle.totals.proofs.totals.Tie as tie
 
-put-cards-requires : tie.Need-put-cards-requires
-put-cards-requires c κs = search needs
+put-first-requires : tie.Need-put-first-requires
+put-first-requires c κs = search needs
 
-put-reason-lines-requires : tie.Need-put-reason-lines-requires
-put-reason-lines-requires c κs = search needs
+put-lines-requires : tie.Need-put-lines-requires
+put-lines-requires c κs = search needs
 
-put-like-lines-requires : tie.Need-put-like-lines-requires
-put-like-lines-requires c κs = search needs
-
-all-good-requires : tie.Need-all-good-requires
-all-good-requires c κs = search needs
+all-fine-requires : tie.Need-all-fine-requires
+all-fine-requires c κs = search needs
 
 put-last-requires : tie.Need-put-last-requires
 put-last-requires c κs = search needs
@@ -27,16 +23,29 @@ same-length : tie.Need-same-length
 same-length c = search needs
 
 returns : tie.Need-returns
-returns c = let a = c .before .before .before .before .before .before .before .before .before .before .before .before .before .before .before .before .before .before .before .before .before .args in let x = cardsLine (a .answers .now) in let y = reasonLines 9 (a .answers .now) in let z = likeLines (a .given) (a .alikes .now) (a .blikes .now) in told (totalsText (a .given) (a .answers .now) (a .alikes .now) (a .blikes .now)) (a .room .now) _ _ (put-as (put-more (x ++ y ++ z) (lastLine (c .before .before .before .all-good .result)) (put-more (x ++ y) z (put-more x y (c .before .before .before .before .before .before .before .before .before .before .before .before .before .before .before .put-cards .ensures) (c .before .before .before .before .before .before .before .before .before .before .before .put-reason-lines .ensures)) (c .before .before .before .before .before .before .before .put-like-lines .ensures)) (c .before .before .put-last .ensures)) (totals-are (a .given) (a .answers .now) (a .alikes .now) (a .blikes .now) _ (c .before .before .before .all-good .ensures)))
+unfolding totalsText
+returns c =
+    let p3 = c .before .before .before in
+    let p7 = p3 .before .before .before .before in
+    let p11 = p7 .before .before .before .before in
+    let p15 = p11 .before .before .before .before in
+    let a = p15 .args in
+    let r = a .ranks .now in
+    let x = firstLine (a .given) r in
+    let y = verdictLines 21 r in
+    told (totalsText (a .given) r) (a .room .now) _ _
+    (put-as
+    (put-more (x ++ y) (lastLine (a .given) (p3 .all-fine .result))
+    (put-more x y (p11 .put-first .ensures) (p7 .put-lines .ensures)) (c .before .before .put-last .ensures))
+    (ap (λ t. x ++ y ++ lastLine (a .given) t) (p3 .all-fine .ensures)))
 
 pub totals-spec : {M : Type 1} → statement M
 totals-spec =
     tie.close
     (tie.spec
-    put-cards-requires
-    put-reason-lines-requires
-    put-like-lines-requires
-    all-good-requires
+    put-first-requires
+    put-lines-requires
+    all-fine-requires
     put-last-requires
     same-length
     returns)

@@ -16,20 +16,19 @@ slice-aggregate-read-2 c = search needs
 read-requires : tie.Need-read-requires
 read-requires c κs = search needs
 
+counted-requires : tie.Need-counted-requires
+counted-requires c κs = search needs
+
 refused-requires : tie.Need-refused-requires
 refused-requires c κs = search needs
 
 returns : tie.Need-returns
-returns c = c .refused .ensures ∙ refused-is (c .before .before .before .before .before .before .before .before .before .args .frame .now) _ _ refl refl (c .before .before .before .before .before .read .result) (c .before .before .before .before .before .read .last .1 .0) (c .before .before .before .before .before .read .last .1 .1 .0) (c .before .before .before .before .before .read .ensures) (c .before .before .before .before .before .before .before .before .before .args .customer) (c .before .if1 .taken)
-
-slice-aggregate-highest : tie.Need-slice-aggregate-highest
-slice-aggregate-highest c = search needs
-
-highest-requires : tie.Need-highest-requires
-highest-requires c κs = search needs
-
-cast-t14 : tie.Need-cast-t14
-cast-t14 c = omega (arith, c .highest .ensures, highest-within (c .before .before .before .before .before .before .before .before .read .last .1 .0), c .before .before .before .before .before .before .before .before .read .kept .1 .0)
+returns c =
+    let a = c .before .before .before .before .before .before .before .before .before .before .args in
+    let r = c .before .before .before .before .before .before .read in
+    c .refused .ensures
+    ∙ refused-is (a .frame .now) _ _ refl refl (r .result) (r .last .1 .0) (r .last .1 .1 .0) (r .ensures) (a .customer)
+    (c .before .if1 .taken) _ (c .before .before .before .counted .ensures)
 
 like-requires : tie.Need-like-requires
 like-requires c κs = search needs
@@ -37,8 +36,37 @@ like-requires c κs = search needs
 like-requires-2 : tie.Need-like-requires-2
 like-requires-2 c κs = search needs
 
+training-rank-requires : tie.Need-training-rank-requires
+training-rank-requires c κs = search needs
+
+slice-aggregate-highest : tie.Need-slice-aggregate-highest
+slice-aggregate-highest c = search needs
+
+highest-requires : tie.Need-highest-requires
+highest-requires c κs = search needs
+
+cast-t19 : tie.Need-cast-t19
+cast-t19 c =
+    let p12 = c .before .before .before .before .before .before .before .before .before .before .before .before in
+    let r = p12 .read in omega (arith, c .highest .ensures, highest-within (r .last .1 .0), r .kept .1 .0)
+
 returns-2 : tie.Need-returns-2
-returns-2 c = training-made (c .before .before .before .before .before .before .before .before .before .before .before .before .before .before .args .frame .now) _ _ refl refl (c .before .before .before .before .before .before .before .before .before .before .read .result) (c .before .before .before .before .before .before .before .before .before .before .read .last .1 .0) (c .before .before .before .before .before .before .before .before .before .before .read .last .1 .1 .0) (c .before .before .before .before .before .before .before .before .before .before .read .ensures) (c .before .before .before .before .before .before .before .before .before .before .before .before .before .before .args .customer) (c .before .before .before .before .before .before .if1 .left) _ _ _ (c .before .before .highest .ensures) (c .before .like .ensures) (c .like2 .ensures) (c .before .before .before .before .if2 .taken)
+returns-2 c =
+    let p3 = c .before .before .before in
+    let p4 = p3 .before in
+    let p5 = p4 .before in
+    let p7 = p5 .before .before in
+    let p9 = p7 .before .before in
+    let p12 = p9 .before .before .before in
+    let p16 = p12 .before .before .before .before in
+    let a = p16 .args in
+    let r = p12 .read in
+    training-made (a .frame .now) _ _ refl refl (r .result) (r .last .1 .0) (r .last .1 .1 .0) (r .ensures) (a .customer)
+    (p7 .if1 .left) _ (p9 .counted .ensures) _ _ _ _ (c .highest .ensures)
+    (p4 .like .ensures) (p3 .like2 .ensures) (c .before .before .training-rank .ensures) (p5 .if2 .taken)
+
+final-rank-requires : tie.Need-final-rank-requires
+final-rank-requires c κs = search needs
 
 no-word-requires : tie.Need-no-word-requires
 no-word-requires c κs = search needs
@@ -47,7 +75,17 @@ no-word-requires-2 : tie.Need-no-word-requires-2
 no-word-requires-2 c κs = search needs
 
 returns-3 : tie.Need-returns-3
-returns-3 c = final-made (c .before .before .before .before .before .before .before .before .before .before .before .before .args .frame .now) _ _ refl refl (c .before .before .before .before .before .before .before .before .read .result) (c .before .before .before .before .before .before .before .before .read .last .1 .0) (c .before .before .before .before .before .before .before .before .read .last .1 .1 .0) (c .before .before .before .before .before .before .before .before .read .ensures) (c .before .before .before .before .before .before .before .before .before .before .before .before .args .customer) (c .before .before .before .before .if1 .left) _ _ (c .before .no-word .ensures) (c .no-word2 .ensures) (c .before .before .if2 .left)
+returns-3 c =
+    let p3 = c .before .before .before in
+    let p5 = p3 .before .before in
+    let p7 = p5 .before .before in
+    let p10 = p7 .before .before .before in
+    let p14 = p10 .before .before .before .before in
+    let a = p14 .args in
+    let r = p10 .read in
+    final-made (a .frame .now) _ _ refl refl (r .result) (r .last .1 .0) (r .last .1 .1 .0) (r .ensures) (a .customer)
+    (p5 .if1 .left) _ (p7 .counted .ensures) _ _ _ (c .before .before .final-rank .ensures)
+    (c .before .no-word .ensures) (c .no-word2 .ensures) (p3 .if2 .left)
 
 pub judge-spec : {M : Type 1} → statement M
 judge-spec =
@@ -56,14 +94,17 @@ judge-spec =
     slice-aggregate-read
     slice-aggregate-read-2
     read-requires
+    counted-requires
     refused-requires
     returns
-    slice-aggregate-highest
-    highest-requires
-    cast-t14
     like-requires
     like-requires-2
+    training-rank-requires
+    slice-aggregate-highest
+    highest-requires
+    cast-t19
     returns-2
+    final-rank-requires
     no-word-requires
     no-word-requires-2
     returns-3)

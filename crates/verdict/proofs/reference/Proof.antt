@@ -15,7 +15,10 @@ nobody-requires-2 : tie.Need-nobody-requires-2
 nobody-requires-2 c κs = search needs
 
 returns-2 : tie.Need-returns-2
-returns-2 c = c .nobody2 .ensures ∙ customer-final (c .before .before .before .before .before .args .v) (c .before .before .before .if1 .left) (c .before .if2 .taken)
+returns-2 c =
+    let p3 = c .before .before .before in
+    let p5 = p3 .before .before in
+    c .nobody2 .ensures ∙ customer-final (p5 .args .v) (p3 .if1 .left) (c .before .if2 .taken)
 
 returns-3 : tie.Need-returns-3
 returns-3 c = customer-given (c .before .before .before .before .args .v) (c .before .before .if1 .left) (c .if2 .left)
