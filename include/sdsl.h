@@ -165,7 +165,7 @@ enum sdsl_kind { SDSL_TRAINING = 0, SDSL_FINAL = 1 };
  *
  * Example:
  *     uint8_t coefficients[SDSL_COEFFICIENT_OCTETS] = {0}, vendor[SDSL_VENDOR_OCTETS] = "bench 7", frame[SDSL_FRAME_OCTETS];
- *     coefficients[2] = 1; // coefficient 1 is 65536 steps, one half
+ *     sdsl_put_number(coefficients, 0, SDSL_STEPS / 2); // coefficient 1 is one half
  *     uint32_t answer = sdsl_frame_write(SDSL_TRAINING, SDSL_COUNT_MIN, coefficients, sizeof coefficients, 1, 2,
  *                                        vendor, sizeof vendor, frame, sizeof frame);
  *     assert(answer == SDSL_DONE && frame[0] == 0x9F && frame[1] == 0x35); // training sync, and two bits of coefficient 1
@@ -223,7 +223,7 @@ struct sdsl_scrambled {
 };
 
 /*
- * The state that an end starts with, SDSL_LTU or SDSL_NTU.
+ * The state that the scrambler of an end, SDSL_LTU or SDSL_NTU, starts with.
  * Answers 0, 2 (end).
  *
  * Example:
