@@ -21,7 +21,8 @@ use Rattle.startup.proofs.Simulates.{kOf, sound}
 use Rattle.startup.proofs.Logged.{attempts-listed}
 use Rattle.startup.proofs.Agreement.{run-sums}
 use Rattle.startup.proofs.Stands.{stands-answer}
-use Rattle.startup.proofs.Three.{opening as openingOf, answered-run, skipped-run, opens-run, ends-run, in-data-run, in-exception-run, meant-range, started, start-answers, either-end}
+use Rattle.startup.proofs.Three.{opening as openingOf, answered-run, skipped-run, opens-run, ends-run}
+use Rattle.startup.proofs.Three.{in-data-run, in-exception-run, meant-range, started, start-answers, either-end}
 use Rattle.host.specs.declared.supervising.Supervisor.{Supervisor}
 use Rattle.host.specs.declared.supervising.Stepped.{Stepped}
 use Rattle.host.specs.declared.supervising.Run.{Run}
@@ -142,7 +143,14 @@ module _ {S T : Type 0} (m : Make S) (n : Make T) (g : T → S) (back : S → T)
         w .0,
         w .1,
         runs t l
-            ∙ ap (λ (q : Ran S). record { answer = q .answer; attempts = q .attempts; openedAt = q .openedAt; outcome = q .outcome; endedAt = q .endedAt; state = back (q .state) }) (w .2)
+            ∙ ap (λ (q : Ran S). record {
+              answer = q .answer;
+              attempts = q .attempts;
+              openedAt = q .openedAt;
+              outcome = q .outcome;
+              endedAt = q .endedAt;
+              state = back (q .state);
+            }) (w .2)
             ∙ over-back (stepsBy m (g t) l) (w .0) ∙ ap (λ (s : T). ranOver s (w .0)) (ap back (sym (steps-alike t l)) ∙ whole _),
       );
     }
