@@ -14,7 +14,6 @@ use Rattle.startup.specs.Attempts.{at, one, Needs, needsOf, meant}
 use Rattle.startup.specs.Stands.{Stands}
 use Rattle.startup.specs.Scan.{Attempt, attempts}
 use Rattle.startup.specs.declared.Run.{Run as StartupRun}
-use Rattle.startup.specs.Run.{runOf}
 use Rattle.startup.specs.Agrees.{summary}
 use Rattle.startup.specs.Make.{Reply, Ran, Make, stepsBy, phaseAt, replyTo, FirstShows, ranOver, Taken, steps, ours}
 use Rattle.startup.proofs.Simulates.{kOf, sound}
@@ -25,7 +24,6 @@ use Rattle.startup.proofs.Three.{opening as openingOf, answered-run, skipped-ru
 use Rattle.startup.proofs.Three.{in-data-run, in-exception-run, meant-range, started, start-answers, either-end}
 use Rattle.host.specs.declared.supervising.Supervisor.{Supervisor}
 use Rattle.host.specs.declared.supervising.Stepped.{Stepped}
-use Rattle.host.specs.declared.supervising.Run.{Run}
 use Rattle.host.specs.Supervising.{stateIn, stateOf}
 use Rattle.demands.specs.Library.{Library}
 use Rattle.demands.specs.Contracts.{Keeps}

@@ -5,15 +5,15 @@ use native.Mathlib.Omega.{arith}
 use mathlib.Core.Path.{_≡_, refl, sym, ap, subst, _∙_}
 use mathlib.Core.Logic.{_⊎_, inl, inr, ⊎-elim}
 use mathlib.Core.Bool.{Bool, true, false, cond, not, _||_, false≢true}
-use mathlib.Core.List.{List, [], _∷_}
-use borrow.Author.Tests.{ltb-false, leb-true, leb-false, not-false, eqb-true, ne-eqb}
+use mathlib.Core.List.{[], _∷_}
+use borrow.Author.Tests.{ltb-false, leb-true, leb-false, not-false, ne-eqb}
 use lib.Dec.{ltb, leb, eqb}
 use Rattle.answer.specs.Answer.{refuse, answer}
 use Rattle.answer.proofs.Laws.{none}
 use Rattle.supervisor.specs.declared.Supervisor.{Supervisor}
 use Rattle.supervisor.specs.declared.Answer.{Answer}
-use Rattle.supervisor.specs.Phases.{Ready, Exception, Row, ntu, ltu, phasesOf, isOf, rowOf}
-use Rattle.supervisor.specs.Step.{changed, entered, acted, moved, stateRefusals, answered, none as noState, silenceOf, startRefusals, fresh, startOf}
+use Rattle.supervisor.specs.Phases.{Ready, Row, ntu, ltu, phasesOf, isOf, rowOf}
+use Rattle.supervisor.specs.Step.{acted, moved, stateRefusals, answered, none as noState, silenceOf, startRefusals, fresh, startOf}
 
 -- the same either way
 pub same-both : {A : Type 0} (b : Bool) (x : A) → cond b x x ≡ x
