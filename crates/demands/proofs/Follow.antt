@@ -74,7 +74,9 @@ module _ (x : Library) (two : Two x) where
 numbers-range : (n : ℕ) (bits : List ℕ) → Bits bits → every isCoefficient (numbersIn 22 n bits) ≡ true
 unfolding numbersIn every
 numbers-range zero bits h = refl
-numbers-range (suc n) bits h = rw (mag-range 2097151 (signedOf 22 (valueOf (take 22 bits))) (omega (arith, signed-range 22 (valueOf (take 22 bits)) (lit≤ tt) (value-part 22 bits h)))) (numbers-range n (drop 22 bits) (drop-bits 22 bits h))
+numbers-range (suc n) bits h =
+    rw (mag-range 2097151 (signedOf 22 (valueOf (take 22 bits))) (omega (arith, signed-range 22 (valueOf (take 22 bits)) (lit≤ tt) (value-part 22 bits h))))
+    (numbers-range n (drop 22 bits) (drop-bits 22 bits h))
 
 module _ (x : Library) (two : Two x) (c : ReadCall) (room : List ℕ) (o : Octets (c .frame)) (h : Right (readChecks c))
     (t : hasSync trainingSync (bitsOf (c .frame)) ≡ true) (lr : length room ≡ 529) where
@@ -93,7 +95,15 @@ module _ (x : Library) (two : Two x) (c : ReadCall) (room : List ℕ) (o : Octet
       let cs = coefficientsOf B in
       let l : length cs ≡ 180 = numbers-length 22 180 (fieldOf coefficientsField B) in
       let all : every isCoefficient cs ≡ true = numbers-range 180 (fieldOf coefficientsField B) (field-bits B L hB 14 3960) in
-      let w : WriteCall = record { kind = 0; count = 180; coefficients = numberOctets cs; a = valueOf (fieldOf aField B); b = valueOf (fieldOf bField B); vendor = octetsOf 16 (fieldOf vendorField B); frame = room } in
+      let w : WriteCall = record {
+        kind = 0;
+        count = 180;
+        coefficients = numberOctets cs;
+        a = valueOf (fieldOf aField B);
+        b = valueOf (fieldOf bField B);
+        vendor = octetsOf 16 (fieldOf vendorField B);
+        frame = room;
+      } in
       let n : numbersOf (numberOctets cs) ≡ cs = numbers-kept cs (λ i. omega (arith, mag-at 2097151 cs i all)) in
       let R = writeRefusals 0 180 (numbersOf (numberOctets cs)) (w .a) (w .b) (w .vendor) room in
       let word : (at : ℕ) → valueOf (part at 21 B) ≤ 2097151 = λ at. omega (arith, value-part 21 (drop at B) (drop-bits at B hB)) in
@@ -102,7 +112,8 @@ module _ (x : Library) (two : Two x) (c : ReadCall) (room : List ℕ) (o : Octet
       ∙ passed 1 (drop 1 R) (ap not (eq-eqb _ _ (ap length n ∙ l)))
       ∙ passed 1 (drop 2 R) (ap not (eq-eqb _ _ (octets-length 16 (fieldOf vendorField B))))
       ∙ passed 1 (drop 3 R) (ap not (eq-eqb _ _ lr))
-      ∙ passed 4 (drop 6 R) (ap (λ (zs : List ℤ). not (every isCoefficient (take 180 zs))) n ∙ ap (λ (zs : List ℤ). not (every isCoefficient zs)) (take-all 180 cs (omega arith)) ∙ ap not all)
+      ∙ passed 4 (drop 6 R) (ap (λ (zs : List ℤ). not (every isCoefficient (take 180 zs))) n
+      ∙ ap (λ (zs : List ℤ). not (every isCoefficient zs)) (take-all 180 cs (omega arith)) ∙ ap not all)
       ∙ passed 4 [] (ap not (ap₂ _&&_ (le-leb (w .a) 2097151 (word 3974)) (le-leb (w .b) 2097151 (word 3995)))) in
       ap (λ (r : Outcome Fields Rooms). x .write (call r) .memory) (two .exact .frames .read-training c h t)
       ∙ ap (λ (m : Outcome None (List ℕ)). m .memory) (two .exact .frames .training w refl right)

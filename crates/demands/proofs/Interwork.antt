@@ -41,7 +41,8 @@ use Rattle.demands.proofs.Fit.{many, lengths-fit, training-fit, kind-fi
 
 -- ---- frames
 
-module _ (x y : Library) (ex : Frames x) (ey : Frames y) (c : WriteCall) (room v : List ℕ) (h : Right (writeChecks c)) (o : Octets (c .vendor)) (lr : length room ≡ 720) (lv : length v ≡ 16) where
+module _ (x y : Library) (ex : Frames x) (ey : Frames y) (c : WriteCall) (room v : List ℕ) (h : Right (writeChecks c)) (o : Octets (c .vendor))
+    (lr : length room ≡ 720) (lv : length v ≡ 16) where
   abbrev call : List ℕ → ReadCall
   call frame = record { frame = frame; coefficients = room; vendor = v }
 
@@ -58,7 +59,8 @@ module _ (x y : Library) (ex : Frames x) (ey : Frames y) (c : WriteCall) (room v
       let r : Right (readChecks (call F)) = read-right (call F) lr (octets-length 529 T) lv (ap (λ (b : List ℕ). answer (bitRefusals b)) B ∙ t .0) in
       ap (λ (m : Outcome None (List ℕ)). y .read (call (m .memory))) (ex .training c e h)
       ∙ ey .read-training (call F) r (ap (hasSync _) B ∙ t .1)
-      ∙ ap (λ (b : List ℕ). done (record { kind = 0; a = valueOf (fieldOf aField b); b = valueOf (fieldOf bField b) }) (record { coefficients = numberOctets (coefficientsOf b); vendor = octetsOf 16 (fieldOf vendorField b) })) B
+      ∙ ap (λ (b : List ℕ). done (record { kind = 0; a = valueOf (fieldOf aField b); b = valueOf (fieldOf bField b) })
+      (record { coefficients = numberOctets (coefficientsOf b); vendor = octetsOf 16 (fieldOf vendorField b) })) B
       ∙ ap₂ (λ (p q : ℕ). done (record { kind = 0; a = p; b = q }) (record { coefficients = numberOctets (coefficientsOf T); vendor = octetsOf 16 (fieldOf vendorField T) }))
       (a-back (c .count) cs (c .a) (c .b) (c .vendor) (f .count) n (f .vendor) (f .a)) (b-back (c .count) cs (c .a) (c .b) (c .vendor) (f .count) n (f .vendor) (f .b))
       ∙ ap₂ (λ (p : List ℤ) (q : List ℕ). done (record { kind = 0; a = c .a; b = c .b }) (record { coefficients = numberOctets p; vendor = q }))
@@ -87,7 +89,8 @@ laid-there s bs n h l m =
 
 -- the checks of a run that passed, for another input and output of the same length
 pub run-right : (c : RunCall) (input output : List ℕ) → Right (runChecks c) → length input ≡ length (c .output) → length output ≡ length (c .output)
-    → (length (c .input) ≡ length (c .output)) × (c .bits ≤ 8 * length (c .output)) × Right (runChecks (record { end = c .end; state = c .state; input = input; bits = c .bits; output = output }))
+    → (length (c .input) ≡ length (c .output)) × (c .bits ≤ 8 * length (c .output)) × Right
+    (runChecks (record { end = c .end; state = c .state; input = input; bits = c .bits; output = output }))
 run-right c input output h l m =
     let R = runChecks c in
     let R′ = runChecks (record { end = c .end; state = c .state; input = input; bits = c .bits; output = output }) in

@@ -83,7 +83,8 @@ only none = refl
 pub found-answer : (n : ℕ) (bits : List ℕ) → foundOf n bits .answer ≡ n
 found-answer zero bits = pick (hasSync trainingSync bits)
   where
-    pick : (s : Bool) → cond {A = Found} s (record { answer = 0; kind = 0; a = valueOf (fieldOf aField bits); b = valueOf (fieldOf bField bits) }) (record { answer = 0; kind = 1; a = 0; b = 0 }) .answer ≡ 0
+    pick : (s : Bool) → cond {A = Found} s (record { answer = 0; kind = 0; a = valueOf (fieldOf aField bits); b = valueOf (fieldOf bField bits) })
+        (record { answer = 0; kind = 1; a = 0; b = 0 }) .answer ≡ 0
     pick true = refl
     pick false = refl
 found-answer (suc n) bits = refl

@@ -52,7 +52,12 @@ sample y = held (answer (shaperTests y)) (ofBits binary32 0) (div binary32 (ofIn
 -- what our functions compute, by the definitions that their contracts cite
 unfoldable pub ours : Library
 ours = record {
-  write = λ c. record { answer = answer (writeChecks c); numbers = none; memory = held (answer (writeChecks c)) (c .frame) (frameOctets (c .kind) (c .count) (numbersOf (c .coefficients)) (c .a) (c .b) (c .vendor)) };
+  write = λ c. record {
+    answer = answer (writeChecks c);
+    numbers = none;
+    memory = held (answer (writeChecks c)) (c .frame)
+        (frameOctets (c .kind) (c .count) (numbersOf (c .coefficients)) (c .a) (c .b) (c .vendor));
+  };
   check = λ f. record { answer = answer (checkRefusals f); numbers = none; memory = none };
   read = λ c.
       let n = answer (readChecks c) in
@@ -60,7 +65,11 @@ ours = record {
       record {
         answer = f .answer;
         numbers = record { kind = f .kind; a = f .a; b = f .b };
-        memory = record { coefficients = held n (c .coefficients) (coefficientOctets (bitsOf (c .frame)) (c .coefficients)); vendor = held n (c .vendor) (vendorOctets (bitsOf (c .frame))) };
+        memory = record {
+          coefficients = held n (c .coefficients) (coefficientOctets (bitsOf (c .frame)) (c .coefficients));
+          vendor = held n (c .vendor)
+              (vendorOctets (bitsOf (c .frame)));
+        };
       };
   run = λ way c.
       let n = answer (runChecks c) in
@@ -120,7 +129,8 @@ ours = record {
       };
   shape = λ y. record { answer = answer (shaperTests y); numbers = sample y; memory = none };
   start = λ c. let r = startOf (c .end) (c .silence) in record { answer = r .answer; numbers = record { phase = r .phase; attempt = r .attempt }; memory = stateOf (r .state) };
-  step = λ c. let r = stepOf (stateIn (c .state)) (c .code) in record { answer = r .answer; numbers = record { phase = r .phase; attempt = r .attempt }; memory = stateOf (r .state) };
+  step = λ c. let r = stepOf (stateIn (c .state)) (c .code) in
+      record { answer = r .answer; numbers = record { phase = r .phase; attempt = r .attempt }; memory = stateOf (r .state) };
   run-codes = λ c.
       let r = runFieldsOf (codesRun (stateIn (c .state)) (c .codes)) in
       record { answer = r .answer; numbers = record { attempts = r .attempts; opened-at = r .«opened_at»; outcome = r .outcome; ended-at = r .«ended_at» }; memory = r .state };

@@ -1,21 +1,20 @@
 -- No supervisor that SCOPE rejects meets demand 3. Assumes nothing.
 use mathlib.Core.Path.{_≡_, refl, sym, ap, _∙_, subst}
 use mathlib.Core.Bool.{true, false, true≢false}
-use mathlib.Core.Logic.{_⊎_, inl, inr, ⊎-elim}
+use mathlib.Core.Logic.{_⊎_, inl, ⊎-elim}
 use mathlib.Core.List.{List, [], _∷_, _++_}
 use Prim.Native.Nat.{ℕ, suc, _≤_}
 use native.Mathlib.Omega.{arith}
 use lib.Dec.{lit≤}
 use lib.ListN.{length}
-use Rattle.supervisor.specs.Phases.{Hearing, Settling, Exception, inAttempt}
-use Rattle.startup.specs.Attempts.{at, count, ltuNeeds, ntuNeeds, need, shown, InTime, StillOpen, EndsInData, fresh, counted, OpensAt, opens}
-use Rattle.startup.specs.Stands.{Stands, trying}
-use Rattle.startup.specs.Scan.{Attempt, attempt, attempts, Listed}
+use Rattle.supervisor.specs.Phases.{Hearing, Exception, inAttempt}
+use Rattle.startup.specs.Attempts.{count, ltuNeeds, ntuNeeds, need, shown, InTime, StillOpen, EndsInData, fresh, counted, OpensAt, opens}
+use Rattle.startup.specs.Scan.{Attempt, attempt, Listed}
 use Rattle.startup.specs.Make.{Make, Ran, phaseAt, replyTo, FirstShows, ranOver}
 use Rattle.startup.proofs.Counts.{in-order-le}
 use Rattle.startup.proofs.Fate.{open-now}
 use Rattle.startup.proofs.Simulates.{sound}
-use Rattle.startup.proofs.Stands.{stands-once, open-says}
+use Rattle.startup.proofs.Stands.{open-says}
 use Rattle.startup.proofs.Cases.{quiet, settles}
 use Rattle.startup.proofs.Agreement.{scan-agrees}
 use Rattle.demands.specs.Three.{Follows, Three}

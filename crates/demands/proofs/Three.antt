@@ -14,17 +14,16 @@ use Rattle.startup.specs.Attempts.{at, one, Needs, needsOf, meant}
 use Rattle.startup.specs.Stands.{Stands}
 use Rattle.startup.specs.Scan.{Attempt, attempts}
 use Rattle.startup.specs.declared.Run.{Run as StartupRun}
-use Rattle.startup.specs.Run.{runOf}
 use Rattle.startup.specs.Agrees.{summary}
 use Rattle.startup.specs.Make.{Reply, Ran, Make, stepsBy, phaseAt, replyTo, FirstShows, ranOver, Taken, steps, ours}
 use Rattle.startup.proofs.Simulates.{kOf, sound}
 use Rattle.startup.proofs.Logged.{attempts-listed}
 use Rattle.startup.proofs.Agreement.{run-sums}
 use Rattle.startup.proofs.Stands.{stands-answer}
-use Rattle.startup.proofs.Three.{opening as openingOf, answered-run, skipped-run, opens-run, ends-run, in-data-run, in-exception-run, meant-range, started, start-answers, either-end}
+use Rattle.startup.proofs.Three.{opening as openingOf, answered-run, skipped-run, opens-run, ends-run}
+use Rattle.startup.proofs.Three.{in-data-run, in-exception-run, meant-range, started, start-answers, either-end}
 use Rattle.host.specs.declared.supervising.Supervisor.{Supervisor}
 use Rattle.host.specs.declared.supervising.Stepped.{Stepped}
-use Rattle.host.specs.declared.supervising.Run.{Run}
 use Rattle.host.specs.Supervising.{stateIn, stateOf}
 use Rattle.demands.specs.Library.{Library}
 use Rattle.demands.specs.Contracts.{Keeps}
@@ -142,7 +141,14 @@ module _ {S T : Type 0} (m : Make S) (n : Make T) (g : T → S) (back : S → T)
         w .0,
         w .1,
         runs t l
-            ∙ ap (λ (q : Ran S). record { answer = q .answer; attempts = q .attempts; openedAt = q .openedAt; outcome = q .outcome; endedAt = q .endedAt; state = back (q .state) }) (w .2)
+            ∙ ap (λ (q : Ran S). record {
+              answer = q .answer;
+              attempts = q .attempts;
+              openedAt = q .openedAt;
+              outcome = q .outcome;
+              endedAt = q .endedAt;
+              state = back (q .state);
+            }) (w .2)
             ∙ over-back (stepsBy m (g t) l) (w .0) ∙ ap (λ (s : T). ranOver s (w .0)) (ap back (sym (steps-alike t l)) ∙ whole _),
       );
     }

@@ -53,7 +53,8 @@ part-of-bits : (s : List ℕ) (at n : ℕ) → Bits (part at n (bitsOf s))
 part-of-bits s at n = take-bits n (drop at (bitsOf s)) (drop-bits at (bitsOf s) (bits-bits s))
 
 module _ (x : Library) (k : Keeps x) where
-  write-training : (c : WriteCall) → c .kind ≡ 0 → Right (writeChecks c) → x .write c ≡ done none (octetsOf 529 (trainingBits (c .count) (numbersOf (c .coefficients)) (c .a) (c .b) (c .vendor)))
+  write-training : (c : WriteCall) → c .kind ≡ 0 → Right (writeChecks c)
+      → x .write c ≡ done none (octetsOf 529 (trainingBits (c .count) (numbersOf (c .coefficients)) (c .a) (c .b) (c .vendor)))
   write-training c e h =
       let z : x .write c .answer ≡ 0 = k .write c refl .answered ∙ h in
       same z (only _)
@@ -74,7 +75,12 @@ module _ (x : Library) (k : Keeps x) where
       let e = k .read c refl .found ∙ ap (λ (n : ℕ). fieldsOf (foundOf n (bitsOf (c .frame)))) h in
       let m = k .read c refl .coefficients-left ∙ held-given _ _ _ h in
       let v = k .read c refl .vendor-left ∙ held-given _ _ _ h in
-      same (ap (λ (f : FrameFields). f .answer) e ∙ found-answer 0 (bitsOf (c .frame))) (λ i. record { kind = e i .kind; a = e i .a; b = e i .b }) (λ i. record { coefficients = m i; vendor = v i })
+      same (ap (λ (f : FrameFields). f .answer) e ∙ found-answer 0 (bitsOf (c .frame))) (λ i. record {
+        kind =
+            e i .kind;
+        a = e i .a;
+        b = e i .b;
+      }) (λ i. record { coefficients = m i; vendor = v i })
 
   pub frames : Frames x
   frames = record {
@@ -89,7 +95,11 @@ module _ (x : Library) (k : Keeps x) where
   -- ---- scrambling
 
   run-is : (way : Way) (c : RunCall) → Right (runChecks c) → x .run way c ≡ done none
-      (record { state = afterOf way (tapOf (c .end)) (c .state) (given (c .input) (c .bits)); output = laid (c .output) 0 (runOf way (tapOf (c .end)) (c .state) (given (c .input) (c .bits))) })
+      (record {
+        state = afterOf way (tapOf (c .end)) (c .state) (given (c .input) (c .bits));
+        output = laid (c .output) 0
+            (runOf way (tapOf (c .end)) (c .state) (given (c .input) (c .bits)));
+      })
   run-is way c h =
       let w = k .run way c refl in
       let z : w .ran .answer ≡ 0 = w .promise .answered ∙ h in
@@ -114,7 +124,12 @@ module _ (x : Library) (k : Keeps x) where
         let lt = run-sound (record { end = c .end; state = c .state }) (c .input) (c .bits) (c .output) h .1 in (
           runOf scramble (tapOf (c .end)) (c .state) (given (c .input) (c .bits)),
           run-scrambles (tapOf (c .end)) (t .0) (t .1) (c .state) (given (c .input) (c .bits)) b,
-          run-is scramble c h ∙ ap (λ (n : ℕ). done none (record { state = n; output = laid (c .output) 0 (runOf scramble (tapOf (c .end)) (c .state) (given (c .input) (c .bits))) })) (scrambled-state (tapOf (c .end)) (c .state) (given (c .input) (c .bits)) lt),
+          run-is scramble c h ∙ ap (λ (n : ℕ). done none (record {
+            state =
+                n;
+            output = laid (c .output) 0 (runOf scramble (tapOf (c .end)) (c .state) (given (c .input) (c .bits)));
+          }))
+              (scrambled-state (tapOf (c .end)) (c .state) (given (c .input) (c .bits)) lt),
         );
     descrambled = λ c h.
         let t = tap-range (c .end) in
@@ -122,7 +137,12 @@ module _ (x : Library) (k : Keeps x) where
         let lt = run-sound (record { end = c .end; state = c .state }) (c .input) (c .bits) (c .output) h .1 in (
           runOf descramble (tapOf (c .end)) (c .state) (given (c .input) (c .bits)),
           run-descrambles (tapOf (c .end)) (t .0) (t .1) (c .state) (given (c .input) (c .bits)) b,
-          run-is descramble c h ∙ ap (λ (n : ℕ). done none (record { state = n; output = laid (c .output) 0 (runOf descramble (tapOf (c .end)) (c .state) (given (c .input) (c .bits))) })) (descrambled-state (tapOf (c .end)) (c .state) (given (c .input) (c .bits)) lt b),
+          run-is descramble c h ∙ ap (λ (n : ℕ). done none (record {
+            state =
+                n;
+            output = laid (c .output) 0 (runOf descramble (tapOf (c .end)) (c .state) (given (c .input) (c .bits)));
+          }))
+              (descrambled-state (tapOf (c .end)) (c .state) (given (c .input) (c .bits)) lt b),
         );
     frame-scrambled = λ c h.
         let t = tap-range (c .end) in
@@ -130,7 +150,12 @@ module _ (x : Library) (k : Keeps x) where
         let lt = frame-sound (record { end = c .end; state = c .state }) (c .frame) (c .output) h .2 in (
           runOf scramble (tapOf (c .end)) (c .state) (clocked (c .frame)),
           run-scrambles (tapOf (c .end)) (t .0) (t .1) (c .state) (clocked (c .frame)) b,
-          frame-is scramble c h ∙ ap (λ (n : ℕ). done none (record { state = n; output = around (c .frame) (runOf scramble (tapOf (c .end)) (c .state) (clocked (c .frame))) })) (scrambled-state (tapOf (c .end)) (c .state) (clocked (c .frame)) lt),
+          frame-is scramble c h ∙ ap (λ (n : ℕ). done none (record {
+            state =
+                n;
+            output = around (c .frame) (runOf scramble (tapOf (c .end)) (c .state) (clocked (c .frame)));
+          }))
+              (scrambled-state (tapOf (c .end)) (c .state) (clocked (c .frame)) lt),
         );
     frame-descrambled = λ c h.
         let t = tap-range (c .end) in
@@ -138,7 +163,12 @@ module _ (x : Library) (k : Keeps x) where
         let lt = frame-sound (record { end = c .end; state = c .state }) (c .frame) (c .output) h .2 in (
           runOf descramble (tapOf (c .end)) (c .state) (clocked (c .frame)),
           run-descrambles (tapOf (c .end)) (t .0) (t .1) (c .state) (clocked (c .frame)) b,
-          frame-is descramble c h ∙ ap (λ (n : ℕ). done none (record { state = n; output = around (c .frame) (runOf descramble (tapOf (c .end)) (c .state) (clocked (c .frame))) })) (descrambled-state (tapOf (c .end)) (c .state) (clocked (c .frame)) lt b),
+          frame-is descramble c h ∙ ap (λ (n : ℕ). done none (record {
+            state =
+                n;
+            output = around (c .frame) (runOf descramble (tapOf (c .end)) (c .state) (clocked (c .frame)));
+          }))
+              (descrambled-state (tapOf (c .end)) (c .state) (clocked (c .frame)) lt b),
         );
   }
 

@@ -1,6 +1,6 @@
 -- From what C can hand in to every call: a library that keeps the contracts there does what one does that keeps them everywhere. Assumes nothing.
 use mathlib.Core.Path.{_≡_, refl, sym, ap}
-use mathlib.Core.Bool.{Bool, true, false, cond}
+use mathlib.Core.Bool.{Bool, true, cond}
 use Rattle.supervisor.proofs.Laws.{by-cases}
 use Rattle.demands.specs.Library.{Library}
 use Rattle.demands.specs.FromC.{fromC}

@@ -1,8 +1,8 @@
 -- The libraries that have to be rejected, built: ours with one other function, which meet demand 1. Assumes nothing.
 use mathlib.Core.Path.{_≡_, refl, sym, ap, _∙_, subst}
-use mathlib.Core.Bool.{Bool, true, false, cond}
+use mathlib.Core.Bool.{cond}
 use mathlib.Core.List.{List, [], _∷_, reverse}
-use Prim.Native.Nat.{ℕ, zero, suc, _≤_, _<_}
+use Prim.Native.Nat.{ℕ, zero, suc, _≤_}
 use native.Mathlib.Omega.{arith}
 use lib.Dec.{lit≤}
 use lib.ListN.{length, getD, take, replicate}
@@ -27,14 +27,14 @@ use Rattle.demands.specs.Library.{Outcome, None, none, WriteCall, ReadCa
 use Rattle.demands.specs.Library.{PrecodeCall, Signal}
 use Rattle.demands.specs.One.{Answers, One, writeChecks, readChecks, runChecks, frameChecks, encodeRunChecks, precodeChecks}
 use Rattle.demands.specs.Two.{Right}
-use Rattle.demands.specs.WrongLibraries.{Refuses, OneFrame, FrameUnwritten, CoefficientsUnwritten, VendorUnwritten, RunUnwritten, WholeUnwritten}
+use Rattle.demands.specs.WrongLibraries.{OneFrame, FrameUnwritten, CoefficientsUnwritten, VendorUnwritten, RunUnwritten, WholeUnwritten}
 use Rattle.demands.specs.WrongLibraries.{CodesUnwritten, PrecodedUnwritten, DecodedUnwritten, CopiesTheRest, TurnsA, TurnsB}
-use Rattle.demands.specs.NoStrawMan.{Built, OtherwiseAnswers, NoStrawMan}
+use Rattle.demands.specs.NoStrawMan.{Built, NoStrawMan}
 use Rattle.demands.proofs.One.{answers, ordered}
 use Rattle.demands.proofs.Two.{exact as exact-of}
 use Rattle.demands.proofs.Interwork.{laid-there, run-right}
 use Rattle.demands.proofs.Ours.{ours, ours-keep}
-use Rattle.demands.proofs.Rebuilt.{ours-one, Parts, PartsAnswer, rebuilt, rebuilt-one, usual, usual-answer}
+use Rattle.demands.proofs.Rebuilt.{ours-one, Parts, rebuilt, rebuilt-one, usual, usual-answer}
 use Rattle.demands.proofs.WrongSteps.{moves-once-built, never-opens-built, calls-exception-built, same-ticks-built, counts-codes-built, gives-up-built, ends-too-late-built}
 
 -- ---- the writer

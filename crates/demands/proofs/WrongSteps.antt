@@ -10,18 +10,17 @@ use native.Mathlib.Nat.{le-refl}
 use native.Mathlib.Decide.{le-ind}
 use borrow.Author.Tests.{leb-true, leb-false, le-ltb, ltb-true}
 use lib.Dec.{leb, ltb, eqb, lit≤}
-use lib.ListN.{take, replicate, getD}
+use lib.ListN.{take, replicate}
 use Rattle.answer.specs.Answer.{answer, held}
 use Rattle.supervisor.specs.declared.Supervisor.{Supervisor as State}
 use Rattle.supervisor.specs.Limits.{attemptTicks, mostAttempt}
-use Rattle.supervisor.specs.Phases.{Ready, Gap, Await, Cr, Hearing, Settling, Exception, inAttempt}
+use Rattle.supervisor.specs.Phases.{Ready, Gap, Await, Hearing, Settling, Exception, inAttempt}
 use Rattle.supervisor.specs.Step.{changed, entered, counted, moved}
-use Rattle.supervisor.proofs.Laws.{by-cases, clash}
-use Rattle.startup.specs.Attempts.{at, one, upto, count}
+use Rattle.supervisor.proofs.Laws.{by-cases}
+use Rattle.startup.specs.Attempts.{at, upto}
 use Rattle.startup.specs.Make.{Make, stepsBy, phaseAt, replyTo, Taken}
 use Rattle.host.specs.declared.supervising.Supervisor.{Supervisor}
 use Rattle.host.specs.Supervising.{stateIn, stateOf}
-use Rattle.demands.specs.Library.{StepCall}
 use Rattle.demands.specs.One.{stepChecks}
 use Rattle.demands.specs.Three.{supervisor}
 use Rattle.demands.specs.WrongSupervisors.{MovesOnce, NeverOpens, CallsException, SameTicks, CountsCodes, GivesUp, EndsTooLate}

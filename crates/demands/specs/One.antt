@@ -1,5 +1,5 @@
--- DEMAND 1, over a library of any make. "Junk, short buffers, impossible numbers, reports out of turn: each call ends and answers with a number
--- of SCOPE's table. A refused call changes no lent memory and no state, and no caller has to check first."
+-- DEMAND 1, over a library of any make. Junk, short buffers, impossible numbers, reports out of turn: each call ends and answers with a number
+-- of SCOPE's table. A refused call changes no lent memory and no state, and no caller has to check first.
 use mathlib.Core.Path.{_≡_}
 use mathlib.Core.Bool.{true}
 use mathlib.Core.List.{List, _∷_}

@@ -1,5 +1,5 @@
--- DEMAND 2, over libraries of any make. "Frames, check bits, scrambling, symbol levels and precoded values are exactly those of ETSI TS 101 524-2
--- as SCOPE sets them out. What one card writes or scrambles, the other gets back unchanged."
+-- DEMAND 2, over libraries of any make. Frames, check bits, scrambling, symbol levels and precoded values are exactly those of ETSI TS 101 524-2
+-- as SCOPE sets them out. What one card writes or scrambles, the other gets back unchanged.
 use mathlib.Core.Path.{_≡_}
 use mathlib.Core.Bool.{true, false}
 use mathlib.Core.List.{List, _∷_}
@@ -119,7 +119,7 @@ overTheLine x y end state line received frame =
     let sent = x .frame scramble (record { end = end; state = state; frame = frame; output = line }) in
     y .frame descramble (record { end = end; state = state; frame = sent .memory .output; output = received }) .memory .output
 
--- BACK: "What one card writes or scrambles, the other gets back unchanged."
+-- BACK: what one card writes or scrambles, the other gets back unchanged
 pub record Back (x y : Library) : Type 0 where
   -- a training frame: its kind, A and B; all 180 coefficients, zero beyond the count; vendor data
   pub training : (c : WriteCall) (room vendor : List ℕ) → c .kind ≡ 0 → Right (writeChecks c) → Octets (c .vendor) → length room ≡ 720 → length vendor ≡ 16

@@ -24,23 +24,34 @@ use Rattle.startup.specs.Agrees.{summary, Agrees}
 use Rattle.startup.proofs.Unique.{Sound}
 use Rattle.startup.proofs.Simulates.{kOf, sound, after-suc}
 use Rattle.startup.proofs.Fate.{next-fate, open-back, data-open}
-use Rattle.startup.proofs.Logged.{drop-split, eventAt, opens-event, data-event, exception-event, event-says, logAt, listed, attempts-are, attempts-listed}
-use Rattle.startup.proofs.Three.{pre-out, opening-in, legal-run, open-run, data-run, exception-run, opening-run, in-run, meant-range, started}
+use Rattle.startup.proofs.Logged.{drop-split, eventAt, opens-event, data-event, exception-event}
+use Rattle.startup.proofs.Logged.{event-says, logAt, listed, attempts-are, attempts-listed}
+use Rattle.startup.proofs.Three.{pre-out, opening-in, legal-run, open-run, data-run, exception-run, opening-run, in-run, meant-range, started, either-end}
 
 -- the last attempt has opened, so `outcome` is not 0
 has-outcome : (k : Needs) (l : List ℕ) (n : ℕ) (a : Attempt) → Fate k l n a → eqb (a .outcome) 0 ≡ false
 has-outcome k l n a = ⊎-elim (λ w. rw (w .0)) (⊎-elim (λ w. rw (w .0)) (λ w. rw (w .0)))
 
 -- a run's note of an event is the log's
-note-log : (k : Needs) (l : List ℕ) (n : ℕ) (s s′ : Supervisor) (p e : ℕ) (log : List Attempt) → Listed k l n log → noted (summary s log) s′ p e ≡ summary s′ (logged p e log)
+note-log : (k : Needs) (l : List ℕ) (n : ℕ) (s s′ : Supervisor) (p e : ℕ) (log : List Attempt) → Listed k l n log
+    → noted (summary s log) s′ p e ≡ summary s′ (logged p e log)
 note-log k l n s s′ p e [] h =
     by-cases (eqb e 1) (λ t. rw t) (λ f. by-cases (ltb 1 e) (λ t. rw (f, t)) (λ g. rw (f, g)))
 note-log k l n s s′ p e (a ∷ log) h =
-    by-cases (eqb e 1) (λ t. rw t (ap (λ (c : ℕ). record { answer = 0; state = s′; attempts = c; «opened_at» = p; outcome = 1; «ended_at» = 0 }) (add-one (length (a ∷ log)))))
+    by-cases (eqb e 1) (λ t. rw t (ap (λ (c : ℕ). record {
+      answer =
+          0;
+      state = s′;
+      attempts = c;
+      «opened_at» = p;
+      outcome = 1;
+      «ended_at» = 0;
+    }) (add-one (length (a ∷ log)))))
     (λ f. by-cases (ltb 1 e) (λ t. rw (f, t, has-outcome k l n a (h .0 .fate))) (λ g. rw (f, g)))
 
 -- one code of a run
-taken-by : (n c : ℕ) (s s′ : Supervisor) (log : List Attempt) → stepOf s c .state ≡ s′ → takenOf n c (summary s log) ≡ noted (summary s log) s′ n (eventOf (s .phase) (s′ .phase))
+taken-by : (n c : ℕ) (s s′ : Supervisor) (log : List Attempt) → stepOf s c .state ≡ s′
+    → takenOf n c (summary s log) ≡ noted (summary s log) s′ n (eventOf (s .phase) (s′ .phase))
 taken-by n c s s′ [] q = ap (λ (x : Supervisor). noted (summary s []) x n (eventOf (s .phase) (x .phase))) q
 taken-by n c s s′ (a ∷ log) q = ap (λ (x : Supervisor). noted (summary s (a ∷ log)) x n (eventOf (s .phase) (x .phase))) q
 
@@ -96,7 +107,8 @@ module _ (b : Bool) (sil : ℕ) (lo : 2000 ≤ sil) (hi : sil ≤ 60000) (l : Li
           by-cases (inAttempt (S (suc n) .phase))
           (λ t. let w = in-run b sil lo hi l (suc n) t in
           ⊎-elim (λ z. no 1 q (opens-event k sd l n (subst (OpensAt k l) z (w .1))) refl)
-          (λ z. let i : w .0 ≤ n = omega arith in clash _ (open-run b sil lo hi l (w .0) n (w .1) (open-back k sd l (w .0) n (suc n) i (omega arith) (w .2)) .0) f)
+          (λ z. let i : w .0 ≤ n = omega arith in clash _ (open-run b sil lo hi l (w .0) n (w .1) (open-back k sd l (w .0) n (suc n) i (omega arith) (w .2)) .0)
+          f)
           (eq-or-lt-of-le (w .2 .since)))
           (λ g. g)
 
@@ -126,25 +138,17 @@ module _ (b : Bool) (sil : ℕ) (lo : 2000 ≤ sil) (hi : sil ≤ 60000) (l : Li
 -- THE RUN AGREES WITH THE LIST, from a fresh start of either end with any silence that is taken
 pub run-agrees : (end silence : ℕ) → end ≤ 1 → Taken silence → (l : List ℕ) → Agrees end silence l
 run-agrees end silence h t l =
-    ⊎-elim (λ q. subst (λ (e : ℕ). Agrees e silence l) (sym q) ntu)
-    (λ z. let q : end ≡ 0 = omega arith in subst (λ (e : ℕ). Agrees e silence l) (sym q) ltu)
-    (eq-or-lt-of-le h)
-  where
-    r : (2000 ≤ meant silence) × (meant silence ≤ 60000)
-    r = meant-range silence t
-
-    ntu : Agrees 1 silence l
-    ntu = subst (λ (s : Supervisor). runOf s l ≡ summary (steps s l) (attempts (needsOf 1 (meant silence)) l)) (sym (started 1 silence (omega arith) t)) (run-sums true (meant silence) (r .0) (r .1) l)
-
-    ltu : Agrees 0 silence l
-    ltu = subst (λ (s : Supervisor). runOf s l ≡ summary (steps s l) (attempts (needsOf 0 (meant silence)) l)) (sym (started 0 silence (omega arith) t)) (run-sums false (meant silence) (r .0) (r .1) l)
+    let r = meant-range silence t in
+    subst (λ (s : Supervisor). runOf s l ≡ summary (steps s l) (attempts (needsOf end (meant silence)) l)) (sym (started end silence h t))
+    (either-end
+    (λ e. let s = fresh e (meant silence) in runOf s l ≡ summary (steps s l) (attempts (needsOf e (meant silence)) l))
+    (run-sums true (meant silence) (r .0) (r .1) l) (run-sums false (meant silence) (r .0) (r .1) l) end h)
 
 -- THE COMPUTED FORM AGREES WITH THE STATEMENT, for every list
-pub scan-agrees : (end silence : ℕ) → end ≤ 1 → Taken silence → (l : List ℕ) → Listed (needsOf end (meant silence)) l (length l) (attempts (needsOf end (meant silence)) l)
+pub scan-agrees : (end silence : ℕ) → end ≤ 1 → Taken silence → (l : List ℕ)
+    → Listed (needsOf end (meant silence)) l (length l) (attempts (needsOf end (meant silence)) l)
 scan-agrees end silence h t l =
-    ⊎-elim (λ q. subst (λ (e : ℕ). Listed (needsOf e (meant silence)) l (length l) (attempts (needsOf e (meant silence)) l)) (sym q) (attempts-listed (kOf true (meant silence)) (sound true (meant silence) pos) l))
-    (λ z. let q : end ≡ 0 = omega arith in subst (λ (e : ℕ). Listed (needsOf e (meant silence)) l (length l) (attempts (needsOf e (meant silence)) l)) (sym q) (attempts-listed (kOf false (meant silence)) (sound false (meant silence) pos) l))
-    (eq-or-lt-of-le h)
-  where
-    pos : 0 < meant silence
-    pos = omega (arith, meant-range silence t .0)
+    let pos : 0 < meant silence = omega (arith, meant-range silence t .0) in
+    either-end (λ e. Listed (needsOf e (meant silence)) l (length l) (attempts (needsOf e (meant silence)) l))
+    (attempts-listed (kOf true (meant silence)) (sound true (meant silence) pos) l)
+    (attempts-listed (kOf false (meant silence)) (sound false (meant silence) pos) l) end h

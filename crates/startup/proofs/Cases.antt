@@ -15,7 +15,8 @@ abbrev pub quiet : List ℕ
 quiet = 1 ∷ replicate 300 0 ++ (4 ∷ replicate 2500 0)
 
 -- that 4 does not count: 4, 5 and then 7 are lacking, and 12,500 ticks are left
-after-quiet : (l : List ℕ) → attempts (needsOf 1 2000) (quiet ++ l) ≡ scan (needsOf 1 2000) 2802 (trying (need Sr 0 (4 ∷ 5 ∷ [])) (need Tr 0 (7 ∷ []) ∷ []) 12500) (attempt 300 1 0 ∷ []) l
+after-quiet : (l : List ℕ) → attempts (needsOf 1 2000) (quiet ++ l) ≡ scan (needsOf 1 2000) 2802
+    (trying (need Sr 0 (4 ∷ 5 ∷ [])) (need Tr 0 (7 ∷ []) ∷ []) 12500) (attempt 300 1 0 ∷ []) l
 after-quiet l = refl
 
 -- 5, 4 and 7 after it end the attempt in data mode; a 7 too early and a 9 do nothing
@@ -30,7 +31,8 @@ last left = trying (need Tr 0 (7 ∷ [])) [] left
 one-tick : (k : Needs) (log : List Attempt) (l : List ℕ) (p left : ℕ) → 1 < left → scan k p (last left) log (0 ∷ l) ≡ scan k (suc p) (last (pred left)) log l
 one-tick k log l p left h = rw (ne-eqb (pred left) 0 (λ q. omega arith))
 
-ticks : (k : Needs) (log : List Attempt) (l : List ℕ) (n p left : ℕ) → n < left → scan k p (last left) log (replicate n 0 ++ l) ≡ scan k (p + n) (last (left - n)) log l
+ticks : (k : Needs) (log : List Attempt) (l : List ℕ) (n p left : ℕ) → n < left
+    → scan k p (last left) log (replicate n 0 ++ l) ≡ scan k (p + n) (last (left - n)) log l
 ticks k log l zero p left h = simp unary-clauses
 ticks k log l (suc n) p left h =
     let q : suc p + n ≡ p + suc n = omega arith in

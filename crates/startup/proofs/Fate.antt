@@ -9,7 +9,8 @@ use mathlib.Core.List.{List}
 use borrow.Author.Tests.{leb-true, leb-false, eq-eqb, eqb-true}
 use lib.Dec.{leb, eqb}
 use Rattle.supervisor.proofs.Laws.{by-cases, clash}
-use Rattle.startup.specs.Attempts.{at, count, InOrder, Needs, all, InTime, StillOpen, EndsInData, EndsInException, OpensAt, opens, SilenceBegins, abnormal, late}
+use Rattle.startup.specs.Attempts.{at, count, InOrder, Needs, all, InTime, StillOpen}
+use Rattle.startup.specs.Attempts.{EndsInData, EndsInException, OpensAt, opens, SilenceBegins, abnormal, late}
 use Rattle.startup.proofs.Counts.{upto-mono, calm-more, calm-last, calm-less, count-self, in-order-le, in-order-once}
 use Rattle.startup.proofs.History.{begun, Now, find, not-all}
 use Rattle.startup.proofs.Unique.{await, trying, done, failed, Holds, Sound}
@@ -82,7 +83,8 @@ module _ (k : Needs) (s : Sound k) (l : List ℕ) (m : ℕ) where
   data-open p d =
       let le : m ≤ p = (let w = place-of (suc p) (d .needed) in omega (arith, w .1, w .2)) in
       ⊎-elim (λ x. x)
-      (⊎-elim (λ w. absurd (twice (w .0) (w .1) (w .2))) (λ w. absurd (not-in-time (w .0) p (w .2) (w .1) (in-time-back p (suc p) le (omega arith) (d .in-time)))))
+      (⊎-elim (λ w. absurd (twice (w .0) (w .1) (w .2)))
+      (λ w. absurd (not-in-time (w .0) p (w .2) (w .1) (in-time-back p (suc p) le (omega arith) (d .in-time)))))
       (fate p le)
     where
       twice : (q : ℕ) → q < p → EndsInData k l m q → ⊥
@@ -108,7 +110,9 @@ module _ (k : Needs) (s : Sound k) (l : List ℕ) (m : ℕ) where
   is-failed p o x = (fails, le-refl _, count-self 8 l (suc p), s .silent l (suc p))
     where
       fails : SilenceBegins k l (suc p)
-      fails = ⊎-elim (λ a. abnormal a) (λ t. by-cases (eqb (at l p) 8) (λ e. abnormal (eqb-true _ _ e)) (λ e. late o (x .before) (calm-more 8 l m p (x .before .since) (x .before .in-time .calm) e) t)) (x .cut)
+      fails =
+          ⊎-elim (λ a. abnormal a) (λ t. by-cases (eqb (at l p) 8) (λ e. abnormal (eqb-true _ _ e))
+          (λ e. late o (x .before) (calm-more 8 l m p (x .before .since) (x .before .in-time .calm) e) t)) (x .cut)
 
 module _ (k : Needs) (s : Sound k) (l : List ℕ) (n : ℕ) where
   -- the histories before and after the code that opens an attempt

@@ -58,10 +58,12 @@ module _ (k : Needs) (s : Sound k) (l : List ℕ) where
   opens-event n o = let w = is-told k s l n o in event-of n (await (w .0)) (trying (k .first) (k .others) (suc n) (suc n)) (w .1) (is-begun k s l n o)
 
   pub data-event : (m n : ℕ) → OpensAt k l m → EndsInData k l m n → eventAt n ≡ 2
-  data-event m n o d = let w = is-open k s l m n o (data-open k s l m n d) in event-of n (trying (w .0 .0) (w .0 .1) (w .0 .2) m) (done (suc n)) (w .1) (is-done k s l m n o d)
+  data-event m n o d =
+      let w = is-open k s l m n o (data-open k s l m n d) in event-of n (trying (w .0 .0) (w .0 .1) (w .0 .2) m) (done (suc n)) (w .1) (is-done k s l m n o d)
 
   pub exception-event : (m n : ℕ) → OpensAt k l m → EndsInException k l m n → eventAt n ≡ 3
-  exception-event m n o x = let w = is-open k s l m n o (x .before) in event-of n (trying (w .0 .0) (w .0 .1) (w .0 .2) m) (failed (suc n)) (w .1) (is-failed k s l m n o x)
+  exception-event m n o x =
+      let w = is-open k s l m n o (x .before) in event-of n (trying (w .0 .0) (w .0 .1) (w .0 .2) m) (failed (suc n)) (w .1) (is-failed k s l m n o x)
 
   pub event-says : (n : ℕ) → Says k l n (eventAt n)
   event-says n = go (histOf k l n) (holds k s l n)
@@ -97,7 +99,8 @@ module _ (k : Needs) (s : Sound k) (l : List ℕ) where
   only-open : (m n q : ℕ) → OpensAt k l m → StillOpen k l m n → OpensAt k l (suc q) → m ≤ suc q → suc q ≤ n → m ≡ suc q
   only-open m n q o x o′ h i =
       let w = is-open k s l m (suc q) o (open-back k s l m (suc q) n h i x) in
-      ap openedIn (unique k s l (suc q) (trying (w .0 .0) (w .0 .1) (w .0 .2) m) (w .1) ∙ sym (unique k s l (suc q) (trying (k .first) (k .others) (suc q) (suc q)) (is-begun k s l q o′)))
+      ap openedIn (unique k s l (suc q) (trying (w .0 .0) (w .0 .1) (w .0 .2) m) (w .1)
+      ∙ sym (unique k s l (suc q) (trying (k .first) (k .others) (suc q) (suc q)) (is-begun k s l q o′)))
 
   -- the attempts at the moment n, the last first
   abbrev pub logAt : ℕ → List Attempt
@@ -109,12 +112,14 @@ module _ (k : Needs) (s : Sound k) (l : List ℕ) where
 
   -- no event: what is open stays open
   quiet : (n : ℕ) (log : List Attempt) → eventAt n ≡ 0 → Listed k l n log → Listed k l (suc n) log
-  quiet n [] q h = λ p i o. ⊎-elim (λ z. not-opening n 0 q refl (subst (λ (y : ℕ). OpensAt k l (suc y)) (omega arith) o)) (λ z. h p (omega arith) o) (eq-or-lt-of-le i)
+  quiet n [] q h =
+      λ p i o. ⊎-elim (λ z. not-opening n 0 q refl (subst (λ (y : ℕ). OpensAt k l (suc y)) (omega arith) o)) (λ z. h p (omega arith) o) (eq-or-lt-of-le i)
   quiet n (a ∷ log) q h = (
     record {
       before = omega (arith, h .0 .before);
       opens = h .0 .opens;
-      last = λ p i j o. ⊎-elim (λ z. not-opening n 0 q refl (subst (λ (y : ℕ). OpensAt k l (suc y)) (omega arith) o)) (λ z. h .0 .last p i (omega arith) o) (eq-or-lt-of-le j);
+      last = λ p i j o. ⊎-elim (λ z. not-opening n 0 q refl (subst (λ (y : ℕ). OpensAt k l (suc y)) (omega arith) o)) (λ z. h .0 .last p i (omega arith) o)
+          (eq-or-lt-of-le j);
       fate = ⊎-elim still (⊎-elim (λ w. inr (inl (w .0, omega (arith, w .1), w .2))) (λ w. inr (inr (w .0, omega (arith, w .1), w .2)))) (h .0 .fate);
     },
     h .1,
@@ -152,7 +157,8 @@ module _ (k : Needs) (s : Sound k) (l : List ℕ) where
     record {
       before = omega (arith, h .0 .before);
       opens = h .0 .opens;
-      last = λ p i j o′. ⊎-elim (λ z. not-opening n e q f (subst (λ (y : ℕ). OpensAt k l (suc y)) (omega arith) o′)) (λ z. h .0 .last p i (omega arith) o′) (eq-or-lt-of-le j);
+      last = λ p i j o′. ⊎-elim (λ z. not-opening n e q f (subst (λ (y : ℕ). OpensAt k l (suc y)) (omega arith) o′)) (λ z. h .0 .last p i (omega arith) o′)
+          (eq-or-lt-of-le j);
       fate = g a (sym (only-open m n (a .openedAt) o x (h .0 .opens) le (h .0 .before)));
     },
     h .1,
@@ -163,7 +169,8 @@ module _ (k : Needs) (s : Sound k) (l : List ℕ) where
 
       le : m ≤ suc (a .openedAt)
       le = by-cases (leb m (suc (a .openedAt))) (λ t. leb-true _ _ t)
-          (λ c. let z = leb-false m (suc (a .openedAt)) c in absurd (h .0 .last (w .0) (omega (arith, w .1)) (omega (arith, w .1, x .since)) (subst (OpensAt k l) (w .1) o)))
+          (λ c. let z = leb-false m (suc (a .openedAt)) c in
+          absurd (h .0 .last (w .0) (omega (arith, w .1)) (omega (arith, w .1, x .since)) (subst (OpensAt k l) (w .1) o)))
 
   -- THE LOG LISTS WHAT THE LIST SAYS
   pub listed : (n : ℕ) → Listed k l n (logAt n)

@@ -29,7 +29,9 @@ all-heard [] l e n = refl
 all-heard (c ∷ cs) l e n = by-cases (leb 1 (count c l e n)) (λ t. rw t (all-heard cs l e n)) (λ f. rw f)
 
 ticks-over : (t k : ℕ) → eqb (t - k) 0 ≡ leb t k
-ticks-over t k = by-cases (leb t k) (λ h. rw h (let z = leb-true t k h in eq-eqb (t - k) 0 (omega arith))) (λ h. rw h (let z = leb-false t k h in ne-eqb (t - k) 0 (λ q. omega arith)))
+ticks-over t k =
+    by-cases (leb t k) (λ h. rw h (let z = leb-true t k h in eq-eqb (t - k) 0 (omega arith)))
+    (λ h. rw h (let z = leb-false t k h in ne-eqb (t - k) 0 (λ q. omega arith)))
 
 nothing-left : (d : Need) (l : List ℕ) (e n : ℕ) → nothing (left d l e n) ≡ shown d l e n
 nothing-left d l e n = rw (ticks-over (d .ticks) (count 0 l e n), all-heard (d .reports) l e n)
@@ -70,7 +72,8 @@ unheard-step (c ∷ cs) l e n h =
 
 left-step : (d : Need) (l : List ℕ) (e n : ℕ) → e ≤ n → less (at l n) (left d l e n) ≡ left d l e (suc n)
 left-step d l e n h =
-    λ i. need (d .phase) (tick-less (d .ticks) (count 0 l e n) (count 0 l e (suc n)) (eqb (at l n) 0) (count-step 0 l e n h) i) (unheard-step (d .reports) l e n h i)
+    λ i. need (d .phase) (tick-less (d .ticks) (count 0 l e n) (count 0 l e (suc n)) (eqb (at l n) 0) (count-step 0 l e n h) i)
+    (unheard-step (d .reports) l e n h i)
 
 -- THE STAND OF A HISTORY
 
@@ -82,7 +85,8 @@ standOf k l n (done e) = settled
 standOf k l n (failed e) = silent (left (k .silence) l e n)
 
 module _ (k : Needs) (l : List ℕ) (n : ℕ) where
-  stand-cond : (t : Bool) (x y : Hist) {x′ y′ : Stand} → standOf k l (suc n) x ≡ x′ → standOf k l (suc n) y ≡ y′ → standOf k l (suc n) (cond t x y) ≡ cond t x′ y′
+  stand-cond : (t : Bool) (x y : Hist) {x′ y′ : Stand} → standOf k l (suc n) x ≡ x′ → standOf k l (suc n) y ≡ y′
+      → standOf k l (suc n) (cond t x y) ≡ cond t x′ y′
   stand-cond true x y p q = p
   stand-cond false x y p q = q
 
@@ -105,9 +109,12 @@ module _ (k : Needs) (l : List ℕ) (n : ℕ) where
       sym (stand-cond (eqb (at l n) 8) (failed (suc n)) (cond (eqb (at l n) 1) (await (suc n)) (readyH r)) silent-now
       (stand-cond (eqb (at l n) 1) (await (suc n)) (readyH r) (ap told (left-self (k .before) l (suc n))) refl))
   scan-step (await e) h =
-      ap (λ (x : Need). cond (eqb (at l n) 8) (silent (k .silence)) (cond (nothing x) (trying (k .first) (k .others) 15000) (told x))) (left-step (k .before) l e n (h .1))
-      ∙ ap (λ (t : Bool). cond (eqb (at l n) 8) (silent (k .silence)) (cond t (trying (k .first) (k .others) 15000) (told (left (k .before) l e (suc n))))) (nothing-left (k .before) l e (suc n))
-      ∙ (sym (stand-cond (eqb (at l n) 8) (failed (suc n)) (cond (shown (k .before) l e (suc n)) (tryingH (k .first) (k .others) (suc n) (suc n)) (await e)) silent-now
+      ap (λ (x : Need). cond (eqb (at l n) 8) (silent (k .silence)) (cond (nothing x) (trying (k .first) (k .others) 15000) (told x)))
+      (left-step (k .before) l e n (h .1))
+      ∙ ap (λ (t : Bool). cond (eqb (at l n) 8) (silent (k .silence)) (cond t (trying (k .first) (k .others) 15000) (told (left (k .before) l e (suc n)))))
+      (nothing-left (k .before) l e (suc n))
+      ∙ (sym (stand-cond (eqb (at l n) 8) (failed (suc n)) (cond (shown (k .before) l e (suc n)) (tryingH (k .first) (k .others) (suc n) (suc n)) (await e))
+      silent-now
       (stand-cond (shown (k .before) l e (suc n)) (tryingH (k .first) (k .others) (suc n) (suc n)) (await e)
       (λ i. trying (left-self (k .first) l (suc n) i) (k .others) (full i)) refl)))
     where
@@ -115,14 +122,20 @@ module _ (k : Needs) (l : List ℕ) (n : ℕ) where
       full = omega arith
   scan-step (tryingH d ds e m) h =
       let j : m ≤ n = omega (arith, reached-le k l m (h .1), h .2) in
-      (λ i. cond (eqb (at l n) 8) (silent (k .silence)) (cond (latest m j (h .3) i) (silent (k .silence)) (cond (nothing (left-step d l e n (h .2) i)) (onward ds (ticks-left m j i)) (trying (left-step d l e n (h .2) i) ds (ticks-left m j i)))))
-      ∙ ap (λ (t : Bool). cond (eqb (at l n) 8) (silent (k .silence)) (cond (leb 15000 (count 0 l m (suc n))) (silent (k .silence)) (cond t (onward ds (15000 - count 0 l m (suc n))) (trying (left d l e (suc n)) ds (15000 - count 0 l m (suc n)))))) (nothing-left d l e (suc n))
-      ∙ (sym (stand-cond (eqb (at l n) 8) (failed (suc n)) (cond (leb 15000 (count 0 l m (suc n))) (failed (suc n)) (cond (shown d l e (suc n)) (onwardH ds (suc n) m) (tryingH d ds e m))) silent-now
+      (λ i. cond (eqb (at l n) 8) (silent (k .silence))
+      (cond (latest m j (h .3) i) (silent (k .silence))
+      (cond (nothing (left-step d l e n (h .2) i)) (onward ds (ticks-left m j i)) (trying (left-step d l e n (h .2) i) ds (ticks-left m j i)))))
+      ∙ ap (λ (t : Bool). cond (eqb (at l n) 8) (silent (k .silence))
+      (cond (leb 15000 (count 0 l m (suc n))) (silent (k .silence))
+      (cond t (onward ds (15000 - count 0 l m (suc n))) (trying (left d l e (suc n)) ds (15000 - count 0 l m (suc n)))))) (nothing-left d l e (suc n))
+      ∙ (sym (stand-cond (eqb (at l n) 8) (failed (suc n))
+      (cond (leb 15000 (count 0 l m (suc n))) (failed (suc n)) (cond (shown d l e (suc n)) (onwardH ds (suc n) m) (tryingH d ds e m))) silent-now
       (stand-cond (leb 15000 (count 0 l m (suc n))) (failed (suc n)) (cond (shown d l e (suc n)) (onwardH ds (suc n) m) (tryingH d ds e m)) silent-now
       (stand-cond (shown d l e (suc n)) (onwardH ds (suc n) m) (tryingH d ds e m) (onward-now ds m) refl))))
   scan-step (done e) h = sym (stand-cond (eqb (at l n) 8) (failed (suc n)) (done e) silent-now refl)
   scan-step (failed e) h =
       ap (λ (x : Need). cond (eqb (at l n) 8) (silent (k .silence)) (cond (nothing x) ready (silent x))) (left-step (k .silence) l e n (h .1))
-      ∙ ap (λ (t : Bool). cond (eqb (at l n) 8) (silent (k .silence)) (cond t ready (silent (left (k .silence) l e (suc n))))) (nothing-left (k .silence) l e (suc n))
+      ∙ ap (λ (t : Bool). cond (eqb (at l n) 8) (silent (k .silence)) (cond t ready (silent (left (k .silence) l e (suc n)))))
+      (nothing-left (k .silence) l e (suc n))
       ∙ (sym (stand-cond (eqb (at l n) 8) (failed (suc n)) (cond (shown (k .silence) l e (suc n)) (readyH (suc n)) (failed e)) silent-now
       (stand-cond (shown (k .silence) l e (suc n)) (readyH (suc n)) (failed e) refl refl)))

@@ -9,7 +9,8 @@ use lib.Dec.{leb, eqb, leb·zero}
 use lib.ListN.{take}
 use Rattle.answer.specs.Answer.{answer}
 use Rattle.supervisor.specs.declared.Supervisor.{Supervisor}
-use Rattle.supervisor.specs.Phases.{Ready, Gap, Await, Cr, Hearing, Quiet, Sc, Sr, Tc, Tr, Fc, Settling, Valid, Exception, row, phasesOf, isOf, inAttempt, counts}
+use Rattle.supervisor.specs.Phases.{Ready, Gap, Await, Cr, Hearing, Quiet, Sc, Sr, Tc}
+use Rattle.supervisor.specs.Phases.{Tr, Fc, Settling, Valid, Exception, row, phasesOf, isOf, inAttempt, counts}
 use Rattle.supervisor.specs.Step.{among, acted, moved, stateRefusals, stepOf, fresh}
 use Rattle.supervisor.proofs.Laws.{by-cases}
 use Rattle.startup.specs.Attempts.{at, one, count, Need, need, shown, Needs, ntuNeeds, ltuNeeds, all, InTime}
@@ -17,7 +18,8 @@ use Rattle.startup.specs.Make.{steps}
 use Rattle.startup.proofs.Counts.{upto-mono, count-self, count-mono, count-step}
 use Rattle.startup.proofs.History.{Reached, begun, went, reached-le, Real, AllReal}
 use Rattle.startup.proofs.Unique.{Hist, ready, await, trying, done, failed, onward, next, Holds, Sound, histOf, unique, holds}
-use Rattle.startup.proofs.Moves.{mk, X, plain, tryOf, lasting, until, both-marks, mark-and-ticks, in-ready, in-gap, in-await, settled, in-valid, in-settling, in-exception, step-state}
+use Rattle.startup.proofs.Moves.{mk, X, plain, tryOf, lasting, until, both-marks, mark-and-ticks}
+use Rattle.startup.proofs.Moves.{in-ready, in-gap, in-await, settled, in-valid, in-settling, in-exception, step-state}
 
 -- the card of the NTU or of the LTU
 abbrev pub kOf : Bool → ℕ → Needs
@@ -76,7 +78,8 @@ abbrev pub AllSuffix : (List Need → Type 0) → List Need → Type 0
 AllSuffix P [] = Unit {0}
 AllSuffix P (d ∷ ds) = P (d ∷ ds) × AllSuffix P ds
 
-pub reached-suffix : (k : Needs) (l : List ℕ) (m : ℕ) (P : List Need → Type 0) {d : Need} {ds : List Need} {e : ℕ} → AllSuffix P (all k) → Reached k l m d ds e → AllSuffix P (d ∷ ds)
+pub reached-suffix : (k : Needs) (l : List ℕ) (m : ℕ) (P : List Need → Type 0) {d : Need} {ds : List Need} {e : ℕ} → AllSuffix P (all k) → Reached k l m d ds e
+    → AllSuffix P (d ∷ ds)
 reached-suffix k l m P a begun = a
 reached-suffix k l m P a (went r o) = reached-suffix k l m P a r .1
 
@@ -91,7 +94,8 @@ module _ (b : Bool) (sil : ℕ) where
   abbrev en : ℕ
   en = one b
 
-  conc-cond : (l : List ℕ) (n : ℕ) (t : Bool) (x y : Hist) {x′ y′ : Supervisor} → conc b sil l n x ≡ x′ → conc b sil l n y ≡ y′ → conc b sil l n (cond t x y) ≡ cond t x′ y′
+  conc-cond : (l : List ℕ) (n : ℕ) (t : Bool) (x y : Hist) {x′ y′ : Supervisor} → conc b sil l n x ≡ x′ → conc b sil l n y ≡ y′
+      → conc b sil l n (cond t x y) ≡ cond t x′ y′
   conc-cond l n true x y p q = p
   conc-cond l n false x y p q = q
 
@@ -119,10 +123,13 @@ module _ (b : Bool) (sil : ℕ) where
     short m e h i u = omega (arith, u .early, upto-mono 0 l m e i, upto-mono 0 l e n h)
 
     tries : (m e : ℕ) (d : Need) (ds : List Need) (over : Supervisor) → conc b sil l (suc n) (onward ds (suc n) m) ≡ over
-        → conc b sil l (suc n) (next (kOf b sil) l n (trying d ds e m)) ≡ tryOf en sil (at l n) (count 0 l m (suc n)) (shown d l e (suc n)) over (conc b sil l (suc n) (trying d ds e m))
+        → conc b sil l (suc n) (next (kOf b sil) l n (trying d ds e m)) ≡ tryOf en sil (at l n) (count 0 l m (suc n)) (shown d l e (suc n)) over
+        (conc b sil l (suc n) (trying d ds e m))
     tries m e d ds over q =
-        conc-cond l (suc n) (eqb (at l n) 8) (failed (suc n)) (cond (leb 15000 (count 0 l m (suc n))) (failed (suc n)) (cond (shown d l e (suc n)) (onward ds (suc n) m) (trying d ds e m))) (fail-now l (suc n))
-        (conc-cond l (suc n) (leb 15000 (count 0 l m (suc n))) (failed (suc n)) (cond (shown d l e (suc n)) (onward ds (suc n) m) (trying d ds e m)) (fail-now l (suc n))
+        conc-cond l (suc n) (eqb (at l n) 8) (failed (suc n))
+        (cond (leb 15000 (count 0 l m (suc n))) (failed (suc n)) (cond (shown d l e (suc n)) (onward ds (suc n) m) (trying d ds e m))) (fail-now l (suc n))
+        (conc-cond l (suc n) (leb 15000 (count 0 l m (suc n))) (failed (suc n)) (cond (shown d l e (suc n)) (onward ds (suc n) m) (trying d ds e m))
+        (fail-now l (suc n))
         (conc-cond l (suc n) (shown d l e (suc n)) (onward ds (suc n) m) (trying d ds e m) q refl))
 
     no-mark : (c : ℕ) (d : Need) → mark c d l (suc n) (suc n) ≡ 0
@@ -186,10 +193,13 @@ module _ (b : Bool) (sil : ℕ) where
 
     abbrev AwaitStep : Type 0
     AwaitStep = (e : ℕ) → Holds (kOf b sil) l n (await e)
-        → stepOf (conc b sil l n (await e)) (at l n) .state ≡ cond (eqb (at l n) 8) (X en sil) (cond (shown (kOf b sil .before) l e (suc n)) (plain en sil (kOf b sil .first .phase) 0 0) (conc b sil l (suc n) (await e)))
+        → stepOf (conc b sil l n (await e)) (at l n) .state ≡ cond (eqb (at l n) 8) (X en sil)
+        (cond (shown (kOf b sil .before) l e (suc n)) (plain en sil (kOf b sil .first .phase) 0 0) (conc b sil l (suc n) (await e)))
 
     abbrev ReadyStep : Type 0
-    ReadyStep = stepOf (plain en sil Ready 0 0) (at l n) .state ≡ cond (eqb (at l n) 8) (X en sil) (cond (eqb (at l n) 1) (plain en sil (pre b) 0 0) (plain en sil Ready 0 0))
+    ReadyStep =
+        stepOf (plain en sil Ready 0 0) (at l n) .state ≡ cond (eqb (at l n) 8) (X en sil)
+        (cond (eqb (at l n) 1) (plain en sil (pre b) 0 0) (plain en sil Ready 0 0))
 
     told-now : conc b sil l (suc n) (await (suc n)) ≡ plain en sil (pre b) 0 0
     told-now = go b
@@ -215,10 +225,12 @@ module _ (b : Bool) (sil : ℕ) where
         (conc-cond l (suc n) (eqb (at l n) 1) (await (suc n)) (ready r) told-now refl))
     commutes rd aw every sh (await e) h =
         aw e h
-        ∙ sym (conc-cond l (suc n) (eqb (at l n) 8) (failed (suc n)) (cond (shown (kOf b sil .before) l e (suc n)) (trying (kOf b sil .first) (kOf b sil .others) (suc n) (suc n)) (await e)) (fail-now l (suc n))
+        ∙ sym (conc-cond l (suc n) (eqb (at l n) 8) (failed (suc n))
+        (cond (shown (kOf b sil .before) l e (suc n)) (trying (kOf b sil .first) (kOf b sil .others) (suc n) (suc n)) (await e)) (fail-now l (suc n))
         (conc-cond l (suc n) (shown (kOf b sil .before) l e (suc n)) (trying (kOf b sil .first) (kOf b sil .others) (suc n) (suc n)) (await e)
         (enter (kOf b sil .first) (kOf b sil .others) (suc n) ∙ ap (plain en sil (kOf b sil .first .phase) 0) (count-self 0 l (suc n))) refl))
-    commutes rd aw every sh (trying d ds e m) h = reached-suffix (kOf b sil) l m (P m) (every m) (h .1) .0 e (h .2) (reached-le (kOf b sil) l m (h .1)) (h .3) (h .4)
+    commutes rd aw every sh (trying d ds e m) h =
+        reached-suffix (kOf b sil) l m (P m) (every m) (h .1) .0 e (h .2) (reached-le (kOf b sil) l m (h .1)) (h .3) (h .4)
     commutes rd aw every sh (done e) h =
         by-cases (leb 1000 (count 0 l e n))
         (λ y. ap (λ (t : Bool). stepOf (cond t (plain en sil Valid 0 0) (plain en sil Settling (count 0 l e n) 0)) (at l n) .state) y
@@ -226,17 +238,21 @@ module _ (b : Bool) (sil : ℕ) where
         ∙ in-valid en sil (at l n) (count 0 l e n) (count 0 l e (suc n)) (count-mono 0 l e n (suc n) (omega arith)) (leb-true 1000 (count 0 l e n) y) ∙ sym end)
         (λ y. let t : count 0 l e n < 1000 = leb-false 1000 (count 0 l e n) y in
         ap (λ (t : Bool). stepOf (cond t (plain en sil Valid 0 0) (plain en sil Settling (count 0 l e n) 0)) (at l n) .state) y
-        ∙ step-state (plain en sil Settling (count 0 l e n) 0) (at l n) (legal-mk Settling (count 0 l e n) 0 0 0 (sh .settling) (omega arith) (omega arith)) ∙ sh .moved-settling (count 0 l e n) (at l n)
+        ∙ step-state (plain en sil Settling (count 0 l e n) 0) (at l n) (legal-mk Settling (count 0 l e n) 0 0 0 (sh .settling) (omega arith) (omega arith))
+        ∙ sh .moved-settling (count 0 l e n) (at l n)
         ∙ in-settling en sil (at l n) (count 0 l e n) (count 0 l e (suc n)) (count-step 0 l e n (h .4)) t ∙ sym end)
       where
         end : conc b sil l (suc n) (next (kOf b sil) l n (done e)) ≡ cond (eqb (at l n) 8) (X en sil) (settled en sil (count 0 l e (suc n)))
         end = conc-cond l (suc n) (eqb (at l n) 8) (failed (suc n)) (done e) (fail-now l (suc n)) refl
     commutes rd aw every sh (failed e) h =
         let t : count 0 l e n < sil = leb-false sil (count 0 l e n) (simp and-true at (subst (λ (d : Need). shown d l e n ≡ false) (sh .rest) (h .3))) in
-        step-state (plain en sil Exception (count 0 l e n) 0) (at l n) (legal-mk Exception (count 0 l e n) 0 0 0 (sh .exception) (omega arith) (omega arith)) ∙ sh .moved-exception (count 0 l e n) (at l n)
+        step-state (plain en sil Exception (count 0 l e n) 0) (at l n) (legal-mk Exception (count 0 l e n) 0 0 0 (sh .exception) (omega arith) (omega arith))
+        ∙ sh .moved-exception (count 0 l e n) (at l n)
         ∙ in-exception en sil (at l n) (count 0 l e n) (count 0 l e (suc n)) (count-step 0 l e n (h .1)) t hi
-        ∙ ap (λ (d : Need). cond (eqb (at l n) 8) (X en sil) (cond (shown d l e (suc n)) (plain en sil Ready 0 0) (plain en sil Exception (count 0 l e (suc n)) 0))) (sym (sh .rest))
-        ∙ sym (conc-cond l (suc n) (eqb (at l n) 8) (failed (suc n)) (cond (shown (kOf b sil .silence) l e (suc n)) (ready (suc n)) (failed e)) (fail-now l (suc n))
+        ∙ ap (λ (d : Need). cond (eqb (at l n) 8) (X en sil)
+        (cond (shown d l e (suc n)) (plain en sil Ready 0 0) (plain en sil Exception (count 0 l e (suc n)) 0))) (sym (sh .rest))
+        ∙ sym (conc-cond l (suc n) (eqb (at l n) 8) (failed (suc n)) (cond (shown (kOf b sil .silence) l e (suc n)) (ready (suc n)) (failed e))
+        (fail-now l (suc n))
         (conc-cond l (suc n) (shown (kOf b sil .silence) l e (suc n)) (ready (suc n)) (failed e) refl refl))
 
 -- a step goes from the state of a history to that of the next
@@ -253,47 +269,82 @@ commutes-at true sil lo hi l n =
         do-lasting true sil lo hi l n Quiet 1500 _ _ refl refl refl refl refl (λ t a x. refl) m,
         (
           sr m,
-          (do-until true sil lo hi l n Tr Settling 7 [] refl refl refl refl refl refl refl refl refl refl refl refl (λ t a x. refl) m (enter-done true sil lo hi l n), tt),
+          (
+            do-until true sil lo hi l n Tr Settling 7 [] refl refl refl refl refl refl refl refl refl refl refl refl (λ t a x. refl) m
+                (enter-done true sil lo hi l n),
+            tt,
+          ),
         ),
       ),
     ))
-    (record { valid = refl; settling = refl; exception = refl; moved-valid = λ x. refl; moved-settling = λ t x. refl; moved-exception = λ t x. refl; rest = refl })
+    (record {
+      valid = refl;
+      settling = refl;
+      exception = refl;
+      moved-valid = λ x. refl;
+      moved-settling = λ t x. refl;
+      moved-exception = λ t x. refl;
+      rest = refl;
+    })
   where
     sr : (m : ℕ) → P true sil lo hi l n m (need Sr 0 (4 ∷ 5 ∷ []) ∷ need Tr 0 (7 ∷ []) ∷ [])
     sr m e h i u z =
         let t : count 0 l e n < 15000 = short true sil lo hi l n m e h i u in
         let j : m ≤ n = omega arith in
-        step-state (mk 1 sil Sr (count 0 l e n) (count 0 l m n) (one (leb 1 (count 4 l e n))) (one (leb 1 (count 5 l e n)))) (at l n) (legal-mk true sil lo hi l n Sr (count 0 l e n) (count 0 l m n) (one (leb 1 (count 4 l e n))) (one (leb 1 (count 5 l e n))) refl (omega arith) (u .early))
-        ∙ both-marks 1 sil (at l n) (count 0 l e n) (count 0 l m n) (count 0 l e (suc n)) (count 0 l m (suc n)) (count 4 l e n) (count 4 l e (suc n)) (count 5 l e n) (count 5 l e (suc n)) (count-step 0 l e n h) (count-step 0 l m n j) (count-step 4 l e n h) (count-step 5 l e n h) t (u .early) (simp (and-true, leb·zero (count 0 l e n)) at z)
-        ∙ sym (tries true sil lo hi l n m e (need Sr 0 (4 ∷ 5 ∷ [])) (need Tr 0 (7 ∷ []) ∷ []) (plain 1 sil Tr 0 (count 0 l m (suc n))) (enter true sil lo hi l n (need Tr 0 (7 ∷ [])) [] m))
+        step-state (mk 1 sil Sr (count 0 l e n) (count 0 l m n) (one (leb 1 (count 4 l e n))) (one (leb 1 (count 5 l e n)))) (at l n)
+        (legal-mk true sil lo hi l n Sr (count 0 l e n) (count 0 l m n) (one (leb 1 (count 4 l e n))) (one (leb 1 (count 5 l e n))) refl (omega arith)
+        (u .early))
+        ∙ both-marks 1 sil (at l n) (count 0 l e n) (count 0 l m n) (count 0 l e (suc n)) (count 0 l m (suc n)) (count 4 l e n) (count 4 l e (suc n))
+        (count 5 l e n) (count 5 l e (suc n)) (count-step 0 l e n h) (count-step 0 l m n j) (count-step 4 l e n h) (count-step 5 l e n h) t (u .early)
+        (simp (and-true, leb·zero (count 0 l e n)) at z)
+        ∙ sym (tries true sil lo hi l n m e (need Sr 0 (4 ∷ 5 ∷ [])) (need Tr 0 (7 ∷ []) ∷ []) (plain 1 sil Tr 0 (count 0 l m (suc n)))
+        (enter true sil lo hi l n (need Tr 0 (7 ∷ [])) [] m))
 commutes-at false sil lo hi l n =
     commutes false sil lo hi l n
     (step-state (plain 0 sil Ready 0 0) (at l n) (legal-mk false sil lo hi l n Ready 0 0 0 0 refl (omega arith) (omega arith)) ∙ in-ready 0 sil Await (at l n))
     (λ e h.
     step-state (plain 0 sil Await 0 0) (at l n) (legal-mk false sil lo hi l n Await 0 0 0 0 refl (omega arith) (omega arith))
-    ∙ in-await 0 sil (at l n) (count 0 l e (suc n)) (count 2 l e n) (count 2 l e (suc n)) (count-step 2 l e n (h .1)) (simp (and-true, leb·zero (count 0 l e n)) at (h .3)))
+    ∙ in-await 0 sil (at l n) (count 0 l e (suc n)) (count 2 l e n) (count 2 l e (suc n)) (count-step 2 l e n (h .1))
+    (simp (and-true, leb·zero (count 0 l e n)) at (h .3)))
     (λ m. (
-      do-until false sil lo hi l n Hearing Quiet 3 (ltuNeeds sil .others) refl refl refl refl refl refl refl refl refl refl refl refl (λ t a x. refl) m (enter false sil lo hi l n (need Quiet 500 []) (need Sc 5000 (4 ∷ []) ∷ need Tc 0 (6 ∷ []) ∷ need Fc 0 (7 ∷ []) ∷ []) m),
+      do-until false sil lo hi l n Hearing Quiet 3 (ltuNeeds sil .others) refl refl refl refl refl refl refl refl refl refl refl refl (λ t a x. refl) m
+          (enter false sil lo hi l n (need Quiet 500 []) (need Sc 5000 (4 ∷ []) ∷ need Tc 0 (6 ∷ []) ∷ need Fc 0 (7 ∷ []) ∷ []) m),
       (
         do-lasting false sil lo hi l n Quiet 500 _ _ refl refl refl refl refl (λ t a x. refl) m,
         (
           sc m,
           (
-            do-until false sil lo hi l n Tc Fc 6 (need Fc 0 (7 ∷ []) ∷ []) refl refl refl refl refl refl refl refl refl refl refl refl (λ t a x. refl) m (enter false sil lo hi l n (need Fc 0 (7 ∷ [])) [] m),
-            (do-until false sil lo hi l n Fc Settling 7 [] refl refl refl refl refl refl refl refl refl refl refl refl (λ t a x. refl) m (enter-done false sil lo hi l n), tt),
+            do-until false sil lo hi l n Tc Fc 6 (need Fc 0 (7 ∷ []) ∷ []) refl refl refl refl refl refl refl refl refl refl refl refl (λ t a x. refl) m
+                (enter false sil lo hi l n (need Fc 0 (7 ∷ [])) [] m),
+            (
+              do-until false sil lo hi l n Fc Settling 7 [] refl refl refl refl refl refl refl refl refl refl refl refl (λ t a x. refl) m
+                  (enter-done false sil lo hi l n),
+              tt,
+            ),
           ),
         ),
       ),
     ))
-    (record { valid = refl; settling = refl; exception = refl; moved-valid = λ x. refl; moved-settling = λ t x. refl; moved-exception = λ t x. refl; rest = refl })
+    (record {
+      valid = refl;
+      settling = refl;
+      exception = refl;
+      moved-valid = λ x. refl;
+      moved-settling = λ t x. refl;
+      moved-exception = λ t x. refl;
+      rest = refl;
+    })
   where
     sc : (m : ℕ) → P false sil lo hi l n m (need Sc 5000 (4 ∷ []) ∷ need Tc 0 (6 ∷ []) ∷ need Fc 0 (7 ∷ []) ∷ [])
     sc m e h i u z =
         let t : count 0 l e n < 15000 = short false sil lo hi l n m e h i u in
         let j : m ≤ n = omega arith in
-        step-state (mk 0 sil Sc (count 0 l e n) (count 0 l m n) (one (leb 1 (count 4 l e n))) 0) (at l n) (legal-mk false sil lo hi l n Sc (count 0 l e n) (count 0 l m n) (one (leb 1 (count 4 l e n))) 0 refl (omega arith) (u .early))
-        ∙ mark-and-ticks 0 sil (at l n) (count 0 l e n) (count 0 l m n) (count 0 l e (suc n)) (count 0 l m (suc n)) (count 4 l e n) (count 4 l e (suc n)) (count-step 0 l e n h) (count-step 0 l m n j) (count-step 4 l e n h) t (u .early) (simp and-true at z)
-        ∙ sym (tries false sil lo hi l n m e (need Sc 5000 (4 ∷ [])) (need Tc 0 (6 ∷ []) ∷ need Fc 0 (7 ∷ []) ∷ []) (plain 0 sil Tc 0 (count 0 l m (suc n))) (enter false sil lo hi l n (need Tc 0 (6 ∷ [])) (need Fc 0 (7 ∷ []) ∷ []) m))
+        step-state (mk 0 sil Sc (count 0 l e n) (count 0 l m n) (one (leb 1 (count 4 l e n))) 0) (at l n)
+        (legal-mk false sil lo hi l n Sc (count 0 l e n) (count 0 l m n) (one (leb 1 (count 4 l e n))) 0 refl (omega arith) (u .early))
+        ∙ mark-and-ticks 0 sil (at l n) (count 0 l e n) (count 0 l m n) (count 0 l e (suc n)) (count 0 l m (suc n)) (count 4 l e n) (count 4 l e (suc n))
+        (count-step 0 l e n h) (count-step 0 l m n j) (count-step 4 l e n h) t (u .early) (simp and-true at z)
+        ∙ sym (tries false sil lo hi l n m e (need Sc 5000 (4 ∷ [])) (need Tc 0 (6 ∷ []) ∷ need Fc 0 (7 ∷ []) ∷ []) (plain 0 sil Tc 0 (count 0 l m (suc n)))
+        (enter false sil lo hi l n (need Tc 0 (6 ∷ [])) (need Fc 0 (7 ∷ []) ∷ []) m))
 
 module _ (b : Bool) (sil : ℕ) (lo : 2000 ≤ sil) (hi : sil ≤ 60000) (l : List ℕ) where
   -- THE STATE AFTER n CODES IS THAT OF THE HISTORY AT n

@@ -12,7 +12,8 @@ use Rattle.supervisor.specs.Limits.{settlingTicks}
 use Rattle.supervisor.specs.Phases.{Ready, Settling, Valid, Exception, inAttempt}
 use Rattle.supervisor.specs.Step.{fresh}
 use Rattle.supervisor.proofs.Laws.{by-cases}
-use Rattle.startup.specs.Attempts.{at, one, count, Need, shown, InOrder, FirstLacking, Needs, ntuNeeds, ltuNeeds, needsOf, meant, all, InTime, StillOpen, EndsInData, SilenceBegins, OpensAt}
+use Rattle.startup.specs.Attempts.{at, one, count, Need, shown, InOrder, FirstLacking, Needs, ntuNeeds}
+use Rattle.startup.specs.Attempts.{ltuNeeds, needsOf, meant, all, InTime, StillOpen, EndsInData, SilenceBegins, OpensAt}
 use Rattle.startup.specs.Stands.{Stands, ready, waiting, trying, settling, valid, silent, Exactly}
 use Rattle.startup.specs.Make.{after, answerTo, Taken}
 use Rattle.startup.proofs.History.{Reached, begun, went, reached-le, not-all}
@@ -160,7 +161,8 @@ module _ (b : Bool) (sil : ℕ) (pos : 0 < sil) (l : List ℕ) (n ph t : ℕ) (x
   open-then : (m : ℕ) → OpensAt (kOf b sil) l m → StillOpen (kOf b sil) l m n → (inAttempt ph ≡ true) × (t ≡ count 0 l m n)
   open-then m o y =
       let w = is-open (kOf b sil) (sound b sil pos) l m n o y in
-      let e = says-once (kOf b sil) (sound b sil pos) l n ph t _ _ x (says (kOf b sil) (sound b sil pos) l n (tryingH (w .0 .0) (w .0 .1) (w .0 .2) m) (w .1)) in
+      let e = says-once (kOf b sil) (sound b sil pos) l n ph t _ _ x (says (kOf b sil) (sound b sil pos) l n (tryingH (w .0 .0) (w .0 .1) (w .0 .2) m) (w .1))
+      in
       (ap inAttempt (e .0) ∙ reached-suffix (kOf b sil) l m (InAttempt b sil) (in-attempt b sil) (w .0 .3) .0 .0, e .1)
 
   in-said : inAttempt ph ≡ true → (m : ℕ) × OpensAt (kOf b sil) l m × StillOpen (kOf b sil) l m n

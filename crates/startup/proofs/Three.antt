@@ -66,7 +66,8 @@ next-other true sil = (refl, (refl, (refl, (tt, tt))))
 next-other false sil = (refl, (refl, (refl, (refl, (tt, tt)))))
 
 -- either in the first need since the opening, or not in the opening phase
-where-opening : (b : Bool) (sil : ℕ) (l : List ℕ) (m : ℕ) {d : Need} {ds : List Need} {e : ℕ} → Reached (kOf b sil) l m d ds e → (m ≡ e) ⊎ (eqb (d .phase) (opening b) ≡ false)
+where-opening : (b : Bool) (sil : ℕ) (l : List ℕ) (m : ℕ) {d : Need} {ds : List Need} {e : ℕ} → Reached (kOf b sil) l m d ds e
+    → (m ≡ e) ⊎ (eqb (d .phase) (opening b) ≡ false)
 where-opening b sil l m begun = inl refl
 where-opening b sil l m (went r o) = inr (reached-suffix (kOf b sil) l m (NextOther b) (next-other b sil) r .0)
 
@@ -92,7 +93,9 @@ module _ (b : Bool) (sil : ℕ) (lo : 2000 ≤ sil) (hi : sil ≤ 60000) (l : Li
           pick false = y
 
       told : (b : Bool) (e : ℕ) → shown (kOf b sil .before) l e n ≡ false → answer (stateRefusals (conc b sil l n (await e))) ≡ 0
-      told true e z = let t : count 0 l e n < 300 = leb-false 300 (count 0 l e n) (simp and-true at z) in legal-mk true sil lo hi l n Gap (count 0 l e n) 0 0 0 refl (omega arith) (omega arith)
+      told true e z =
+          let t : count 0 l e n < 300 = leb-false 300 (count 0 l e n) (simp and-true at z) in
+          legal-mk true sil lo hi l n Gap (count 0 l e n) 0 0 0 refl (omega arith) (omega arith)
       told false e z = legal-mk false sil lo hi l n Await 0 0 0 0 refl (omega arith) (omega arith)
 
       quiet : (b : Bool) (e : ℕ) → shown (kOf b sil .silence) l e n ≡ false → count 0 l e n < sil
@@ -105,11 +108,14 @@ module _ (b : Bool) (sil : ℕ) (lo : 2000 ≤ sil) (hi : sil ≤ 60000) (l : Li
       go (trying d ds e m) h =
           let i = reached-le k l m (h .1) in
           let t = short b sil lo hi l n m e (h .2) i (h .3) in
-          legal-mk b sil lo hi l n (d .phase) (count 0 l e n) (count 0 l m n) (mark 4 d l e n) (mark 5 d l e n) (reached-suffix k l m (InAttempt b sil) (in-attempt b sil) (h .1) .0 .1) (omega arith) (h .3 .early)
+          legal-mk b sil lo hi l n (d .phase) (count 0 l e n) (count 0 l m n) (mark 4 d l e n) (mark 5 d l e n)
+          (reached-suffix k l m (InAttempt b sil) (in-attempt b sil) (h .1) .0 .1) (omega arith) (h .3 .early)
       go (done e) h =
           by-cases (leb 1000 (count 0 l e n)) (λ t. rw t (legal-mk b sil lo hi l n Valid 0 0 0 0 (both Valid refl refl) (omega arith) (omega arith)))
-          (λ f. let t : count 0 l e n < 1000 = leb-false 1000 (count 0 l e n) f in rw f (legal-mk b sil lo hi l n Settling (count 0 l e n) 0 0 0 (both Settling refl refl) (omega arith) (omega arith)))
-      go (failed e) h = let t = quiet b e (h .3) in legal-mk b sil lo hi l n Exception (count 0 l e n) 0 0 0 (both Exception refl refl) (omega arith) (omega arith)
+          (λ f. let t : count 0 l e n < 1000 = leb-false 1000 (count 0 l e n) f in
+          rw f (legal-mk b sil lo hi l n Settling (count 0 l e n) 0 0 0 (both Settling refl refl) (omega arith) (omega arith)))
+      go (failed e) h =
+          let t = quiet b e (h .3) in legal-mk b sil lo hi l n Exception (count 0 l e n) 0 0 0 (both Exception refl refl) (omega arith) (omega arith)
 
   -- the answers of the run
   answer-is : (p : ℕ) → at l p ≤ 8 → answerTo s₀ l p ≡ answeredOf 0 (after s₀ l p) (after s₀ l (suc p))
@@ -136,11 +142,16 @@ module _ (b : Bool) (sil : ℕ) (lo : 2000 ≤ sil) (hi : sil ≤ 60000) (l : Li
   pub open-run : (m n : ℕ) → OpensAt k l m → StillOpen k l m n → (inAttempt (after s₀ l n .phase) ≡ true) × (after s₀ l n .attempt ≡ count 0 l m n)
   open-run m n o x =
       let w = is-open k sd l m n o x in
-      let r = run-is b sil lo hi l n (trying (w .0 .0) (w .0 .1) (w .0 .2) m) (w .1) in
-      (ap (λ (y : Supervisor). inAttempt (y .phase)) r ∙ reached-suffix k l m (InAttempt b sil) (in-attempt b sil) (w .0 .3) .0 .0, ap (λ (y : Supervisor). y .attempt) r)
+      let r = run-is b sil lo hi l n (trying (w .0 .0) (w .0 .1) (w .0 .2) m) (w .1) in (
+        ap (λ (y : Supervisor). inAttempt (y .phase)) r
+            ∙ reached-suffix k l m (InAttempt b sil) (in-attempt b sil) (w .0 .3) .0 .0,
+        ap (λ (y : Supervisor). y .attempt) r,
+      )
 
   pub data-run : (m p : ℕ) → OpensAt k l m → EndsInData k l m p → after s₀ l (suc p) .phase ≡ 11
-  data-run m p o d = ap (λ (y : Supervisor). y .phase) (run-is b sil lo hi l (suc p) (done (suc p)) (is-done k sd l m p o d) ∙ ap (settled (one b) sil) (count-self 0 l (suc p)))
+  data-run m p o d =
+      ap (λ (y : Supervisor). y .phase) (run-is b sil lo hi l (suc p) (done (suc p)) (is-done k sd l m p o d)
+      ∙ ap (settled (one b) sil) (count-self 0 l (suc p)))
 
   pub exception-run : (m p : ℕ) → OpensAt k l m → EndsInException k l m p → after s₀ l (suc p) .phase ≡ 13
   exception-run m p o x = ap (λ (y : Supervisor). y .phase) (run-is b sil lo hi l (suc p) (failed (suc p)) (is-failed k sd l m p o x))
@@ -174,7 +185,8 @@ module _ (b : Bool) (sil : ℕ) (lo : 2000 ≤ sil) (hi : sil ≤ 60000) (l : Li
       (λ w. absurd (f .not-exception (w .0) (w .2 .before .since) (w .1) (exception-shows m (w .0) o (w .2) .shows))))
       (fate k sd l m p (f .since))
 
-  shows-ends : (m p ph : ℕ) → OpensAt k l m → inAttempt ph ≡ false → eqb ph 0 ≡ false → FirstShows ours ph s₀ l m p → EndsInData k l m p ⊎ EndsInException k l m p
+  shows-ends : (m p ph : ℕ) → OpensAt k l m → inAttempt ph ≡ false → eqb ph 0 ≡ false → FirstShows ours ph s₀ l m p
+      → EndsInData k l m p ⊎ EndsInException k l m p
   shows-ends m p ph o out nz f =
       ⊎-elim (λ y. absurd (open-shows m p ph o y out nz (f .shows))) (λ w. w) (next-fate k sd l m p (shows-open m p ph o f))
 
@@ -210,7 +222,8 @@ module _ (b : Bool) (sil : ℕ) (lo : 2000 ≤ sil) (hi : sil ≤ 60000) (l : Li
       before : (d : Need) (ds : List Need) (e′ m : ℕ) → Holds k l (suc p) (trying d ds e′ m) → e′ ≤ p → d .phase ≡ opening b → ⊥
       before d ds e′ m h i z =
           n (ap (λ (y : Supervisor). y .phase)
-          (run-is b sil lo hi l p (trying d ds e′ m) (h .0, h .1, i, in-time-back k sd l m p (suc p) (le-trans (reached-le k l m (h .1)) i) (omega arith) (h .3), shown-less d l e′ p (h .4))) ∙ z)
+          (run-is b sil lo hi l p (trying d ds e′ m)
+          (h .0, h .1, i, in-time-back k sd l m p (suc p) (le-trans (reached-le k l m (h .1)) i) (omega arith) (h .3), shown-less d l e′ p (h .4))) ∙ z)
 
       go : (a : Hist) → Holds k l (suc p) a → after s₀ l (suc p) ≡ conc b sil l (suc p) a → OpensAt k l (suc p)
       go (ready r) h q = out (ready r) q refl
@@ -218,7 +231,8 @@ module _ (b : Bool) (sil : ℕ) (lo : 2000 ≤ sil) (hi : sil ≤ 60000) (l : Li
       go (trying d ds e′ m) h q =
           let z : d .phase ≡ opening b = sym (ap (λ (y : Supervisor). y .phase) q) ∙ e in
           ⊎-elim
-          (λ y. ⊎-elim (λ w. subst (OpensAt k l) (w ∙ y) (h .0)) (λ w. clash (eqb (opening b) (opening b)) (same b) (ap (λ (x : ℕ). eqb x (opening b)) (sym z) ∙ w)) (where-opening b sil l m (h .1)))
+          (λ y. ⊎-elim (λ w. subst (OpensAt k l) (w ∙ y) (h .0))
+          (λ w. clash (eqb (opening b) (opening b)) (same b) (ap (λ (x : ℕ). eqb x (opening b)) (sym z) ∙ w)) (where-opening b sil l m (h .1)))
           (λ y. absurd (before d ds e′ m h (omega arith) z))
           (eq-or-lt-of-le (h .2))
         where
@@ -238,7 +252,8 @@ module _ (b : Bool) (sil : ℕ) (lo : 2000 ≤ sil) (hi : sil ≤ 60000) (l : Li
       go : (a : Hist) → Holds k l n a → after s₀ l n ≡ conc b sil l n a → (m : ℕ) × OpensAt k l m × StillOpen k l m n
       go (ready r) h q = out (ready r) q refl
       go (await e) h q = out (await e) q (pre-out b)
-      go (trying d ds e m) h q = (m, h .0, record { since = le-trans (reached-le k l m (h .1)) (h .2); in-time = h .3; unshown = not-all k l m n (h .1) (h .4) })
+      go (trying d ds e m) h q =
+          (m, h .0, record { since = le-trans (reached-le k l m (h .1)) (h .2); in-time = h .3; unshown = not-all k l m n (h .1) (h .4) })
       go (done e) h q = out (done e) q (settled-out (one b) sil (count 0 l e n))
       go (failed e) h q = out (failed e) q refl
 

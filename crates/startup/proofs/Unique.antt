@@ -9,11 +9,13 @@ use mathlib.Core.Bool.{Bool, true, false, cond}
 use borrow.Author.Tests.{leb-true, leb-false, le-leb, lt-leb, eq-eqb, eqb-true}
 use lib.Dec.{leb, eqb}
 use Rattle.supervisor.proofs.Laws.{clash}
-use Rattle.startup.specs.Attempts.{at, count, Need, shown, Completes, InOrder, Needs, all, InTime, ReadyAt, fresh, rested, CountedOne, counted, OpensAt, opens, SilenceBegins, abnormal, late}
+use Rattle.startup.specs.Attempts.{at, count, Need, shown, Completes, InOrder, Needs, all, InTime}
+use Rattle.startup.specs.Attempts.{ReadyAt, fresh, rested, CountedOne, counted, OpensAt, opens, SilenceBegins, abnormal, late}
 use Rattle.startup.proofs.Counts.{calm-more, calm-less, calm-last, count-self, count-mono, shown-less, in-order-le}
 use Rattle.startup.proofs.History.{Reached, begun, went, Real, AllReal, reached-le, whole-from, last, find, not-all}
 
--- where the card stands: ready since r; told since e; in the need d with ds to come, since e, of the attempt opened at m; in data mode since e; in exception since e
+-- where the card stands: ready since r; told since e; in the need d with ds to come, since e, of the attempt opened at m; in data mode
+-- since e; in exception since e
 pub data Hist : Type 0 where
   ready : ℕ → Hist
   await : ℕ → Hist
@@ -93,7 +95,12 @@ module _ (k : Needs) (s : Sound k) (l : List ℕ) (n : ℕ) where
       let le : m ≤ n = omega (arith, reached-le k l m (h .1), h .2) in
       let z = calm-more 8 l m n le (u .calm) e8 in
       choose (Holds k l (suc n)) (leb 15000 (count 0 l m (suc n))) _ _
-      (λ t. (late (h .0) (record { since = le; in-time = u; unshown = not-all k l m n (h .1) (h .4) }) z (leb-true _ _ t), le-refl _, count-self 8 l (suc n), s .silent l (suc n)))
+      (λ t. (
+        late (h .0) (record { since = le; in-time = u; unshown = not-all k l m n (h .1) (h .4) }) z (leb-true _ _ t),
+        le-refl _,
+        count-self 8 l (suc n),
+        s .silent l (suc n),
+      ))
       (λ f.
       let v : InTime l m (suc n) = record { calm = z; early = leb-false _ _ f } in
       choose (Holds k l (suc n)) (shown d l e (suc n)) _ _
@@ -139,7 +146,8 @@ module _ (k : Needs) (s : Sound k) (l : List ℕ) (n : ℕ) where
   in-time-less m h u = record { calm = calm-less 8 l m n h (u .calm); early = omega (arith, count-mono 0 l m n (suc n) (omega arith), u .early) }
 
   -- the need d of the attempt opened at m was completed by the code at n
-  from-over : (m : ℕ) {d : Need} {ds : List Need} {e : ℕ} → OpensAt k l m → Reached k l m d ds e → Completes d l e n → InTime l m (suc n) → From (onward ds (suc n) m)
+  from-over : (m : ℕ) {d : Need} {ds : List Need} {e : ℕ} → OpensAt k l m → Reached k l m d ds e → Completes d l e n → InTime l m (suc n)
+      → From (onward ds (suc n) m)
   from-over m {d} {ds} {e} x r o u =
       let h : m ≤ n = omega (arith, reached-le k l m r, o .since) in (
         trying d ds e m,
@@ -150,7 +158,8 @@ module _ (k : Needs) (s : Sound k) (l : List ℕ) (n : ℕ) where
   over-at : {d : Need} {e : ℕ} (p : ℕ) → suc p ≡ suc n → Completes d l e p → Completes d l e n
   over-at {d} {e} p q o = subst (λ (z : ℕ). Completes d l e z) (omega arith) o
 
-  from-reached : (m : ℕ) {d : Need} {ds : List Need} {e : ℕ} → e ≡ suc n → OpensAt k l m → Reached k l m d ds e → InTime l m (suc n) → From (trying d ds (suc n) m)
+  from-reached : (m : ℕ) {d : Need} {ds : List Need} {e : ℕ} → e ≡ suc n → OpensAt k l m → Reached k l m d ds e → InTime l m (suc n)
+      → From (trying d ds (suc n) m)
   from-reached m q d begun u =
       subst (λ (z : ℕ). From (trying (k .first) (k .others) (suc n) z)) (sym q) (from-opens (subst (OpensAt k l) q d))
   from-reached m q d (went {p = p} r o) u = from-over m d r (over-at p q o) u
@@ -171,13 +180,21 @@ module _ (k : Needs) (s : Sound k) (l : List ℕ) (n : ℕ) where
   pub back : (b : Hist) → Holds k l n b → (a : Hist) → Holds k l (suc n) a → From a
   back b hb (ready r) h =
       ⊎-elim (λ q. subst (λ (z : ℕ). From (ready z)) (sym q) (from-ready (subst (ReadyAt k l) q (h .0))))
-      (λ w. let i : r ≤ n = omega arith in
-      (ready r, (h .0, i, calm-less 1 l r n i (h .2), calm-less 8 l r n i (h .3)), on-false _ _ _ (calm-last 8 l r n i (h .3)) ∙ on-false _ _ _ (calm-last 1 l r n i (h .2))))
+      (λ w. let i : r ≤ n = omega arith in (
+        ready r,
+        (h .0, i, calm-less 1 l r n i (h .2), calm-less 8 l r n i (h .3)),
+        on-false _ _ _ (calm-last 8 l r n i (h .3))
+            ∙ on-false _ _ _ (calm-last 1 l r n i (h .2)),
+      ))
       (eq-or-lt-of-le (h .1))
   back b hb (await e) h =
       ⊎-elim (λ q. subst (λ (z : ℕ). From (await z)) (sym q) (from-told (subst (CountedOne k l) q (h .0))))
-      (λ w. let i : e ≤ n = omega arith in
-      (await e, (h .0, i, calm-less 8 l e n i (h .2), shown-less (k .before) l e n (h .3)), on-false _ _ _ (calm-last 8 l e n i (h .2)) ∙ on-false _ _ _ (h .3)))
+      (λ w. let i : e ≤ n = omega arith in (
+        await e,
+        (h .0, i, calm-less 8 l e n i (h .2), shown-less (k .before) l e n (h .3)),
+        on-false _ _ _ (calm-last 8 l e n i (h .2))
+            ∙ on-false _ _ _ (h .3),
+      ))
       (eq-or-lt-of-le (h .1))
   back b hb (trying d ds e m) h =
       ⊎-elim (λ q. subst (λ (z : ℕ). From (trying d ds z m)) (sym q) (from-reached m q (h .0) (h .1) (h .3)))
@@ -194,8 +211,12 @@ module _ (k : Needs) (s : Sound k) (l : List ℕ) (n : ℕ) where
       (eq-or-lt-of-le (h .4))
   back b hb (failed e) h =
       ⊎-elim (λ q. subst (λ (z : ℕ). From (failed z)) (sym q) (from-fails b hb (subst (SilenceBegins k l) q (h .0))))
-      (λ w. let i : e ≤ n = omega arith in
-      (failed e, (h .0, i, calm-less 8 l e n i (h .2), shown-less (k .silence) l e n (h .3)), on-false _ _ _ (calm-last 8 l e n i (h .2)) ∙ on-false _ _ _ (h .3)))
+      (λ w. let i : e ≤ n = omega arith in (
+        failed e,
+        (h .0, i, calm-less 8 l e n i (h .2), shown-less (k .silence) l e n (h .3)),
+        on-false _ _ _ (calm-last 8 l e n i (h .2))
+            ∙ on-false _ _ _ (h .3),
+      ))
       (eq-or-lt-of-le (h .1))
 
 start-holds : (k : Needs) (l : List ℕ) → Holds k l 0 (ready 0)

@@ -1,5 +1,5 @@
 -- What a card shows at each moment, from the list alone: the phase and, in an attempt, the ticks since its opening. The list says one thing at
--- each moment (theorem `stands-once`), so "from .. until" below is exactly then (`Exactly`, theorem `stands-exactly`).
+-- each moment (theorem `stands-once`), so what is said below from one moment until another is exactly then (`Exactly`, theorem `stands-exactly`).
 use Prim.Native.Nat.{ℕ, suc, _≤_}
 use mathlib.Core.Path.{_≡_}
 use mathlib.Core.Bool.{true, false}

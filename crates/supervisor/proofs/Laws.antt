@@ -5,15 +5,15 @@ use native.Mathlib.Omega.{arith}
 use mathlib.Core.Path.{_≡_, refl, sym, ap, subst, _∙_}
 use mathlib.Core.Logic.{_⊎_, inl, inr, ⊎-elim}
 use mathlib.Core.Bool.{Bool, true, false, cond, not, _||_, false≢true}
-use mathlib.Core.List.{List, [], _∷_}
-use borrow.Author.Tests.{ltb-false, leb-true, leb-false, not-false, eqb-true, ne-eqb}
+use mathlib.Core.List.{[], _∷_}
+use borrow.Author.Tests.{ltb-false, leb-true, leb-false, not-false, ne-eqb}
 use lib.Dec.{ltb, leb, eqb}
 use Rattle.answer.specs.Answer.{refuse, answer}
 use Rattle.answer.proofs.Laws.{none}
 use Rattle.supervisor.specs.declared.Supervisor.{Supervisor}
 use Rattle.supervisor.specs.declared.Answer.{Answer}
-use Rattle.supervisor.specs.Phases.{Ready, Exception, Row, ntu, ltu, phasesOf, isOf, rowOf}
-use Rattle.supervisor.specs.Step.{changed, entered, acted, moved, stateRefusals, answered, none as noState, silenceOf, startRefusals, fresh, startOf}
+use Rattle.supervisor.specs.Phases.{Ready, Row, ntu, ltu, phasesOf, isOf, rowOf}
+use Rattle.supervisor.specs.Step.{acted, moved, stateRefusals, answered, none as noState, silenceOf, startRefusals, fresh, startOf}
 
 -- the same either way
 pub same-both : {A : Type 0} (b : Bool) (x : A) → cond b x x ≡ x
@@ -96,8 +96,33 @@ beyond p b silence h = go b
     no k i = ne-eqb p k (λ q. omega arith)
 
     go : (b : Bool) → isOf p (cond b (ntu silence) (ltu silence)) ≡ false
-    go true = simp (no 0 (omega arith), no 1 (omega arith), no 3 (omega arith), no 5 (omega arith), no 7 (omega arith), no 9 (omega arith), no 11 (omega arith), no 12 (omega arith), no 13 (omega arith))
-    go false = simp (no 0 (omega arith), no 2 (omega arith), no 4 (omega arith), no 5 (omega arith), no 6 (omega arith), no 8 (omega arith), no 10 (omega arith), no 11 (omega arith), no 12 (omega arith), no 13 (omega arith))
+    go true =
+        simp (
+          no 0 (omega arith),
+          no 1 (omega arith),
+          no 3 (omega arith),
+          no 5 (omega arith),
+          no 7 (omega arith),
+          no 9 (omega arith),
+          no 11 (omega arith),
+          no 12
+              (omega arith),
+          no 13 (omega arith),
+        )
+    go false =
+        simp (
+          no 0 (omega arith),
+          no 2 (omega arith),
+          no 4 (omega arith),
+          no 5 (omega arith),
+          no 6 (omega arith),
+          no 8 (omega arith),
+          no 10 (omega arith),
+          no 11
+              (omega arith),
+          no 12 (omega arith),
+          no 13 (omega arith),
+        )
 
 -- what each end's phases are, by number
 pub of-ntu : (b : Bool) (silence p : ℕ) → (p ≡ 1) ⊎ ((p ≡ 3) ⊎ ((p ≡ 7) ⊎ (p ≡ 9))) → b ≡ isOf p (cond b (ntu silence) (ltu silence))
@@ -108,13 +133,16 @@ pub of-ltu : (b : Bool) (silence p : ℕ) → (p ≡ 2) ⊎ ((p ≡ 4) ⊎ ((p �
 of-ltu true silence p h = ⊎-elim (λ q. rw q) (⊎-elim (λ q. rw q) (⊎-elim (λ q. rw q) (⊎-elim (λ q. rw q) (λ q. rw q)))) h
 of-ltu false silence p h = ⊎-elim (λ q. rw q) (⊎-elim (λ q. rw q) (⊎-elim (λ q. rw q) (⊎-elim (λ q. rw q) (λ q. rw q)))) h
 
-pub of-both : (b : Bool) (silence p : ℕ) → p ≤ 13 → ((p ≡ 1) ⊎ ((p ≡ 3) ⊎ ((p ≡ 7) ⊎ (p ≡ 9))) → ⊥) → ((p ≡ 2) ⊎ ((p ≡ 4) ⊎ ((p ≡ 6) ⊎ ((p ≡ 8) ⊎ (p ≡ 10)))) → ⊥) → true ≡ isOf p (cond b (ntu silence) (ltu silence))
+pub of-both : (b : Bool) (silence p : ℕ) → p ≤ 13 → ((p ≡ 1) ⊎ ((p ≡ 3) ⊎ ((p ≡ 7) ⊎ (p ≡ 9))) → ⊥)
+    → ((p ≡ 2) ⊎ ((p ≡ 4) ⊎ ((p ≡ 6) ⊎ ((p ≡ 8) ⊎ (p ≡ 10)))) → ⊥) → true ≡ isOf p (cond b (ntu silence) (ltu silence))
 of-both b silence p h =
-    each (λ p. ((p ≡ 1) ⊎ ((p ≡ 3) ⊎ ((p ≡ 7) ⊎ (p ≡ 9))) → ⊥) → ((p ≡ 2) ⊎ ((p ≡ 4) ⊎ ((p ≡ 6) ⊎ ((p ≡ 8) ⊎ (p ≡ 10)))) → ⊥) → true ≡ isOf p (cond b (ntu silence) (ltu silence)))
+    each (λ p. ((p ≡ 1) ⊎ ((p ≡ 3) ⊎ ((p ≡ 7) ⊎ (p ≡ 9))) → ⊥) → ((p ≡ 2) ⊎ ((p ≡ 4) ⊎ ((p ≡ 6) ⊎ ((p ≡ 8) ⊎ (p ≡ 10)))) → ⊥)
+    → true ≡ isOf p (cond b (ntu silence) (ltu silence)))
     (λ n l. go b 0 refl refl)
     (λ n l. absurd (n (inl refl))) (λ n l. absurd (l (inl refl))) (λ n l. absurd (n (inr (inl refl)))) (λ n l. absurd (l (inr (inl refl))))
     (λ n l. go b 5 refl refl)
-    (λ n l. absurd (l (inr (inr (inl refl))))) (λ n l. absurd (n (inr (inr (inl refl))))) (λ n l. absurd (l (inr (inr (inr (inl refl)))))) (λ n l. absurd (n (inr (inr (inr refl))))) (λ n l. absurd (l (inr (inr (inr (inr refl))))))
+    (λ n l. absurd (l (inr (inr (inl refl))))) (λ n l. absurd (n (inr (inr (inl refl))))) (λ n l. absurd (l (inr (inr (inr (inl refl))))))
+    (λ n l. absurd (n (inr (inr (inr refl))))) (λ n l. absurd (l (inr (inr (inr (inr refl))))))
     (λ n l. go b 11 refl refl) (λ n l. go b 12 refl refl) (λ n l. go b 13 refl refl)
     p h
   where
@@ -140,7 +168,8 @@ of-end : (s : Supervisor) (p : ℕ) → s .phase ≡ p → answer (stateRefusals
 of-end s p at taken = sym (ap (λ (k : ℕ). isOf k (phasesOf (s .end) (s .silence))) at) ∙ legal s taken .of
 
 -- a rule that goes by the end is that of the end's row
-acts-by-end : (b : Bool) (s : Supervisor) (c p silence : ℕ) → cond b (acted (rowOf p (ntu silence)) s c) (acted (rowOf p (ltu silence)) s c) ≡ acted (rowOf p (cond b (ntu silence) (ltu silence))) s c
+acts-by-end : (b : Bool) (s : Supervisor) (c p silence : ℕ)
+    → cond b (acted (rowOf p (ntu silence)) s c) (acted (rowOf p (ltu silence)) s c) ≡ acted (rowOf p (cond b (ntu silence) (ltu silence))) s c
 acts-by-end true s c p silence = refl
 acts-by-end false s c p silence = refl
 
@@ -164,14 +193,16 @@ module _ (s : Supervisor) (c p : ℕ) {x : Supervisor} (at : s .phase ≡ p) (ta
   pub by-ntu : isOf p (ltu (s .silence)) ≡ false → x ≡ acted (rowOf p (ntu (s .silence))) s c → x ≡ moved s c
   by-ntu f e = by-row (e ∙ ap (λ (r : Row). acted r s c) (go (eqb (s .end) 1) (of-end s p at taken)))
     where
-      go : (b : Bool) → isOf p (cond b (ntu (s .silence)) (ltu (s .silence))) ≡ true → rowOf p (ntu (s .silence)) ≡ rowOf p (cond b (ntu (s .silence)) (ltu (s .silence)))
+      go : (b : Bool) → isOf p (cond b (ntu (s .silence)) (ltu (s .silence))) ≡ true
+          → rowOf p (ntu (s .silence)) ≡ rowOf p (cond b (ntu (s .silence)) (ltu (s .silence)))
       go true h = refl
       go false h = clash _ h f
 
   pub by-ltu : isOf p (ntu (s .silence)) ≡ false → x ≡ acted (rowOf p (ltu (s .silence))) s c → x ≡ moved s c
   by-ltu f e = by-row (e ∙ ap (λ (r : Row). acted r s c) (go (eqb (s .end) 1) (of-end s p at taken)))
     where
-      go : (b : Bool) → isOf p (cond b (ntu (s .silence)) (ltu (s .silence))) ≡ true → rowOf p (ltu (s .silence)) ≡ rowOf p (cond b (ntu (s .silence)) (ltu (s .silence)))
+      go : (b : Bool) → isOf p (cond b (ntu (s .silence)) (ltu (s .silence))) ≡ true
+          → rowOf p (ltu (s .silence)) ≡ rowOf p (cond b (ntu (s .silence)) (ltu (s .silence)))
       go true h = clash _ h f
       go false h = refl
 

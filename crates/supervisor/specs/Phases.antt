@@ -123,6 +123,6 @@ rowOf p (r ∷ rs) = cond (eqb p (r .phase)) r (rowOf p rs)
 abbrev pub inAttempt : ℕ → Bool
 inAttempt p = leb Cr p && leb p Fc
 
--- "In Ready, Await and Valid they [phase ticks] aren't counted"
+-- whether a phase's ticks are counted: "In Ready, Await and Valid they aren't counted"
 abbrev pub counts : ℕ → Bool
 counts p = not (eqb p Ready || (eqb p Await || eqb p Valid))

@@ -14,10 +14,22 @@ returns : tie.Need-returns
 returns c = simp (sym (c .before .before .before .in-attempt .ensures) ∙ c .before .before .if1 .taken, sym (c .before .in-attempt2 .ensures) ∙ c .if2 .taken)
 
 returns-2 : tie.Need-returns-2
-returns-2 c = simp (sym (c .before .before .before .before .in-attempt .ensures) ∙ c .before .before .before .if1 .taken, sym (c .before .before .in-attempt2 .ensures) ∙ c .before .if2 .left, eq-eqb _ _ (c .if3 .taken))
+returns-2 c =
+    simp (
+      sym (c .before .before .before .before .in-attempt .ensures) ∙ c .before .before .before .if1 .taken,
+      sym (c .before .before .in-attempt2 .ensures)
+          ∙ c .before .if2 .left,
+      eq-eqb _ _ (c .if3 .taken),
+    )
 
 returns-3 : tie.Need-returns-3
-returns-3 c = simp (sym (c .before .before .before .before .in-attempt .ensures) ∙ c .before .before .before .if1 .taken, sym (c .before .before .in-attempt2 .ensures) ∙ c .before .if2 .left, ne-eqb _ _ (c .if3 .left))
+returns-3 c =
+    simp (
+      sym (c .before .before .before .before .in-attempt .ensures) ∙ c .before .before .before .if1 .taken,
+      sym (c .before .before .in-attempt2 .ensures)
+          ∙ c .before .if2 .left,
+      ne-eqb _ _ (c .if3 .left),
+    )
 
 in-attempt-requires-3 : tie.Need-in-attempt-requires-3
 in-attempt-requires-3 c κs = search needs

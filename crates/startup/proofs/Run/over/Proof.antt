@@ -19,7 +19,8 @@ refusal-requires : tie.Need-refusal-requires Inv-loop μ-loop
 refusal-requires c κs = search needs
 
 returns : tie.Need-returns Inv-loop μ-loop
-returns c = let a = c .before .before .before .args in run-refused (a .state) (a .codes .now) (c .before .refusal .result) (c .before .refusal .ensures) (c .if1 .taken)
+returns c =
+    let a = c .before .before .before .args in run-refused (a .state) (a .codes .now) (c .before .refusal .result) (c .before .refusal .ensures) (c .if1 .taken)
 
 loop-holds : tie.Need-loop-holds Inv-loop μ-loop
 loop-holds c = (omega arith, omega arith, refl)
@@ -52,7 +53,8 @@ returns-2 : tie.Need-returns-2 Inv-loop μ-loop
 returns-2 c =
     let a = c .before .before .before .before .before .args in
     let i = c .before .loop in
-    run-taken (a .state) (a .codes .now) (c .before .before .before .refusal .result) (i .run) (c .before .before .before .refusal .ensures) (c .before .before .if1 .left)
+    run-taken (a .state) (a .codes .now) (c .before .before .before .refusal .result) (i .run) (c .before .before .before .refusal .ensures)
+    (c .before .before .if1 .left)
     (sym (over (a .codes .now) (i .place) (i .run) (c .loop-test .left)) ∙ i .inv .2)
 
 pub over-spec : {M : Type 1} → statement M

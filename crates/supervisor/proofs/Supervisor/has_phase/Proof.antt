@@ -14,7 +14,8 @@ returns-3 : tie.Need-returns-3
 returns-3 c = let s = c .before .before .before .args .self in of-ltu (eqb (s .end) 1) (s .silence) (s .phase) (c .before .match .keys2)
 
 returns-4 : tie.Need-returns-4
-returns-4 c = let s = c .before .before .args .self in of-both (eqb (s .end) 1) (s .silence) (s .phase) (c .before .if1 .left) (c .match .rest .0 .1) (c .match .rest .1)
+returns-4 c =
+    let s = c .before .before .args .self in of-both (eqb (s .end) 1) (s .silence) (s .phase) (c .before .if1 .left) (c .match .rest .0 .1) (c .match .rest .1)
 
 pub has-phase-spec : {M : Type 1} → statement M
 has-phase-spec = tie.close (tie.spec returns returns-2 returns-3 returns-4)

@@ -14,10 +14,24 @@ outside-requires : tie.Need-outside-requires
 outside-requires c κs = search needs
 
 returns-2 : tie.Need-returns-2
-returns-2 c = simp (le-ltb _ _ (c .before .before .before .if1 .left), ← c .before .before .has-phase .ensures, ← either-gives, ← c .before .outside .ensures, c .if2 .taken)
+returns-2 c =
+    simp (
+      le-ltb _ _ (c .before .before .before .if1 .left),
+      ← c .before .before .has-phase .ensures,
+      ← either-gives,
+      ← c .before .outside .ensures,
+      c .if2 .taken,
+    )
 
 returns-3 : tie.Need-returns-3
-returns-3 c = simp (le-ltb _ _ (c .before .before .before .if1 .left), ← c .before .before .has-phase .ensures, ← either-gives, ← c .before .outside .ensures, c .if2 .left)
+returns-3 c =
+    simp (
+      le-ltb _ _ (c .before .before .before .if1 .left),
+      ← c .before .before .has-phase .ensures,
+      ← either-gives,
+      ← c .before .outside .ensures,
+      c .if2 .left,
+    )
 
 pub refusal-spec : {M : Type 1} → statement M
 refusal-spec = tie.close (tie.spec returns has-phase-requires outside-requires returns-2 returns-3)

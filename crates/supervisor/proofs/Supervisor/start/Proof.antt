@@ -33,7 +33,8 @@ returns-2 : tie.Need-returns-2
 returns-2 c =
     let a = c .before .before .before .before .before .before .args in
     let q = c .before .before .before .before .fresh .ensures ∙ ap (fresh (a .end)) (c .before .before .before .before .before .meant .ensures) in
-    unstarted (a .end) (a .silence) (c .before .before .before .refusal .result) q (c .before .before .before .refusal .ensures) (c .before .before .if1 .left) (simp (c .before .fresh2 .ensures) at (c .refused .ensures))
+    unstarted (a .end) (a .silence) (c .before .before .before .refusal .result) q (c .before .before .before .refusal .ensures) (c .before .before .if1 .left)
+    (simp (c .before .fresh2 .ensures) at (c .refused .ensures))
 
 pub start-spec : {M : Type 1} → statement M
 start-spec =

@@ -25,10 +25,14 @@ refused-requires-2 : tie.Need-refused-requires-2
 refused-requires-2 c κs = search needs
 
 returns-2 : tie.Need-returns-2
-returns-2 c = simp (le-ltb _ _ (c .before .before .before .before .if1 .left), sym (c .before .before .before .refusal .ensures) ∙ c .before .before .if2 .taken) (c .answered .ensures ∙ ap (λ s. answered 0 s s) (c .before .moved .ensures))
+returns-2 c =
+    simp (le-ltb _ _ (c .before .before .before .before .if1 .left), sym (c .before .before .before .refusal .ensures) ∙ c .before .before .if2 .taken)
+    (c .answered .ensures ∙ ap (λ s. answered 0 s s) (c .before .moved .ensures))
 
 returns-3 : tie.Need-returns-3
-returns-3 c = simp (le-ltb _ _ (c .before .before .before .if1 .left), ← c .before .before .refusal .ensures) (c .refused2 .ensures ∙ refused-is _ _ _ (c .before .if2 .left))
+returns-3 c =
+    simp (le-ltb _ _ (c .before .before .before .if1 .left), ← c .before .before .refusal .ensures)
+    (c .refused2 .ensures ∙ refused-is _ _ _ (c .before .if2 .left))
 
 pub step-spec : {M : Type 1} → statement M
 step-spec =

@@ -23,10 +23,14 @@ counted-requires : tie.Need-counted-requires
 counted-requires c κs = search needs
 
 returns-2 : tie.Need-returns-2
-returns-2 c = simp (lt-leb 15000 (c .before .before .before .before .before .args .self .attempt + 1) (c .before .before .before .if1 .left), c .before .if2 .taken) (c .entered2 .ensures)
+returns-2 c =
+    simp (lt-leb 15000 (c .before .before .before .before .before .args .self .attempt + 1) (c .before .before .before .if1 .left), c .before .if2 .taken)
+    (c .entered2 .ensures)
 
 returns-3 : tie.Need-returns-3
-returns-3 c = simp (lt-leb 15000 (c .before .before .before .before .before .args .self .attempt + 1) (c .before .before .before .if1 .left), c .before .if2 .left) (c .counted .ensures)
+returns-3 c =
+    simp (lt-leb 15000 (c .before .before .before .before .before .args .self .attempt + 1) (c .before .before .before .if1 .left), c .before .if2 .left)
+    (c .counted .ensures)
 
 pub tried-spec : {M : Type 1} → statement M
 tried-spec =
