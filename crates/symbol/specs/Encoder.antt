@@ -30,7 +30,8 @@ x2 symbol = bit symbol 1
 abbrev pub x3 : ℕ → ℕ
 x3 symbol = bit symbol 0
 
--- how many of the places k below n have a 1 both in the word (a_k) and in X1 sent k symbols ago. `sent` is every X1 so far, the current one first; before the first it is 0
+-- how many of the places k below n have a 1 both in the word (a_k) and in X1 sent k symbols ago. `sent` is every X1 so far, the
+-- current one first; before the first it is 0
 unfoldable pub onesLeft : ℕ → ℕ → List ℕ → ℕ
 onesLeft zero word sent = 0
 onesLeft (suc k) word sent = onesLeft k word sent + bit word k * getD sent k 0

@@ -165,7 +165,8 @@ impl Encoder {
     // A symbol's code and the next register. The window holds the current X1 at weight 1, where a0 meets it; the register is shifted after that.
     fn turn(self, symbol: u32) -> Turn
         requires { ⌜ (encoderIn self ≡ true) × (symbol ≤ 7) ⌝ }
-        ensures { λ r. ⌜ (r .code ≡ codeOf (self .a) (self .b) (heldIn (self .register)) symbol) × (r .register ≡ registerOf (x1 symbol ∷ heldIn (self .register))) ⌝ }
+        ensures { λ r. ⌜ (r .code ≡ codeOf (self .a) (self .b) (heldIn (self .register)) symbol)
+            × (r .register ≡ registerOf (x1 symbol ∷ heldIn (self .register))) ⌝ }
     {
         let window = self.register * 2 + symbol / 4;
         let y3 = symbol % 2;

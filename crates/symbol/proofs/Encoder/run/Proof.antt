@@ -63,7 +63,12 @@ symbols-in-requires c κs = search needs
 returns-3 : tie.Need-returns-3 Inv-loop μ-loop
 returns-3 c =
     record {
-      answered = rw (eq-eqb _ _ (c .before .before .before .before .if1 .left), sym (c .before .before .before .in-range .ensures) ∙ not-false _ (c .before .before .if2 .left), sym (c .before .symbols-in .ensures) ∙ not-true _ (c .if3 .taken));
+      answered = rw (
+        eq-eqb _ _ (c .before .before .before .before .if1 .left),
+        sym (c .before .before .before .in-range .ensures)
+            ∙ not-false _ (c .before .before .if2 .left),
+        sym (c .before .symbols-in .ensures) ∙ not-true _ (c .if3 .taken),
+      );
       written = refl;
       next = refl;
     }
@@ -126,8 +131,10 @@ returns-4 c =
     record {
       answered = rw (eq-eqb _ _ (lengths before), in-range before, symbols-good before);
       written =
-          sym (codes-end (self before .a) (self before .b) (symbols before) (l .codes) (l .register) (l .i) (c .loop-test .left) (l .inv .0) (l .inv .1 ∙ lengths before)) ∙ l .inv .3;
-      next = ap (withRegister (self before)) (sym (register-end (symbols before) (l .register) (l .i) (c .loop-test .left) (l .inv .0) (l .inv .2)) ∙ l .inv .4);
+          sym (codes-end (self before .a) (self before .b) (symbols before) (l .codes) (l .register) (l .i) (c .loop-test .left) (l .inv .0)
+          (l .inv .1 ∙ lengths before)) ∙ l .inv .3;
+      next = ap (withRegister (self before))
+          (sym (register-end (symbols before) (l .register) (l .i) (c .loop-test .left) (l .inv .0) (l .inv .2)) ∙ l .inv .4);
     }
 
 pub run-spec : {M : Type 1} → statement M
