@@ -1,4 +1,5 @@
--- What the functions that put text into a lent room promise.
+-- What the functions that put text into a lent room promise. `sets room at text` of the library is the room with the text stored from
+-- place `at` on.
 use mathlib.Core.Path.{_≡_}
 use mathlib.Core.List.{List, _++_}
 use Prim.Native.Nat.{ℕ, _+_, _-_, min}

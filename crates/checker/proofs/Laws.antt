@@ -74,7 +74,8 @@ check-number f c t l e g =
     ap (digitsOf 16) e ∙ ap (λ (i : ℕ). digitsOf i (valueOf K)) (sym n) ∙ digits-value K (take-bits 16 (drop 4211 B) (drop-bits 4211 B (bits-bits f))) in
     g ∙ ap (λ (x : List ℕ). valueOf (reverse x)) back
 
-pub checks-is : (f : List ℕ) (r c t : ℕ) → length f ≡ 529 → CheckBits f 14 4197 r → c ≡ valueOf (part 4211 16 (bitsOf f)) → t ≡ valueOf (reverse (digitsOf 16 c))
+pub checks-is : (f : List ℕ) (r c t : ℕ) → length f ≡ 529 → CheckBits f 14 4197 r → c ≡ valueOf (part 4211 16 (bitsOf f))
+    → t ≡ valueOf (reverse (digitsOf 16 c))
     → eqb t r ≡ eqb (polynomial (fieldOf checkField (bitsOf f))) (checkOf (messageOf (bitsOf f)))
 checks-is f r c t l d e g =
     let B = bitsOf f in

@@ -1,5 +1,6 @@
 -- A field reader in a local is lent by `&mut` for one call, and comes back: for the walks of the functions that make a reader and take fields with it.
---     lends    from the local's cell, what the reader owns and a share of 'a's token: a lifetime ν below 'a, the `&mut` under a name γ, the two tokens that the call asks, and what is kept of the loan
+-- lends from the local's cell, what the reader owns and a share of 'a's token: a lifetime ν below 'a, the `&mut` under a name γ, the two tokens that
+-- the call asks, and what is kept of the loan
 --     back     from the tokens, what is kept, and the last value h under γ: the cell and what the reader owns at h, and 'a's token
 -- Assumes nothing.
 use Prim.Native.Nat.{ℕ}
@@ -13,7 +14,8 @@ use base.Fml.{GName, Lft, Share, Fml, ftrue, fsep, fwand, fat, flft, fdead, fres
 use prog.Wp.{Heap}
 use ghost.Atoms.{Atoms, sem}
 use contract.BorrowLft.{_⊑_, meet-⊑-left, meet-⊑-right}
-use types.Kit.{Given, ‵, _⊛_, some, later, _$_, _∵_, !, qed, move, keep, use1, use2, use3, split, join, pick, fsplit, fjoin, fpick, fpack, await, updating, now as at-once, show, frame, done}
+use types.Kit.{Given, ‵, _⊛_, some, later, _$_, _∵_, !, qed, move, keep, use1, use2, use3, split, join, pick, fsplit, fjoin, fpick, fpack, await}
+use types.Kit.{updating, now as at-once, show, frame, done}
 use types.SemTy.{Body}
 use types.Tokens.{lft-new, lft-end}
 use denote.RattleType.{RattleType}
@@ -77,7 +79,8 @@ module _ {M : Type 1} (𝓤 : URA M) (H : Heap 𝓤) (A : Atoms 𝓤) (W : Given
       await ! tt $ pick ! (λ γ. split ! $
       -- [the `&mut`; the lender's part; ν's token; 'a's]
       move ! (2 ∷ []) $
-      use1 W (‵ (flft (ν ∷ []) (PosShare·left q)) ⊛ ‵ (fwand (flft (ν ∷ []) (PosShare·left q)) (flft (ν ∷ []) fullShare))) (W .lfts .lft-carve ν (PosShare·left q)) $
+      use1 W (‵ (flft (ν ∷ []) (PosShare·left q)) ⊛ ‵ (fwand (flft (ν ∷ []) (PosShare·left q)) (flft (ν ∷ []) fullShare)))
+      (W .lfts .lft-carve ν (PosShare·left q)) $
       split ! $
       move ! (4 ∷ []) $ use1 W (‵ (flft κ (PosShare·left q)) ⊛ ‵ (flft κ (PosShare·right q))) (W .lfts .lft-split κ q) $ split ! $
       move ! (2 ∷ 0 ∷ []) $ use2 W (‵ (flft (ν ∷ κ) (PosShare·left q))) (W .lfts .lft-meet (ν ∷ []) κ (PosShare·left q)) $
@@ -85,7 +88,9 @@ module _ {M : Type 1} (𝓤 : URA M) (H : Heap 𝓤) (A : Atoms 𝓤) (W : Given
       at-once ! $ show ! (Lent h) (ν, γ) $ nothing ! $ move ! (2 ∷ 0 ∷ []) $ join ! $ move ! (1 ∷ 0 ∷ []) $ join ! $ frame ! $
       move ! (1 ∷ 2 ∷ 0 ∷ []) $ frame ! $ fjoin ! $ done !))
 
-  pub back : (ν : ℕ) (γ : GName) (h : FieldReader) → ent 𝓤 (sep 𝓤 (Toks ν) (sep 𝓤 (sem 𝓤 H A (Kept ν γ)) (A .res γ (R .coded .code h)))) (H .⇛ (sep 𝓤 (sem 𝓤 H A (Cell h)) (sep 𝓤 (sem 𝓤 H A (Own h)) (A .lft κ q))))
+  pub back : (ν : ℕ) (γ : GName) (h : FieldReader)
+      → ent 𝓤 (sep 𝓤 (Toks ν) (sep 𝓤 (sem 𝓤 H A (Kept ν γ)) (A .res γ (R .coded .code h))))
+      (H .⇛ (sep 𝓤 (sem 𝓤 H A (Cell h)) (sep 𝓤 (sem 𝓤 H A (Own h)) (A .lft κ q))))
   unfolding partOf
   back ν γ h =
       qed W ((‵ (flft (ν ∷ κ) (PosShare·left q)) ⊛ ‵ (flft κ (PosShare·right q)) ⊛ ‵ ftrue) ∷ ‵ (Kept ν γ) ∷ ‵ (fres γ (R .coded .code h)) ∷ []) ∵ updating ! $

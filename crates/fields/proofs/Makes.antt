@@ -18,7 +18,8 @@ use prog.Wp.{Heap}
 use ghost.Atoms.{Atoms, sem}
 use contract.Monad.{Fun, fact}
 use sound.Laws.{∗emp}
-use types.Kit.{Given, ‵, raw, _⊛_, some, later, _$_, _∵_, !, qed, move, drop, use1, split, join, pick, rewrite, check, fjoin, await, updating, now as at-once, done}
+use types.Kit.{Given, ‵, raw, _⊛_, some, later, _$_, _∵_, !, qed, move, drop, use1, split, join, pick, rewrite, check, fjoin, await, updating}
+use types.Kit.{now as at-once, done}
 use denote.RattleType.{RattleType}
 use denote.Laws.{Is, shows}
 use denote.Plain.{uint-makes}
@@ -88,7 +89,9 @@ module _ {M : Type 1} (𝓤 : URA M) (H : Heap 𝓤) (A : Atoms 𝓤) (at-mem : 
     pub comes : (u : Val) → ent 𝓤 (Reader .post to u) (H .⇛ (Came u))
     comes u =
         qed W (raw (Reader .post to u) ∷ []) ∵ updating ! $
-        use1 W (later (some (λ (r : FieldReader). ((‵ (flft κ q) ⊛ ‵ ftrue) ⊛ ‵ (R .own r (u ∷ []))) ⊛ raw (ensured 𝓤 H A reader.ended (reader.clauses 𝓤 H A at-mem run) (κ, tt) (s, (n, tt)) tt r)))) (id⊢ 𝓤 _) $
+        use1 W (later (some
+        (λ (r : FieldReader). ((‵ (flft κ q) ⊛ ‵ ftrue) ⊛ ‵ (R .own r (u ∷ []))) ⊛ raw
+        (ensured 𝓤 H A reader.ended (reader.clauses 𝓤 H A at-mem run) (κ, tt) (s, (n, tt)) tt r)))) (id⊢ 𝓤 _) $
         await ! tt $ pick ! (λ r.
         split ! $ move ! (1 ∷ []) $ use1 W (raw (fact 𝓤 (Made s n r))) (said r) $ heard ! (Made s n r) (λ e. split ! $ split ! $
         move ! (1 ∷ []) $ drop ! $ move ! (1 ∷ []) $

@@ -17,7 +17,8 @@ use prog.Wp.{Heap}
 use ghost.Atoms.{Atoms, sem}
 use contract.Monad.{fact}
 use sound.Laws.{∗emp}
-use types.Kit.{Given, ‵, raw, _⊛_, some, later, _$_, _∵_, !, qed, move, keep, use1, use3, split, split3, join, pick, rewrite, check, fsplit, fjoin, await, updating, now as at-once, show, done}
+use types.Kit.{Given, ‵, raw, _⊛_, some, later, _$_, _∵_, !, qed, move, keep, use1, use3, split, split3, join, pick, rewrite, check, fsplit, fjoin}
+use types.Kit.{await, updating, now as at-once, show, done}
 use denote.RattleType.{RattleType}
 use denote.Laws.{Is}
 use denote.Plain.{uint-makes}
@@ -69,7 +70,16 @@ module _ (X : RattleType) (P : List ℕ → ℕ → ℕ → X .Denot → Type 0)
 
       -- what the triple binds outside, at a loan for the lifetime ν under the name γ
       abbrev pub to : ℕ × GName → Taking .Ghost
-      to p = (((p .0 ∷ κ, (κ, tt)), (PosShare·left q, (PosShare·right q, tt)), (below 𝓤 H A W κ q l (p .0), tt), (ref 𝓤 H A W κ q l (p .1) h, (w, tt)), (vptr l 0 ∷ [], (vint w32 w ∷ [], tt))), tt)
+      to p = (
+        (
+          (p .0 ∷ κ, (κ, tt)),
+          (PosShare·left q, (PosShare·right q, tt)),
+          (below 𝓤 H A W κ q l (p .0), tt),
+          (ref 𝓤 H A W κ q l (p .1) h, (w, tt)),
+          (vptr l 0 ∷ [], (vint w32 w ∷ [], tt)),
+        ),
+        tt,
+      )
 
       abbrev pub Asked : ℕ × GName → SProp 𝓤
       Asked p = sep 𝓤 (Taking .pre (to p)) (sem 𝓤 H A (K p))
@@ -85,15 +95,19 @@ module _ (X : RattleType) (P : List ℕ → ℕ → ℕ → X .Denot → Type 0)
           use1 W (raw (Taking .pre (to p))) (∗emp 𝓤 _) $ at-once ! $ show ! Asked p $ done !)
 
       abbrev pub Came : Val → X .Denot → SProp 𝓤
-      Came u v = guard 𝓤 (P (now (h .frame)) (h .at) w v) (sep 𝓤 (sem 𝓤 H A (X .own v (u ∷ []))) (sep 𝓤 (sem 𝓤 H A (C (past h w))) (sep 𝓤 (sem 𝓤 H A (O (past h w))) (A .lft κ q))))
+      Came u v = guard 𝓤 (P (now (h .frame)) (h .at) w v)
+          (sep 𝓤 (sem 𝓤 H A (X .own v (u ∷ []))) (sep 𝓤 (sem 𝓤 H A (C (past h w))) (sep 𝓤 (sem 𝓤 H A (O (past h w))) (A .lft κ q))))
 
       pub comes : (p : ℕ × GName) (u : Val) → ent 𝓤 (sep 𝓤 (Taking .post (to p) u) (sem 𝓤 H A (K p))) (H .⇛ (ex 𝓤 (Came u)))
       comes p u =
           qed W (raw (Taking .post (to p) u) ∷ ‵ (K p) ∷ []) ∵ updating ! $
-          use1 W (later (some (λ (v : X .Denot). (raw (Toks 𝓤 H A W κ q l (p .0)) ⊛ ‵ (X .own v (u ∷ []))) ⊛ raw (ensured 𝓤 H A ended (clauses 𝓤) (p .0 ∷ κ, (κ, tt)) (ref 𝓤 H A W κ q l (p .1) h, (w, tt)) tt v)))) (id⊢ 𝓤 _) $
+          use1 W (later (some
+          (λ (v : X .Denot). (raw (Toks 𝓤 H A W κ q l (p .0)) ⊛ ‵ (X .own v (u ∷ []))) ⊛ raw
+          (ensured 𝓤 H A ended (clauses 𝓤) (p .0 ∷ κ, (κ, tt)) (ref 𝓤 H A W κ q l (p .1) h, (w, tt)) tt v)))) (id⊢ 𝓤 _) $
           await ! tt $ pick ! (λ v.
           split ! $ move ! (1 ∷ []) $
-          use1 W (some (λ (zs : FieldReader × (Unit {0} × Unit {0})). ‵ (lasts ended (p .0 ∷ κ, (κ, tt)) (ref 𝓤 H A W κ q l (p .1) h, (w, tt)) zs) ⊛ raw (fact 𝓤 (Said h w v (zs .0))))) (id⊢ 𝓤 _) $
+          use1 W (some (λ (zs : FieldReader × (Unit {0} × Unit {0})). ‵ (lasts ended (p .0 ∷ κ, (κ, tt)) (ref 𝓤 H A W κ q l (p .1) h, (w, tt)) zs) ⊛ raw
+          (fact 𝓤 (Said h w v (zs .0))))) (id⊢ 𝓤 _) $
           pick ! (λ zs.
           split ! $ move ! (1 ∷ []) $ heard ! (Said h w v (zs .0)) (λ e. fsplit ! $
           -- [the last value; …; the tokens and the value; what is kept]

@@ -24,7 +24,8 @@ module _ (B : List ℕ) (h : Bits B) where
 
   -- bits that are not refused
   pub check-right : answer (bitRefusals B) ≡ 0 → RightCheck B
-  check-right z = subst (Remainder 16 generator (messageOf B)) (sym (sound B z .checked)) (exists 16 generator (lit≤ tt) generator-degree (messageOf B) message-bits)
+  check-right z = subst (Remainder 16 generator (messageOf B)) (sym (sound B z .checked))
+      (exists 16 generator (lit≤ tt) generator-degree (messageOf B) message-bits)
 
   -- bits that are refused with 7
   pub check-wrong : answer (bitRefusals B) ≡ 7 → RightCheck B → ⊥

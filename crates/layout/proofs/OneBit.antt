@@ -119,11 +119,13 @@ module _ (B : List ℕ) (i : ℕ) (l : length B ≡ 4232) (h : Bits B) (s : Soun
   in-pad k m =
       let j = i - 4227 in
       let e : i ≡ 4227 + j = omega arith in
-      let f : part 4227 5 (flipped B i) ≡ flipped (fieldOf padField B) j = ap (λ (n : ℕ). part 4227 5 (flipped B n)) e ∙ part-flipped B 4227 5 j (omega arith) in
+      let f : part 4227 5 (flipped B i) ≡ flipped (fieldOf padField B) j = ap (λ (n : ℕ). part 4227 5 (flipped B n)) e
+      ∙ part-flipped B 4227 5 j (omega arith) in
       let z : fieldOf padField B ≡ replicate 5 0 = zeros-are B l h 4227 5 (lit≤ tt) (s .clear) in
       let z′ : part 4227 5 (flipped B i) ≡ replicate 5 0 = zeros-are (flipped B i) l′ h′ 4227 5 (lit≤ tt) (s′ .clear) in
       let g : getD (replicate {A = ℕ} 5 0) j 0 ≡ 0 = getD-replicate 5 j zero zero (omega arith) in
-      let one : getD (flipped (replicate 5 0) j) j 0 ≡ 1 = getD-set-same (replicate 5 0) j (1 - getD (replicate 5 0) j 0) 0 (omega arith) ∙ ap (λ (n : ℕ). 1 - n) g in
+      let one : getD (flipped (replicate 5 0) j) j 0 ≡ 1 = getD-set-same (replicate 5 0) j (1 - getD (replicate 5 0) j 0) 0 (omega arith)
+      ∙ ap (λ (n : ℕ). 1 - n) g in
       let no : getD (flipped (replicate 5 0) j) j 0 ≡ 0 = ap (λ (x : List ℕ). getD x j 0) (sym (f ∙ ap (λ (x : List ℕ). flipped x j) z) ∙ z′) ∙ g in
       omega arith
 

@@ -5,7 +5,8 @@ use Prim.Native.Nat.{ℕ, zero, suc, _+_, _≤_, _<_, zero-le}
 use native.Mathlib.Nat.{le-of-suc-le-suc, not-suc-le-zero}
 use native.Mathlib.Omega.{arith}
 use lib.ListN.{getD, take}
-use Rattle.layout.specs.Places.{widths, total, frameLength, placeOf, syncField, coefficientsField, aField, bField, vendorField, reservedField, checkField, padField}
+use Rattle.layout.specs.Places.{widths, total, frameLength, placeOf, syncField, coefficientsField, aField, bField, vendorField, reservedField}
+use Rattle.layout.specs.Places.{checkField, padField}
 
 -- the first bit of each field, counted from 1, the 4,227 bits of a frame without its pad, and its 529 octets
 pub table : (placeOf syncField + 1 ≡ 1) × (placeOf coefficientsField + 1 ≡ 15) × (placeOf aField + 1 ≡ 3975) × (placeOf bField + 1 ≡ 3996)

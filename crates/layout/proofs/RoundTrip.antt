@@ -23,11 +23,13 @@ use Rattle.remainder.specs.Division.{polynomial, checkBits, generator}
 use Rattle.remainder.proofs.Division.{exists}
 use Rattle.remainder.proofs.Errors.{check-value, generator-degree}
 use Rattle.layout.specs.Places.{syncField, coefficientsField, aField, bField, vendorField, reservedField, checkField, padField}
-use Rattle.layout.specs.Frame.{trainingSync, finalSync, coefficientBits, used, message, checkOf, frameBits, trainingBits, finalBits, fieldOf, messageOf, coefficientsOf}
+use Rattle.layout.specs.Frame.{trainingSync, finalSync, coefficientBits, used, message, checkOf, frameBits, trainingBits, finalBits, fieldOf}
+use Rattle.layout.specs.Frame.{messageOf, coefficientsOf}
 use Rattle.ranges.specs.Ranges.{isCoefficient, every}
 use Rattle.ranges.proofs.Laws.{mag-at}
 use Rattle.layout.specs.Refusals.{hasSync, bitRefusals}
-use Rattle.layout.proofs.Laws.{used-length, used-range, message-length, message-bits, frame-length, frame-bits, training-length, final-length, training-bits, final-bits}
+use Rattle.layout.proofs.Laws.{used-length, used-range, message-length, message-bits, frame-length, frame-bits, training-length, final-length}
+use Rattle.layout.proofs.Laws.{training-bits, final-bits}
 use Rattle.layout.proofs.Fields.{sync-field, message-field, check-field, pad-field, coefficients-field, a-field, b-field, vendor-field, reserved-field}
 
 -- ---- a frame with any message has the right check bits and a clear pad
@@ -50,7 +52,8 @@ module _ (word m : List ℕ) (s : length word ≡ 14) (l : length m ≡ 4197) (b
   pad-clear = ap valueOf (pad-field word m s l)
 
   -- what is answered turns on the sync word and the reserved bits alone
-  pub answer-is : (hasSync trainingSync F || hasSync finalSync F) ≡ true → answer (bitRefusals F) ≡ answer (refuse 8 (hasSync trainingSync F && not (eqb (valueOf (fieldOf reservedField F)) 0)) ∷ [])
+  pub answer-is : (hasSync trainingSync F || hasSync finalSync F) ≡ true
+      → answer (bitRefusals F) ≡ answer (refuse 8 (hasSync trainingSync F && not (eqb (valueOf (fieldOf reservedField F)) 0)) ∷ [])
   answer-is k = simp k (simp (eq-eqb _ _ pad-clear, eq-eqb _ _ check-right))
 
 final-other : eqb (valueOf finalSync) (valueOf trainingSync) ≡ false
@@ -209,7 +212,8 @@ module _ (B : List ℕ) (l : length B ≡ 4232) (h : Bits B) where
       ∙ ap (λ (x : List ℕ). take 14 B ++ x)
       (take-add 4197 21 (drop 14 B)
       ∙ ap (λ (x : List ℕ). messageOf B ++ x)
-      (ap (take 21) (lib.Seq.drop-drop 4197 14 B) ∙ take-add 16 5 (drop 4211 B) ∙ ap (λ (x : List ℕ). fieldOf checkField B ++ take 5 x) (lib.Seq.drop-drop 16 4211 B)))
+      (ap (take 21) (lib.Seq.drop-drop 4197 14 B) ∙ take-add 16 5 (drop 4211 B)
+      ∙ ap (λ (x : List ℕ). fieldOf checkField B ++ take 5 x) (lib.Seq.drop-drop 16 4211 B)))
 
   message-parts : messageOf B ≡ fieldOf coefficientsField B ++ (fieldOf aField B ++ (fieldOf bField B ++ (fieldOf vendorField B ++ fieldOf reservedField B)))
   message-parts =
@@ -227,14 +231,16 @@ module _ (B : List ℕ) (l : length B ≡ 4232) (h : Bits B) where
   field-digits at n k = ap (λ (i : ℕ). digitsOf i (valueOf (part at n B))) (sym (field-length at n k)) ∙ digits-value (part at n B) (field-bits at n)
 
   -- the message is that of its own fields
-  pub message-is : messageOf B ≡ message (coefficientsOf B) (valueOf (fieldOf aField B)) (valueOf (fieldOf bField B)) (octetsOf 16 (fieldOf vendorField B)) (fieldOf reservedField B)
+  pub message-is : messageOf B ≡ message (coefficientsOf B) (valueOf (fieldOf aField B)) (valueOf (fieldOf bField B))
+      (octetsOf 16 (fieldOf vendorField B)) (fieldOf reservedField B)
   unfolding message
   message-is =
       message-parts
       ∙ ap₂ _++_ (sym (numbers-again 22 (lit≤ tt) 180 (fieldOf coefficientsField B) (field-length 14 3960 (lit≤ tt)) (field-bits 14 3960)))
       (ap₂ _++_ (sym (field-digits 3974 21 (lit≤ tt)))
       (ap₂ _++_ (sym (field-digits 3995 21 (lit≤ tt)))
-      (ap (λ (x : List ℕ). x ++ fieldOf reservedField B) (sym (bits-octets 16 (fieldOf vendorField B) (field-length 4016 128 (lit≤ tt)) (field-bits 4016 128))))))
+      (ap (λ (x : List ℕ). x ++ fieldOf reservedField B)
+      (sym (bits-octets 16 (fieldOf vendorField B) (field-length 4016 128 (lit≤ tt)) (field-bits 4016 128))))))
 
   -- a field of value 0 is zeros
   pub zeros-are : (at n : ℕ) → at + n ≤ 4232 → valueOf (part at n B) ≡ 0 → part at n B ≡ replicate n 0
@@ -247,12 +253,14 @@ module _ (B : List ℕ) (l : length B ≡ 4232) (h : Bits B) where
   frame-is s =
       let K = fieldOf checkField B in
       let k : K ≡ checkBits 16 (checkOf (messageOf B)) =
-      sym (reverse-reverse K) ∙ ap reverse (sym (digits-value (reverse K) (reverse-bits K (field-bits 4211 16))) ∙ ap₂ digitsOf (length-reverse K ∙ field-length 4211 16 (lit≤ tt)) (s .checked)) in
+      sym (reverse-reverse K) ∙ ap reverse (sym (digits-value (reverse K) (reverse-bits K (field-bits 4211 16))) ∙ ap₂ digitsOf
+      (length-reverse K ∙ field-length 4211 16 (lit≤ tt)) (s .checked)) in
       parts ∙ ap₂ (λ (x y : List ℕ). fieldOf syncField B ++ (messageOf B ++ (x ++ y))) k (zeros-are 4227 5 (lit≤ tt) (s .clear))
 
   -- the sync word of a training frame
   pub training-sync : hasSync trainingSync B ≡ true → fieldOf syncField B ≡ trainingSync
-  training-sync t = value-one (fieldOf syncField B) trainingSync (field-bits 0 14) training-bits (field-length 0 14 (lit≤ tt) ∙ sym training-length) (eqb-true _ _ t)
+  training-sync t = value-one (fieldOf syncField B) trainingSync (field-bits 0 14) training-bits (field-length 0 14 (lit≤ tt) ∙ sym training-length)
+      (eqb-true _ _ t)
 
   pub final-sync : hasSync finalSync B ≡ true → fieldOf syncField B ≡ finalSync
   final-sync t = value-one (fieldOf syncField B) finalSync (field-bits 0 14) final-bits (field-length 0 14 (lit≤ tt) ∙ sym final-length) (eqb-true _ _ t)
@@ -263,7 +271,8 @@ module _ (B : List ℕ) (l : length B ≡ 4232) (h : Bits B) where
   unfolding trainingBits
   training-again s t =
       let cs = coefficientsOf B in
-      let all : used 180 cs ≡ cs = mathlib.Core.List.append-nil (take 180 cs) ∙ take-all 180 cs (omega (arith, numbers-length 22 180 (fieldOf coefficientsField B))) in
+      let all : used 180 cs ≡ cs = mathlib.Core.List.append-nil (take 180 cs)
+      ∙ take-all 180 cs (omega (arith, numbers-length 22 180 (fieldOf coefficientsField B))) in
       frame-is s
       ∙ ap₂ frameBits (training-sync t)
       (message-is

@@ -101,18 +101,22 @@ read-more ds t k t′ r h lo hi e =
     let o = getD ds k 0 in
     let next : take (k + 1) ds ≡ take k ds ++ (o ∷ []) = ap (λ (n : ℕ). take n ds) (add-one k) ∙ take-suc ds k 0 h in
     let d : digitOf o ≡ o - 48 = simp (lt-ltb o 65 (omega arith)) in
-    let v : reading 10 0 (take (k + 1) ds) ≡ reading 10 0 (take k ds) * 10 + (o - 48) = ap (reading 10 0) next ∙ reading-more 10 0 (take k ds) o ∙ ap (λ (x : ℕ). reading 10 0 (take k ds) * 10 + x) d in
+    let v : reading 10 0 (take (k + 1) ds) ≡ reading 10 0 (take k ds) * 10 + (o - 48) = ap (reading 10 0) next ∙ reading-more 10 0 (take k ds) o
+    ∙ ap (λ (x : ℕ). reading 10 0 (take k ds) * 10 + x) d in
     record {
       within = omega arith;
       all = ap digits next ∙ digits-more (take k ds) o ∙ simp (r .all, le-leb 48 o lo, le-leb o 57 hi);
       same = go (leb t 1000000000) refl (r .same) v;
     }
   where
-    go : (b : Bool) → leb t 1000000000 ≡ b → Same t (reading 10 0 (take k ds)) → reading 10 0 (take (k + 1) ds) ≡ reading 10 0 (take k ds) * 10 + (getD ds k 0 - 48) → Same t′ (reading 10 0 (take (k + 1) ds))
+    go : (b : Bool) → leb t 1000000000 ≡ b → Same t (reading 10 0 (take k ds))
+        → reading 10 0 (take (k + 1) ds) ≡ reading 10 0 (take k ds) * 10 + (getD ds k 0 - 48) → Same t′ (reading 10 0 (take (k + 1) ds))
     go true q (inl x) v = let f : t′ ≡ t * 10 + (getD ds k 0 - 48) = e ∙ ap (λ (b : Bool). cond b (t * 10 + (getD ds k 0 - 48)) t) q in inl (omega arith)
     go true q (inr x) v = absurd (omega (arith, leb-true t 1000000000 q, x .0))
-    go false q (inl x) v = let f : t′ ≡ t = e ∙ ap (λ (b : Bool). cond b (t * 10 + (getD ds k 0 - 48)) t) q in inr (omega (arith, leb-false t 1000000000 q), omega (arith, leb-false t 1000000000 q))
-    go false q (inr x) v = let f : t′ ≡ t = e ∙ ap (λ (b : Bool). cond b (t * 10 + (getD ds k 0 - 48)) t) q in inr (omega (arith, leb-false t 1000000000 q), omega (arith, x .1))
+    go false q (inl x) v = let f : t′ ≡ t = e ∙ ap (λ (b : Bool). cond b (t * 10 + (getD ds k 0 - 48)) t) q in
+        inr (omega (arith, leb-false t 1000000000 q), omega (arith, leb-false t 1000000000 q))
+    go false q (inr x) v = let f : t′ ≡ t = e ∙ ap (λ (b : Bool). cond b (t * 10 + (getD ds k 0 - 48)) t) q in
+        inr (omega (arith, leb-false t 1000000000 q), omega (arith, x .1))
 
 -- all of them
 whole : (ds : List ℕ) (t k : ℕ) → Read ds t k → length ds ≤ k → (digits ds ≡ true) × Same t (reading 10 0 ds)

@@ -59,7 +59,12 @@ number-in (suc n) zero (a ∷ b ∷ c ∷ d ∷ os) o h l = ap (λ (zs : List �
 number-in (suc n) (suc k) (a ∷ b ∷ c ∷ d ∷ os) o h l =
     ap (λ (zs : List ℤ). getD zs (suc k) (pos 0)) (first-number a b c d os n (o 0) (o 1) (o 2) (o 3))
     ∙ number-in n k os (λ i. o (suc (suc (suc (suc i))))) (le-of-suc-le-suc h) (omega arith)
-    ∙ rw (behind (4 * suc k) (4 * k) (omega arith), behind (4 * suc k + 1) (4 * k + 1) (omega arith), behind (4 * suc k + 2) (4 * k + 2) (omega arith), behind (4 * suc k + 3) (4 * k + 3) (omega arith)) refl
+    ∙ rw (
+      behind (4 * suc k) (4 * k) (omega arith),
+      behind (4 * suc k + 1) (4 * k + 1) (omega arith),
+      behind (4 * suc k + 2) (4 * k + 2) (omega arith),
+      behind (4 * suc k + 3) (4 * k + 3) (omega arith),
+    ) refl
   where
     behind : (i j : ℕ) → i ≡ suc (suc (suc (suc j))) → getD (a ∷ b ∷ c ∷ d ∷ os) i 0 ≡ getD os j 0
     behind i j e = ap (λ (x : ℕ). getD (a ∷ b ∷ c ∷ d ∷ os) x 0) e
@@ -132,7 +137,8 @@ octets-next zs k h =
 
 -- four stores are a number's octets
 pub four-stores : (os : List ℕ) (at : ℕ) (z : ℤ) → at + 4 ≤ length os
-    → set (set (set (set os at (twosOf 32 z % 256)) (at + 1) (twosOf 32 z / 256 % 256)) (at + 2) (twosOf 32 z / 65536 % 256)) (at + 3) (twosOf 32 z / 16777216 % 256)
+    → set (set (set (set os at (twosOf 32 z % 256)) (at + 1) (twosOf 32 z / 256 % 256)) (at + 2) (twosOf 32 z / 65536 % 256)) (at + 3)
+    (twosOf 32 z / 16777216 % 256)
     ≡ take at os ++ numberOctets (z ∷ []) ++ drop (at + 4) os
 four-stores os at z h =
     let n = twosOf 32 z in

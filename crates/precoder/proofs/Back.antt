@@ -12,7 +12,8 @@ use Rattle.answer.proofs.Laws.{none, given}
 use Rattle.numbers.specs.Promises.{numbersOf, numberOctets}
 use Rattle.ranges.specs.Ranges.{every}
 use Rattle.samples.specs.Samples.{isSignal, pastAfter}
-use Rattle.precoder.specs.Runs.{pastAfterAll, SendsAll, ReceivesAll, TurnsAll, linesOf, lengthsRight, rangesRight, runTests, RunPromise, PrecodesRun, DecodesRun}
+use Rattle.precoder.specs.Runs.{pastAfterAll, SendsAll, ReceivesAll, TurnsAll, linesOf, lengthsRight, rangesRight, runTests, RunPromise}
+use Rattle.precoder.specs.Runs.{PrecodesRun, DecodesRun}
 use Rattle.ranges.proofs.Laws.{both, mag-at}
 use Rattle.precoder.proofs.Recipe.{outputOf, turnedOf, outputsOf, inputsOf}
 use Rattle.precoder.proofs.Signals.{sends-unique, sends-output, receives-input, input-is}
@@ -97,7 +98,8 @@ values-octets zs h = numbers-kept zs (λ i. omega (arith, mag-at 131071 zs i h))
 pub run-done : (coefficients history symbols room : List ℕ) → answer (runTests coefficients history symbols room) ≡ 0
     → (lengthsRight coefficients history symbols room ≡ true) × (rangesRight (numbersOf coefficients) (numbersOf history) (numbersOf symbols) ≡ true)
 run-done coefficients history symbols room e =
-    let first = none 0 (not (lengthsRight coefficients history symbols room)) (refuse 4 (not (rangesRight (numbersOf coefficients) (numbersOf history) (numbersOf symbols))) ∷ []) e in
+    let first = none 0 (not (lengthsRight coefficients history symbols room))
+    (refuse 4 (not (rangesRight (numbersOf coefficients) (numbersOf history) (numbersOf symbols))) ∷ []) e in
     let second = none 3 (not (rangesRight (numbersOf coefficients) (numbersOf history) (numbersOf symbols))) [] (first .1) in
     (not-false _ (first .0), not-false _ (second .0))
 
@@ -105,7 +107,8 @@ run-done coefficients history symbols room e =
 pub run-out : (back : Bool) (coefficients history symbols room : List ℕ) (r : ℕ) (history′ room′ : List ℕ)
     → (p : RunPromise back coefficients history symbols room r history′ room′) → r ≡ 0
     → p .out ≡ turnedOf back (numbersOf coefficients) (numbersOf history) (numbersOf symbols)
-run-out back coefficients history symbols room r history′ room′ p z = turns-are (numbersOf coefficients) back (numbersOf history) (numbersOf symbols) (p .out) (p .turns z)
+run-out back coefficients history symbols room r history′ room′ p z = turns-are (numbersOf coefficients) back (numbersOf history) (numbersOf symbols)
+    (p .out) (p .turns z)
 
 -- what is computed keeps the promise
 pub runs : (back : Bool) (coefficients history symbols room : List ℕ) →
@@ -155,6 +158,7 @@ run-back coefficients history xs ys room r s history′ ys′ history″ room′
       done,
       q .written ∙ given s room (numberOctets (q .out)) done
           ∙ ap numberOctets (in-is ∙ ap (inputsOf c past) values ∙ all-back c past (numbersOf xs) (ran .2)) ∙ octets-kept xs octets (len .2),
-      q .past ∙ given s history (numberOctets (pastAfterAll past (numbersOf ys′))) done ∙ ap (λ (zs : List ℤ). numberOctets (pastAfterAll past zs)) (values ∙ sym out-is)
+      q .past ∙ given s history (numberOctets (pastAfterAll past (numbersOf ys′))) done
+          ∙ ap (λ (zs : List ℤ). numberOctets (pastAfterAll past zs)) (values ∙ sym out-is)
           ∙ sym (p .past ∙ given r history (numberOctets (pastAfterAll past (p .out))) z),
     )

@@ -22,7 +22,19 @@ pub fold-back : (y v x : ℤ) → Folds (y +ℤ v) x → isSignal y ≡ true →
 fold-back y v x f h =
     record {
       d = negℤ (f .d);
-      is = eq-of _ _ (omega (arith, fold-bal (y +ℤ v) x f, add-bal y v, sub-is x v, add-bal (x -ℤ v) (pos 262144 *ℤ negℤ (f .d)), mul-P 262144 (negℤ (f .d)), mul-N 262144 (negℤ (f .d)), neg-P (f .d), neg-N (f .d)));
+      is = eq-of _ _
+          (omega (
+            arith,
+            fold-bal (y +ℤ v) x f,
+            add-bal y v,
+            sub-is x v,
+            add-bal (x -ℤ v) (pos 262144 *ℤ negℤ (f .d)),
+            mul-P 262144 (negℤ (f .d)),
+            mul-N
+                262144 (negℤ (f .d)),
+            neg-P (f .d),
+            neg-N (f .d),
+          ));
       signal = h;
     }
 
@@ -31,7 +43,19 @@ pub fold-forth : (y v x : ℤ) → Folds (x -ℤ v) y → isSignal x ≡ true �
 fold-forth y v x f h =
     record {
       d = negℤ (f .d);
-      is = eq-of _ _ (omega (arith, fold-bal (x -ℤ v) y f, add-bal y v, sub-is x v, add-bal (y +ℤ v) (pos 262144 *ℤ negℤ (f .d)), mul-P 262144 (negℤ (f .d)), mul-N 262144 (negℤ (f .d)), neg-P (f .d), neg-N (f .d)));
+      is = eq-of _ _
+          (omega (
+            arith,
+            fold-bal (x -ℤ v) y f,
+            add-bal y v,
+            sub-is x v,
+            add-bal (y +ℤ v) (pos 262144 *ℤ negℤ (f .d)),
+            mul-P 262144 (negℤ (f .d)),
+            mul-N
+                262144 (negℤ (f .d)),
+            neg-P (f .d),
+            neg-N (f .d),
+          ));
       signal = h;
     }
 
@@ -95,8 +119,32 @@ module _ (s v : ℤ) (h : natAbs s ≤ 49478023249920) (r : Rounds s v) where
   pub v-abs : natAbs v ≤ 377487361
   v-abs =
       abs-of v 377487361
-      (omega (arith, le-to (r .low), lt-to (r .high), abs-is s, sub-is (pos 131072 *ℤ v) (pos 65536), add-bal (pos 131072 *ℤ v) (pos 65536), mul-P 131072 v, mul-N 131072 v, P-pos 65536, N-pos 65536))
-      (omega (arith, le-to (r .low), lt-to (r .high), abs-is s, sub-is (pos 131072 *ℤ v) (pos 65536), add-bal (pos 131072 *ℤ v) (pos 65536), mul-P 131072 v, mul-N 131072 v, P-pos 65536, N-pos 65536))
+      (omega (
+        arith,
+        le-to (r .low),
+        lt-to (r .high),
+        abs-is s,
+        sub-is (pos 131072 *ℤ v) (pos 65536),
+        add-bal (pos 131072 *ℤ v) (pos 65536),
+        mul-P
+            131072 v,
+        mul-N 131072 v,
+        P-pos 65536,
+        N-pos 65536,
+      ))
+      (omega (
+        arith,
+        le-to (r .low),
+        lt-to (r .high),
+        abs-is s,
+        sub-is (pos 131072 *ℤ v) (pos 65536),
+        add-bal (pos 131072 *ℤ v) (pos 65536),
+        mul-P
+            131072 v,
+        mul-N 131072 v,
+        P-pos 65536,
+        N-pos 65536,
+      ))
 
   pub less-v-fits : (x : ℤ) → SFits w32 x → SFits w64 (x -ℤ v)
   less-v-fits x f =

@@ -47,7 +47,8 @@ past-length past (y ∷ ys) h = past-length (pastAfter past y) ys (ap suc (lengt
 -- number i, and the rest
 number-next : (os : List ℕ) (i : ℕ) → 4 * i + 4 ≤ length os → drop i (numbersOf os) ≡ getD (numbersOf os) i (pos 0) ∷ drop (i + 1) (numbersOf os)
 number-next os i h =
-    drop-cons (numbersOf os) i (pos 0) (omega (arith, numbers-many os)) ∙ ap (λ (n : ℕ). getD (numbersOf os) i (pos 0) ∷ drop n (numbersOf os)) (sym (add-one i))
+    drop-cons (numbersOf os) i (pos 0) (omega (arith, numbers-many os))
+    ∙ ap (λ (n : ℕ). getD (numbersOf os) i (pos 0) ∷ drop n (numbersOf os)) (sym (add-one i))
 
 -- nothing is left behind the last
 pub number-end : (os : List ℕ) (i : ℕ) → length os ≤ 4 * i → drop i (numbersOf os) ≡ []
@@ -70,7 +71,8 @@ written-turn room i z rest h =
 -- with nothing left, all is written
 pub written-end : (room : List ℕ) (i : ℕ) (rest : List ℤ) → length room ≤ 4 * i → rest ≡ [] → take (4 * i) room ++ numberOctets rest ≡ room
 written-end room i rest h e =
-    ap (λ (z : List ℤ). take (4 * i) room ++ numberOctets z) e ∙ ap (λ (l : List ℕ). take (4 * i) room ++ l) octets-none ∙ append-nil (take (4 * i) room) ∙ take-all (4 * i) room h
+    ap (λ (z : List ℤ). take (4 * i) room ++ numberOctets z) e ∙ ap (λ (l : List ℕ). take (4 * i) room ++ l) octets-none
+    ∙ append-nil (take (4 * i) room) ∙ take-all (4 * i) room h
 
 module _ (back : Bool) (coefficients past : List ℤ) where
   -- what comes out for what remains

@@ -41,9 +41,9 @@ fn send(x: i32, coefficients: &[i32; TAPS], history: &mut [i32; TAPS]) -> i32
         × (now (history .exit) ≡ pastAfter (now (history .entry)) r) ⌝ }
 {
     let v = samples::rounded(sum(coefficients, history));
-    let y = samples::folded((x as i64) - v);
-    samples::shift(history, y);
-    y
+    let sent = samples::folded((x as i64) - v);
+    samples::shift(history, sent);
+    sent
 }
 
 // One symbol in range, backward: the x that goes out as y, which joins the past.

@@ -53,7 +53,8 @@ mag-range h (negsuc n) l = and-true (leb n h) ∙ le-leb n h l
 
 -- ---- a list
 
-pub every-next : (test : ℤ → Bool) (zs : List ℤ) (i : ℕ) → i < length zs → test (getD zs i (pos 0)) ≡ true → every test (drop i zs) ≡ every test (drop (i + 1) zs)
+pub every-next : (test : ℤ → Bool) (zs : List ℤ) (i : ℕ) → i < length zs → test (getD zs i (pos 0)) ≡ true
+    → every test (drop i zs) ≡ every test (drop (i + 1) zs)
 unfolding every
 every-next test zs i h e = rw (add-one i, drop-cons zs i (pos 0) h, e)
 

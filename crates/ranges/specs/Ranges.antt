@@ -1,4 +1,5 @@
 -- Measures and ranges that the frame and the symbols share (SCOPE, "The activation frame"): of a coefficient, and of A and B.
+-- Of the library: ℤ are the whole numbers, `pos n` is n, `negℤ` turns the sign, and `leZ` and `leb` say whether one is at most the other.
 use mathlib.Core.Bool.{Bool, true, _&&_}
 use mathlib.Core.List.{List, [], _∷_}
 use Prim.Native.Nat.{ℕ}

@@ -14,7 +14,8 @@ use Rattle.layout.specs.Refusals.{bitRefusals, checkRefusals, readRefusals}
 use Rattle.reader.specs.declared.Found.{Found}
 use Rattle.reader.specs.Promises.{foundOf, coefficientsLeft, vendorOctets, Read}
 
-module _ (f : List ℕ) (cs : List ℤ) (v : List ℕ) (lc : length cs ≡ 180) (lv : length v ≡ 16) (r : Found) (cs′ : List ℤ) (v′ : List ℕ) (d : Read f cs v r cs′ v′) where
+module _ (f : List ℕ) (cs : List ℤ) (v : List ℕ) (lc : length cs ≡ 180) (lv : length v ≡ 16) (r : Found) (cs′ : List ℤ) (v′ : List ℕ)
+    (d : Read f cs v r cs′ v′) where
   -- reading answers as checking does
   same : answer (readRefusals f cs v) ≡ answer (checkRefusals f)
   same = simp (eq-eqb (length cs) 180 lc, eq-eqb (length v) 16 lv)

@@ -35,11 +35,17 @@ module _ (f : List ℕ) (at : ℕ) (cs ds : List ℤ) (r : ℕ) (e : at ≡ 14) 
 pub words-read : (f : List ℕ) (at : ℕ) (w : TakenPair) → at ≡ 3974 → PairTaken f at 21 21 w
     → w ≡ record { first = valueOf (fieldOf aField (bitsOf f)); second = valueOf (fieldOf bField (bitsOf f)); next = 4016 }
 words-read f at w e p =
-    p ∙ ap (λ (i : ℕ). record { first = valueOf (part i 21 (bitsOf f)); second = valueOf (part (behindOf i 21) 21 (bitsOf f)); next = behindOf (behindOf i 21) 21 }) e
+    p ∙ ap (λ (i : ℕ). record {
+      first = valueOf (part i 21 (bitsOf f));
+      second = valueOf (part (behindOf i 21) 21 (bitsOf f));
+      next = behindOf
+          (behindOf i 21) 21;
+    }) e
 
 -- ---- vendor data
 
-pub vendor-read : (f v v′ : List ℕ) (at : ℕ) → length f ≡ 529 → length v ≡ 16 → at ≡ 4016 → v′ ≡ laid v 0 (part at 128 (bitsOf f)) → v′ ≡ vendorOctets (bitsOf f)
+pub vendor-read : (f v v′ : List ℕ) (at : ℕ) → length f ≡ 529 → length v ≡ 16 → at ≡ 4016 → v′ ≡ laid v 0 (part at 128 (bitsOf f))
+    → v′ ≡ vendorOctets (bitsOf f)
 vendor-read f v v′ at l lv h e =
     let D = part 4016 128 (bitsOf f) in
     let n : length D ≡ 128 = length-take-le 128 (drop 4016 (bitsOf f)) (omega (arith, length-drop 4016 (bitsOf f), bits-length f)) in
@@ -48,7 +54,8 @@ vendor-read f v v′ at l lv h e =
 -- ---- what reading promises, by cases
 
 -- where the lengths are right, reading refuses what checking does
-pub as-checked : (f : List ℕ) (cs : List ℤ) (v : List ℕ) → length f ≡ 529 → length cs ≡ 180 → length v ≡ 16 → answer (checkRefusals f) ≡ answer (readRefusals f cs v)
+pub as-checked : (f : List ℕ) (cs : List ℤ) (v : List ℕ) → length f ≡ 529 → length cs ≡ 180 → length v ≡ 16
+    → answer (checkRefusals f) ≡ answer (readRefusals f cs v)
 as-checked f cs v l m n = simp (eq-eqb _ _ l, eq-eqb _ _ m, eq-eqb _ _ n)
 
 module _ (f : List ℕ) (cs : List ℤ) (v : List ℕ) where
@@ -82,7 +89,8 @@ module _ (f : List ℕ) (cs : List ℤ) (v : List ℕ) where
         record {
           found =
               ap₂ (λ (x y : ℕ). record { answer = 0; kind = 0; a = x; b = y }) p q
-              ∙ ap (λ (k : Bool). cond k (record { answer = 0; kind = 0; a = valueOf (fieldOf aField B); b = valueOf (fieldOf bField B) }) (record { answer = 0; kind = 1; a = 0; b = 0 })) (sym t)
+              ∙ ap (λ (k : Bool). cond k (record { answer = 0; kind = 0; a = valueOf (fieldOf aField B); b = valueOf (fieldOf bField B) })
+              (record { answer = 0; kind = 1; a = 0; b = 0 })) (sym t)
               ∙ ap (λ (k : ℕ). foundOf k B) (sym z);
           coefficients-left = g ∙ ap (λ (k : Bool). cond k (coefficientsOf B) cs) (sym t) ∙ sym (given A cs (coefficientsLeft B cs) z);
           vendor-left = h ∙ sym (given A v (vendorOctets B) z);
@@ -93,7 +101,8 @@ module _ (f : List ℕ) (cs : List ℤ) (v : List ℕ) where
     final-read v′ t h =
         record {
           found =
-              ap (λ (k : Bool). cond k (record { answer = 0; kind = 0; a = valueOf (fieldOf aField B); b = valueOf (fieldOf bField B) }) (record { answer = 0; kind = 1; a = 0; b = 0 })) (sym t)
+              ap (λ (k : Bool). cond k (record { answer = 0; kind = 0; a = valueOf (fieldOf aField B); b = valueOf (fieldOf bField B) })
+              (record { answer = 0; kind = 1; a = 0; b = 0 })) (sym t)
               ∙ ap (λ (k : ℕ). foundOf k B) (sym z);
           coefficients-left = ap (λ (k : Bool). cond k (coefficientsOf B) cs) (sym t) ∙ sym (given A cs (coefficientsLeft B cs) z);
           vendor-left = h ∙ sym (given A v (vendorOctets B) z);

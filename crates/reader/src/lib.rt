@@ -22,6 +22,18 @@ fn refused(n: u32) -> Found
     }
 }
 
+// What a training frame gives, with the words as they were read: the first bit, a0 or b0, weighs least.
+fn training(a: u32, b: u32) -> Found
+    ensures { λ r. ⌜ r ≡ record { answer = 0; kind = 0; a = a; b = b } ⌝ }
+{
+    Found {
+        answer: answer::DONE,
+        kind: layout::TRAINING,
+        a,
+        b,
+    }
+}
+
 // A frame's kind and vendor data, and of a training frame its coefficients, A and B.
 pub fn read(frame: &[u8], coefficients: &mut [i32], vendor: &mut [u8]) -> Found
     ensures { λ r. ⌜ Read (now (frame .entry)) (now (coefficients .entry)) (now (vendor .entry)) r (now (coefficients .exit)) (now (vendor .exit)) ⌝ }
@@ -44,12 +56,7 @@ pub fn read(frame: &[u8], coefficients: &mut [i32], vendor: &mut [u8]) -> Found
         let at = walk::fill_signed(frame, sync.next, layout::COEFFICIENT_BITS, coefficients);
         let words = walk::pair(frame, at, layout::WORD_BITS, layout::WORD_BITS);
         octets::copy(vendor, 0, frame, words.next, layout::VENDOR_BITS);
-        return Found {
-            answer: answer::DONE,
-            kind: layout::TRAINING,
-            a: words.first,
-            b: words.second,
-        };
+        return training(words.first, words.second);
     }
     octets::copy(vendor, 0, frame, layout::VENDOR_AT, layout::VENDOR_BITS);
     Found {

@@ -1,7 +1,8 @@
 -- y/131,072 as an f32: the cast and the division round nothing, one float has that value, and it tells y. Assumes nothing.
 use Prim.Native.Nat.{ℕ, zero, suc, _+_, _*_, _%_, _^_, _≤_}
 use native.Mathlib.Omega.{arith}
-use native.Mathlib.Nat.{mul-assoc, mul-comm, mul-one, one-mul, zero-mul, suc-mul, mul-left-comm, mul-right-comm, mul-pos, mul-le-mul-right, pow-suc, pow-succ', lt-of-le-of-lt, eq-of-mul-eq-mul-right}
+use native.Mathlib.Nat.{mul-assoc, mul-comm, mul-one, one-mul, zero-mul, suc-mul, mul-left-comm, mul-right-comm, mul-pos, mul-le-mul-right, pow-suc}
+use native.Mathlib.Nat.{pow-succ', lt-of-le-of-lt, eq-of-mul-eq-mul-right}
 use mathlib.Core.Path.{_≡_, refl, sym, ap, ap₂, _∙_, subst}
 use mathlib.Core.Bool.{Bool, true, false, not, _&&_}
 use lib.Dec.{T, leb, ltb, eqb, eqb→eq, lit<, le→leb, lt→ltb}
@@ -55,7 +56,8 @@ div-value (fin t m e) s n h v =
     ap (λ (b : Bool). round binary32 b (m * up e * 1) (131072 * down e)) (same-sign t ∙ v .0)
     ∙ round-same binary32 s (m * up e * 1) (131072 * down e) n 131072 (mul-pos (lit< tt) (down-pos e)) (lit< tt) cross in
     subst (λ (x : Float). HasValue x s n 131072) (sym is)
-    (round-exact binary32 s n 131072 n 132 (lit< tt) (omega arith) (lt-of-le-of-lt (mul-le-mul-right (2 ^ 132) h) (lit< tt)) (sym (mul-assoc n (2 ^ 132) 131072)))
+    (round-exact binary32 s n 131072 n 132 (lit< tt) (omega arith) (lt-of-le-of-lt (mul-le-mul-right (2 ^ 132) h) (lit< tt))
+    (sym (mul-assoc n (2 ^ 132) 131072)))
 
 pub part-value : (y : ℤ) → natAbs y ≤ 131072 → HasValue (div binary32 (ofInt binary32 y) (ofBits binary32 1207959552)) (not (nonNeg y)) (natAbs y) 131072
 part-value y h = rw divisor (div-value (ofInt binary32 y) (not (nonNeg y)) (natAbs y) h (cast-value y h))
@@ -137,7 +139,8 @@ fits-zero s e t = flat e (eqb→eq (up e * down e) 1 t)
 across : (m n a : ℕ) (e g : ℤ) → m * up e * 131072 ≡ a * down e → n * up g * 131072 ≡ a * down g → m * 2 ^ (P e + N g) ≡ n * 2 ^ (P g + N e)
 across m n a e g v w =
     let left : m * up e * down g * 131072 ≡ a * down e * down g = mul-right-comm (m * up e) (down g) 131072 ∙ ap (λ (x : ℕ). x * down g) v in
-    let right : n * up g * down e * 131072 ≡ a * down e * down g = mul-right-comm (n * up g) (down e) 131072 ∙ ap (λ (x : ℕ). x * down e) w ∙ mul-right-comm a (down g) (down e) in
+    let right : n * up g * down e * 131072 ≡ a * down e * down g = mul-right-comm (n * up g) (down e) 131072 ∙ ap (λ (x : ℕ). x * down e) w
+    ∙ mul-right-comm a (down g) (down e) in
     let both : m * up e * down g ≡ n * up g * down e = eq-of-mul-eq-mul-right 131072 (lit< tt) (m * up e * down g) (n * up g * down e) (left ∙ sym right) in
     joined m e g ∙ both ∙ sym (joined n g e)
   where

@@ -150,11 +150,21 @@ mag-of (pos n) b h k = omega arith
 mag-of (negsuc n) b h k = omega arith
 
 -- ---- division as the code has it, cut toward zero, and its remainder, with the dividend's sign
-pub division : (n : ℕ) → 0 < n → (z : ℤ) → (P (quotZ z (pos n)) * n + P (remZ z (pos n)) + N z ≡ P z + N (quotZ z (pos n)) * n + N (remZ z (pos n))) × (P (remZ z (pos n)) < n) × (N (remZ z (pos n)) < n)
+pub division : (n : ℕ) → 0 < n → (z : ℤ) → (P (quotZ z (pos n)) * n + P (remZ z (pos n)) + N z ≡ P z + N (quotZ z (pos n)) * n + N (remZ z (pos n)))
+    × (P (remZ z (pos n)) < n) × (N (remZ z (pos n)) < n)
 unfolding P N
 division n h (pos a) = (omega (arith, NatL.div-add-mod' a n, NatL.zero-mul n), NatL.mod-lt a h, h)
 division n h (negsuc a) = (
-  omega (arith, NatL.div-add-mod' (suc a) n, ap (λ (x : ℕ). x * n) (neg-pos-P (suc a / n)), ap (λ (x : ℕ). x * n) (neg-pos-N (suc a / n)), neg-pos-P (suc a % n), neg-pos-N (suc a % n), NatL.zero-mul n),
+  omega (
+    arith,
+    NatL.div-add-mod' (suc a) n,
+    ap (λ (x : ℕ). x * n) (neg-pos-P (suc a / n)),
+    ap (λ (x : ℕ). x * n) (neg-pos-N (suc a / n)),
+    neg-pos-P
+        (suc a % n),
+    neg-pos-N (suc a % n),
+    NatL.zero-mul n,
+  ),
   omega (arith, neg-pos-P (suc a % n)),
   omega (arith, neg-pos-N (suc a % n), NatL.mod-lt (suc a) h),
 )

@@ -10,7 +10,8 @@ use lib.Signed.{quotZ, remZ, shrZ, leZ, ltZ, _≤ℤ_, _<ℤ_}
 use mir.Syntax.{w32, w64}
 use mir.Val.{SFits}
 use Rattle.samples.specs.Samples.{one, isSignal, Rounds, Folds}
-use Rattle.samples.proofs.Linear.{P, N, P-pos, N-pos, P-negsuc, N-negsuc, le-to, lt-to, le-of, lt-of, eq-of, add-bal, sub-is, neg-P, neg-N, mul-P, mul-N, abs-is, abs-of, P-mag, N-mag, mag-of, division, floor, lt-true, lt-false, le-true, le-false}
+use Rattle.samples.proofs.Linear.{P, N, P-pos, N-pos, P-negsuc, N-negsuc, le-to, lt-to, le-of, lt-of, eq-of, add-bal, sub-is, neg-P, neg-N}
+use Rattle.samples.proofs.Linear.{mul-P, mul-N, abs-is, abs-of, P-mag, N-mag, mag-of, division, floor, lt-true, lt-false, le-true, le-false}
 use Rattle.ranges.proofs.Laws.{range-mag, mag-range}
 
 -- rounding and folding, computed. The rounded number is the floor of s/131,072 + 1/2; the library's `shrZ z n` is the floor of z/n
@@ -55,8 +56,36 @@ module _ (f r : ℤ) (lo : pos 0 ≤ℤ r) (hi : r <ℤ pos 131072) where
       let h = le-true (pos 65536) r e in
       let v = f +ℤ pos 1 in
       record {
-        low = le-of _ _ (omega (arith, facts, h, P-pos 65536, N-pos 65536, add-bal f (pos 1), P-pos 1, N-pos 1, sub-is (pos 131072 *ℤ v) (pos 65536), mul-P 131072 v, mul-N 131072 v));
-        high = lt-of _ _ (omega (arith, facts, h, P-pos 65536, N-pos 65536, add-bal f (pos 1), P-pos 1, N-pos 1, add-bal (pos 131072 *ℤ v) (pos 65536), mul-P 131072 v, mul-N 131072 v));
+        low = le-of _ _
+            (omega (
+              arith,
+              facts,
+              h,
+              P-pos 65536,
+              N-pos 65536,
+              add-bal f (pos 1),
+              P-pos 1,
+              N-pos 1,
+              sub-is (pos 131072 *ℤ v) (pos 65536),
+              mul-P 131072
+                  v,
+              mul-N 131072 v,
+            ));
+        high = lt-of _ _
+            (omega (
+              arith,
+              facts,
+              h,
+              P-pos 65536,
+              N-pos 65536,
+              add-bal f (pos 1),
+              P-pos 1,
+              N-pos 1,
+              add-bal (pos 131072 *ℤ v) (pos 65536),
+              mul-P 131072
+                  v,
+              mul-N 131072 v,
+            ));
       }
 
 -- division cut toward zero, and the floor
@@ -84,7 +113,20 @@ module _ (s : ℤ) where
   floor-corrected =
       let f = cut -ℤ pos 1 in
       let r = rest +ℤ pos 131072 in
-      eq-of _ _ (omega (arith, pieces, add-bal (pos 131072 *ℤ f) r, mul-P 131072 f, mul-N 131072 f, sub-is cut (pos 1), P-pos 1, N-pos 1, add-bal rest (pos 131072), P-pos 131072, N-pos 131072))
+      eq-of _ _ (omega (
+        arith,
+        pieces,
+        add-bal (pos 131072 *ℤ f) r,
+        mul-P 131072 f,
+        mul-N 131072 f,
+        sub-is cut (pos 1),
+        P-pos 1,
+        N-pos 1,
+        add-bal rest
+            (pos 131072),
+        P-pos 131072,
+        N-pos 131072,
+      ))
 
   pub rest-corrected : ltZ rest (pos 0) ≡ true → (pos 0 ≤ℤ (rest +ℤ pos 131072)) × ((rest +ℤ pos 131072) <ℤ pos 131072)
   rest-corrected e =
@@ -98,16 +140,21 @@ module _ (s : ℤ) where
 
   pub rest-more-fits : SFits w64 (rest +ℤ pos 131072)
   rest-more-fits =
-      record { sfits = mag-of (rest +ℤ pos 131072) 9223372036854775808 (omega (arith, pieces, add-bal rest (pos 131072), P-pos 131072, N-pos 131072)) (omega (arith, pieces, add-bal rest (pos 131072), P-pos 131072, N-pos 131072)) }
+      record {
+        sfits = mag-of (rest +ℤ pos 131072) 9223372036854775808 (omega (arith, pieces, add-bal rest (pos 131072), P-pos 131072, N-pos 131072))
+            (omega (arith, pieces, add-bal rest (pos 131072), P-pos 131072, N-pos 131072));
+      }
 
   module _ (f : SFits w64 s) where
     pub cut-abs : natAbs cut < 4611686018427387904
     cut-abs =
-        lt-of-le-of-lt (abs-of cut 70368744177665 (omega (arith, pieces, f .sfits, P-mag s, N-mag s)) (omega (arith, pieces, f .sfits, P-mag s, N-mag s))) (lit< tt)
+        lt-of-le-of-lt (abs-of cut 70368744177665 (omega (arith, pieces, f .sfits, P-mag s, N-mag s))
+        (omega (arith, pieces, f .sfits, P-mag s, N-mag s))) (lit< tt)
 
     pub less-abs : natAbs (cut -ℤ pos 1) < 4611686018427387904
     less-abs =
-        lt-of-le-of-lt (abs-of (cut -ℤ pos 1) 70368744177666 (omega (arith, pieces, f .sfits, P-mag s, N-mag s, sub-is cut (pos 1), P-pos 1, N-pos 1)) (omega (arith, pieces, f .sfits, P-mag s, N-mag s, sub-is cut (pos 1), P-pos 1, N-pos 1))) (lit< tt)
+        lt-of-le-of-lt (abs-of (cut -ℤ pos 1) 70368744177666 (omega (arith, pieces, f .sfits, P-mag s, N-mag s, sub-is cut (pos 1), P-pos 1, N-pos 1))
+        (omega (arith, pieces, f .sfits, P-mag s, N-mag s, sub-is cut (pos 1), P-pos 1, N-pos 1))) (lit< tt)
 
 -- a number below 2^63 in size fits, and so does the one after a number below 2^62
 pub abs-fits : (z : ℤ) → natAbs z < 9223372036854775808 → SFits w64 z
@@ -115,7 +162,10 @@ abs-fits z h = record { sfits = mag-of z 9223372036854775808 (omega (arith, abs-
 
 pub next-fits : (z : ℤ) → natAbs z < 4611686018427387904 → SFits w64 (z +ℤ pos 1)
 next-fits z h =
-    record { sfits = mag-of (z +ℤ pos 1) 9223372036854775808 (omega (arith, abs-is z, add-bal z (pos 1), P-pos 1, N-pos 1)) (omega (arith, abs-is z, add-bal z (pos 1), P-pos 1, N-pos 1)) }
+    record {
+      sfits = mag-of (z +ℤ pos 1) 9223372036854775808 (omega (arith, abs-is z, add-bal z (pos 1), P-pos 1, N-pos 1))
+          (omega (arith, abs-is z, add-bal z (pos 1), P-pos 1, N-pos 1));
+    }
 
 -- one number lies within half a step
 pub rounds-unique : (s v w : ℤ) → Rounds s v → Rounds s w → v ≡ w
@@ -192,11 +242,17 @@ module _ (u : ℤ) where
 
   pub up-fits : SFits w64 (left +ℤ pos 262144)
   up-fits =
-      record { sfits = mag-of (left +ℤ pos 262144) 9223372036854775808 (omega (arith, parts, add-bal left (pos 262144), P-pos 262144, N-pos 262144)) (omega (arith, parts, add-bal left (pos 262144), P-pos 262144, N-pos 262144)) }
+      record {
+        sfits = mag-of (left +ℤ pos 262144) 9223372036854775808 (omega (arith, parts, add-bal left (pos 262144), P-pos 262144, N-pos 262144))
+            (omega (arith, parts, add-bal left (pos 262144), P-pos 262144, N-pos 262144));
+      }
 
   pub down-fits : SFits w64 (left -ℤ pos 262144)
   down-fits =
-      record { sfits = mag-of (left -ℤ pos 262144) 9223372036854775808 (omega (arith, parts, sub-is left (pos 262144), P-pos 262144, N-pos 262144)) (omega (arith, parts, sub-is left (pos 262144), P-pos 262144, N-pos 262144)) }
+      record {
+        sfits = mag-of (left -ℤ pos 262144) 9223372036854775808 (omega (arith, parts, sub-is left (pos 262144), P-pos 262144, N-pos 262144))
+            (omega (arith, parts, sub-is left (pos 262144), P-pos 262144, N-pos 262144));
+      }
 
 -- a signal fits an i32
 pub signal-fits : (z : ℤ) → isSignal z ≡ true → SFits w32 z
@@ -222,7 +278,8 @@ rounds-nearest s =
     let f = floor 131072 (lit< tt) z in
     record {
       low = le-of _ _ (omega (arith, sub-is (pos 131072 *ℤ q) (pos 65536), mul-P 131072 q, mul-N 131072 q, f, add-bal s (pos 65536), P-pos 65536, N-pos 65536));
-      high = lt-of _ _ (omega (arith, add-bal (pos 131072 *ℤ q) (pos 65536), mul-P 131072 q, mul-N 131072 q, f, add-bal s (pos 65536), P-pos 65536, N-pos 65536));
+      high = lt-of _ _
+          (omega (arith, add-bal (pos 131072 *ℤ q) (pos 65536), mul-P 131072 q, mul-N 131072 q, f, add-bal s (pos 65536), P-pos 65536, N-pos 65536));
     }
 
 pub folds-fold : (u : ℤ) → Folds u (foldOf u)

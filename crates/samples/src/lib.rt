@@ -32,6 +32,9 @@ const HIGH: i64 = STEPS - 1;
 
 const WIDTH: i64 = 2 * STEPS;
 
+// And as a float.
+const AS_FLOAT: f32 = ONE as f32;
+
 // What the shaper is handed, with the answer first.
 pub struct Shaped {
     pub answer: u32,
@@ -113,6 +116,6 @@ pub fn shaper(y: i32) -> Shaped
     }
     Shaped {
         answer: answer::DONE,
-        value: (y as f32) / 131_072.0,
+        value: (y as f32) / AS_FLOAT,
     }
 }

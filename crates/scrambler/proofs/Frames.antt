@@ -56,7 +56,8 @@ module _ (x : Scrambler) (frame : List ℕ) (l : length frame ≡ 529) (o : Octe
       let n : length P ≡ 5 = length-take-le 5 (drop 4227 B) (omega (arith, length-drop 4227 B, B-length)) in
       let z : P ≡ Z = value-one P Z (take-bits 5 (drop 4227 B) (drop-bits 4227 B (bits-bits frame))) (zeros-bits 5) n (p ∙ sym (zeros-value 5)) in
       sym (take-all 4232 B (omega (arith, B-length))) ∙ take-add 14 4218 B
-      ∙ ap (λ (t : List ℕ). S ++ t) (take-add 4213 5 (drop 14 B) ∙ ap (λ (t : List ℕ). clocked frame ++ take 5 t) (drop-drop 4213 14 B) ∙ ap (λ (t : List ℕ). clocked frame ++ t) z)
+      ∙ ap (λ (t : List ℕ). S ++ t) (take-add 4213 5 (drop 14 B) ∙ ap (λ (t : List ℕ). clocked frame ++ take 5 t) (drop-drop 4213 14 B) ∙ ap
+      (λ (t : List ℕ). clocked frame ++ t) z)
 
   -- what was sent, as bits
   pub sent : bitsOf (frameOut scramble x frame) ≡ S ++ (R ++ Z)

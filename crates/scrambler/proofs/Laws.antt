@@ -81,7 +81,8 @@ module _ (x : Scrambler) (input : List ℕ) (bits : ℕ) (output : List ℕ) whe
       let four = none 3 _ (drop 4 R) (two .1) in
       (ltb-false _ _ (one .0), leb-false _ _ (four .0))
 
-  pub run-refused : (way : Way) (n : ℕ) → n ≡ answer (runRefusals x input bits output) → (n ≡ 0 → ⊥) → RunPromise way x input bits output (record { answer = n; next = x }) output
+  pub run-refused : (way : Way) (n : ℕ) → n ≡ answer (runRefusals x input bits output) → (n ≡ 0 → ⊥)
+      → RunPromise way x input bits output (record { answer = n; next = x }) output
   run-refused way n e z =
       record {
         answered = e;
@@ -91,10 +92,12 @@ module _ (x : Scrambler) (input : List ℕ) (bits : ℕ) (output : List ℕ) whe
 
   -- a run on the line, from the first bit on
   pub run-taken : (way : Way) (tap : ℕ) (r : Ran) (s : List ℕ) → tap ≡ tapOf (x .end) → OnLine.RunPromise way tap (x .state) input 0 bits output r s
-      → answer (runRefusals x input bits output) ≡ 0 → RunPromise way x input bits output (record { answer = r .answer; next = record { end = x .end; state = r .state } }) s
+      → answer (runRefusals x input bits output) ≡ 0
+      → RunPromise way x input bits output (record { answer = r .answer; next = record { end = x .end; state = r .state } }) s
   run-taken way tap r s e p z =
       let w = run-sound z in
-      let q : OnLine.RunPromise way (tapOf (x .end)) (x .state) input 0 bits output r s = subst (λ (n : ℕ). OnLine.RunPromise way n (x .state) input 0 bits output r s) e p in
+      let q : OnLine.RunPromise way (tapOf (x .end)) (x .state) input 0 bits output r s = subst
+      (λ (n : ℕ). OnLine.RunPromise way n (x .state) input 0 bits output r s) e p in
       let c = run-complete (tapOf (x .end)) (x .state) input 0 bits (tap-range (x .end) .0) (tap-range (x .end) .1) (w .1) (omega (arith, w .0)) in
       let g = run-given (tapOf (x .end)) (x .state) input 0 bits way output r s q c in
       record {
@@ -115,7 +118,8 @@ module _ (x : Scrambler) (frame output : List ℕ) where
       let four = none 3 (leb (2 ^ 23) (x .state)) (drop 4 R) (two .1) in
       (eqb-true _ _ (not-false _ (one .0)), eqb-true _ _ (not-false _ (same .0)), leb-false _ _ (four .0))
 
-  pub frame-refused : (way : Way) (n : ℕ) → n ≡ answer (frameRefusals x frame output) → (n ≡ 0 → ⊥) → FramePromise way x frame output (record { answer = n; next = x }) output
+  pub frame-refused : (way : Way) (n : ℕ) → n ≡ answer (frameRefusals x frame output) → (n ≡ 0 → ⊥)
+      → FramePromise way x frame output (record { answer = n; next = x }) output
   frame-refused way n e z =
       record {
         answered = e;
@@ -125,7 +129,8 @@ module _ (x : Scrambler) (frame output : List ℕ) where
 
   -- sync, the run behind it, the pad
   frame-done : (way : Way) (s₁ s₂ s₃ : List ℕ) → length frame ≡ 529 → length output ≡ 529
-      → s₁ ≡ laid output 0 (part 0 14 (bitsOf frame)) → s₂ ≡ laid s₁ 14 (runOf way (tapOf (x .end)) (x .state) (clocked frame)) → s₃ ≡ laid s₂ 4227 (replicate 5 0)
+      → s₁ ≡ laid output 0 (part 0 14 (bitsOf frame)) → s₂ ≡ laid s₁ 14 (runOf way (tapOf (x .end)) (x .state) (clocked frame))
+      → s₃ ≡ laid s₂ 4227 (replicate 5 0)
       → s₃ ≡ frameOut way x frame
   frame-done way s₁ s₂ s₃ lf lo e₁ e₂ e₃ =
       let B = bitsOf frame in
@@ -148,7 +153,8 @@ module _ (x : Scrambler) (frame output : List ℕ) where
       → FramePromise way x frame output (record { answer = r .answer; next = record { end = x .end; state = r .state } }) s₃
   frame-taken way tap r s₁ s₂ s₃ e e₁ p e₃ z =
       let w = frame-sound z in
-      let q : OnLine.RunPromise way (tapOf (x .end)) (x .state) frame 14 4213 s₁ r s₂ = subst (λ (n : ℕ). OnLine.RunPromise way n (x .state) frame 14 4213 s₁ r s₂) e p in
+      let q : OnLine.RunPromise way (tapOf (x .end)) (x .state) frame 14 4213 s₁ r s₂ = subst
+      (λ (n : ℕ). OnLine.RunPromise way n (x .state) frame 14 4213 s₁ r s₂) e p in
       let c = run-complete (tapOf (x .end)) (x .state) frame 14 4213 (tap-range (x .end) .0) (tap-range (x .end) .1) (w .2) (omega (arith, w .0)) in
       let g = run-given (tapOf (x .end)) (x .state) frame 14 4213 way s₁ r s₂ q c in
       record {

@@ -14,7 +14,8 @@ use Rattle.symbol.specs.declared.Encoder.{Encoder}
 use Rattle.symbol.specs.declared.Step.{Step}
 use Rattle.symbol.specs.declared.Run.{Run}
 use Rattle.symbol.specs.Encoder.{x1, codeOf, codesOf, sentAfter, registerOf, heldIn, encoderIn, symbolsIn, withRegister, startOf, Stepped, Ran}
-use Rattle.symbol.proofs.Sent.{Agree, agree-kept, held-sent, sent-bits, code-agree, register-agree, codes-joined, sent-joined, codes-from-register, register-from-register}
+use Rattle.symbol.proofs.Sent.{Agree, agree-kept, held-sent, sent-bits, code-agree, register-agree, codes-joined, sent-joined}
+use Rattle.symbol.proofs.Sent.{codes-from-register, register-from-register}
 
 -- what a run that answered 0 has shown and written
 pub record Done (e : Encoder) (symbols codes : List ℕ) (r : Run) (codes′ : List ℕ) : Type 0 where
@@ -26,7 +27,8 @@ pub record Done (e : Encoder) (symbols codes : List ℕ) (r : Run) (codes′ : L
 
 pub done : (e : Encoder) (symbols codes : List ℕ) (r : Run) (codes′ : List ℕ) → Ran e symbols codes r codes′ → r .answer ≡ 0 → Done e symbols codes r codes′
 done e symbols codes r codes′ p z =
-    let first = none 0 (not (eqb (length codes) (length symbols))) (refuse 4 (not (encoderIn e)) ∷ refuse 4 (not (symbolsIn symbols)) ∷ []) (sym (p .answered) ∙ z) in
+    let first = none 0 (not (eqb (length codes) (length symbols))) (refuse 4 (not (encoderIn e)) ∷ refuse 4 (not (symbolsIn symbols)) ∷ [])
+    (sym (p .answered) ∙ z) in
     let second = none 3 (not (encoderIn e)) (refuse 4 (not (symbolsIn symbols)) ∷ []) (first .1) in
     let third = none 3 (not (symbolsIn symbols)) [] (second .1) in
     record {
@@ -53,7 +55,8 @@ joined e first second codes more r s codes′ more′ p rz q sz =
     let g = done (r .next) second more s more′ q sz in
     let earlier = heldIn (e .register) in
     let bits = sent-bits earlier first (digits-bits 20 (e .register)) in
-    let h : Done (withRegister e (registerOf (sentAfter earlier first))) second more s more′ = subst (λ (x : Encoder). Done x second more s more′) (f .next) g in
+    let h : Done (withRegister e (registerOf (sentAfter earlier first))) second more s more′ = subst (λ (x : Encoder). Done x second more s more′)
+    (f .next) g in
     let lengths : length (codes ++ more) ≡ length (first ++ second) =
     length-append codes more ∙ ap₂ (λ (m n : ℕ). m + n) (f .lengths) (h .lengths) ∙ sym (length-append first second) in
     let written : codes′ ++ more′ ≡ codesOf (e .a) (e .b) earlier (first ++ second) =
@@ -62,7 +65,8 @@ joined e first second codes more r s codes′ more′ p rz q sz =
     let next : s .next ≡ withRegister e (registerOf (sentAfter earlier (first ++ second))) =
     h .next ∙ ap (withRegister e) (register-from-register (sentAfter earlier first) second bits ∙ ap registerOf (sym (sent-joined earlier first second))) in
     record {
-      answered = sz ∙ sym (rw (eq-eqb (length (codes ++ more)) (length (first ++ second)) lengths, f .in-range, symbols-joined first second (f .symbols-in) (h .symbols-in)));
+      answered = sz ∙ sym
+          (rw (eq-eqb (length (codes ++ more)) (length (first ++ second)) lengths, f .in-range, symbols-joined first second (f .symbols-in) (h .symbols-in)));
       written = written ∙ sym (given (s .answer) (codes ++ more) (codesOf (e .a) (e .b) earlier (first ++ second)) sz);
       next = next ∙ sym (given (s .answer) e (withRegister e (registerOf (sentAfter earlier (first ++ second)))) sz);
     }
@@ -74,7 +78,8 @@ step-is e sent symbol r bits h p z =
     let agree : Agree 20 (heldIn (e .register)) sent = rw h (held-sent sent bits) in (
       p .code ∙ given (r .answer) 0 (codeOf (e .a) (e .b) (heldIn (e .register)) symbol) z ∙ code-agree (e .a) (e .b) (heldIn (e .register)) sent symbol agree,
       p .next ∙ given (r .answer) e (withRegister e (registerOf (x1 symbol ∷ heldIn (e .register)))) z
-          ∙ ap (withRegister e) (register-agree (x1 symbol ∷ heldIn (e .register)) (x1 symbol ∷ sent) (agree-kept 20 (x1 symbol) (heldIn (e .register)) sent agree)),
+          ∙ ap (withRegister e) (register-agree (x1 symbol ∷ heldIn (e .register)) (x1 symbol ∷ sent)
+          (agree-kept 20 (x1 symbol) (heldIn (e .register)) sent agree)),
     )
 
 -- and so is a run, for any number of symbols

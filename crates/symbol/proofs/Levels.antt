@@ -92,13 +92,33 @@ unfolding placeIn
 place-below (pos n) e = let z : _≡_ {A = Bool} false true = e in cc
 place-below (negsuc n) e =
     let h = ltb-true 14 n e in
-    simp (ne-eqb 14 n (λ e. omega arith), ne-eqb 12 n (λ e. omega arith), ne-eqb 10 n (λ e. omega arith), ne-eqb 8 n (λ e. omega arith), ne-eqb 6 n (λ e. omega arith), ne-eqb 4 n (λ e. omega arith), ne-eqb 2 n (λ e. omega arith), ne-eqb 0 n (λ e. omega arith))
+    simp (
+      ne-eqb 14 n (λ e. omega arith),
+      ne-eqb 12 n (λ e. omega arith),
+      ne-eqb 10 n (λ e. omega arith),
+      ne-eqb 8 n (λ e. omega arith),
+      ne-eqb 6 n
+          (λ e. omega arith),
+      ne-eqb 4 n (λ e. omega arith),
+      ne-eqb 2 n (λ e. omega arith),
+      ne-eqb 0 n (λ e. omega arith),
+    )
 
 pub place-over : (z : ℤ) → ltZ (pos 15) z ≡ true → placeIn dataLevels z ≡ 16
 unfolding placeIn
 place-over (pos n) e =
     let h = ltb-true 15 n e in
-    simp (ne-eqb 9 n (λ e. omega arith), ne-eqb 11 n (λ e. omega arith), ne-eqb 13 n (λ e. omega arith), ne-eqb 15 n (λ e. omega arith), ne-eqb 1 n (λ e. omega arith), ne-eqb 3 n (λ e. omega arith), ne-eqb 5 n (λ e. omega arith), ne-eqb 7 n (λ e. omega arith))
+    simp (
+      ne-eqb 9 n (λ e. omega arith),
+      ne-eqb 11 n (λ e. omega arith),
+      ne-eqb 13 n (λ e. omega arith),
+      ne-eqb 15 n (λ e. omega arith),
+      ne-eqb 1 n
+          (λ e. omega arith),
+      ne-eqb 3 n (λ e. omega arith),
+      ne-eqb 5 n (λ e. omega arith),
+      ne-eqb 7 n (λ e. omega arith),
+    )
 place-over (negsuc n) e = let z : _≡_ {A = Bool} false true = e in cc
 
 -- how far a whole number from -15 to 15 lies above -15

@@ -82,7 +82,13 @@ module _ (a b : ℕ) (symbols : List ℕ) (register i : ℕ) (hi : i < length sy
       ≡ take i codes ++ codesOf a b earlier (drop i symbols)
   unfolding codesOf
   codes-turn codes hc =
-      rw (add-one i, drop-cons symbols i 0 hi, take-suc-set codes i (codeOf a b earlier symbol) hc, codes-from-register a b (x1 symbol ∷ earlier) (drop (suc i) symbols) (next-bits symbols register i))
+      rw (
+        add-one i,
+        drop-cons symbols i 0 hi,
+        take-suc-set codes i (codeOf a b earlier symbol) hc,
+        codes-from-register a b (x1 symbol ∷ earlier)
+            (drop (suc i) symbols) (next-bits symbols register i),
+      )
       (append-snoc (take i codes) (codeOf a b earlier symbol) (codesOf a b (x1 symbol ∷ earlier) (drop (suc i) symbols)))
 
   -- and so is the register at the end

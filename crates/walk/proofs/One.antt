@@ -14,5 +14,6 @@ single-one s at w r r′ p q = both p q
 pub pair-one : (s : List ℕ) (at v w : ℕ) (r r′ : TakenPair) → PairTaken s at v w r → PairTaken s at v w r′ → r ≡ r′
 pair-one s at v w r r′ p q = both p q
 
-pub fill-signed-one : (s : List ℕ) (at w : ℕ) (into t t′ : List ℤ) (r r′ : ℕ) → SignedFilled s at w into t r → SignedFilled s at w into t′ r′ → (t ≡ t′) × (r ≡ r′)
+pub fill-signed-one : (s : List ℕ) (at w : ℕ) (into t t′ : List ℤ) (r r′ : ℕ) → SignedFilled s at w into t r → SignedFilled s at w into t′ r′
+    → (t ≡ t′) × (r ≡ r′)
 fill-signed-one s at w into t t′ r r′ p q = (both (p .0) (q .0), both (p .1) (q .1))

@@ -17,7 +17,8 @@ use Rattle.remainder.specs.Promises.{CheckBits}
 use Rattle.remainder.proofs.Division.{computed}
 use Rattle.remainder.proofs.Errors.{generator-degree}
 use Rattle.layout.specs.Frame.{trainingSync, finalSync, coefficientBits, used, message, checkOf, frameBits, trainingBits, finalBits}
-use Rattle.layout.proofs.Laws.{used-length, tail-length, tail-bits, check-put, check-length, check-bits, training-digits, final-digits, training-length, final-length, training-bits, final-bits}
+use Rattle.layout.proofs.Laws.{used-length, tail-length, tail-bits, check-put, check-length, check-bits, training-digits, final-digits}
+use Rattle.layout.proofs.Laws.{training-length, final-length, training-bits, final-bits}
 
 -- ---- the coefficients in use
 
@@ -161,4 +162,5 @@ module _ (f v : List ℕ) (lf : length f ≡ 529) (s₁ s₂ t : List ℕ) where
   unfolding finalBits message
   final-put cs e₁ e₂ e =
       let U = used 0 cs in
-      put f v finalSync (coefficientBits U) 0 0 lf final-length (number-length 22 U) final-bits (number-bits 22 U) s₁ s₂ t (e₁ ∙ ap (laid f 0) final-digits) e₂ e
+      put f v finalSync (coefficientBits U) 0 0 lf final-length (number-length 22 U) final-bits (number-bits 22 U) s₁ s₂ t
+      (e₁ ∙ ap (laid f 0) final-digits) e₂ e

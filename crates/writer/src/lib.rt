@@ -4,8 +4,8 @@ ghost use mathlib.Core.List.{_++_};
 ghost use Prim.Native.Nat.{_<_, _≤_};
 ghost use lib.IntN.{pos};
 ghost use lib.ListN.{length, getD, replicate};
-ghost use Rattle.octets.specs.Bits.{bitsOf, octetsOf, laid};
-ghost use Rattle.ranges.specs.Ranges.{coefficientCount};
+ghost use Rattle.octets.specs.Bits.{digitsOf, bitsOf, octetsOf, laid};
+ghost use Rattle.ranges.specs.Ranges.{coefficientCount, wordWidth};
 ghost use Rattle.layout.specs.Places.{reservedWidth, vendorLength, frameLength, placeOf, syncField, coefficientsField};
 ghost use Rattle.layout.specs.Frame.{coefficientBits, used, behind, frameBits, trainingBits, finalBits, fieldOf};
 ghost use Rattle.writer.specs.Promises.{Written};
@@ -36,6 +36,13 @@ fn put_coefficients(frame: &mut [u8], coefficients: &[i32], count: usize)
     }
 }
 
+// A or B: its first bit, a0 or b0, stands first and weighs least.
+fn put_word(frame: &mut [u8], at: usize, word: u32)
+    ensures { λ r. ⌜ now (frame .exit) ≡ laid (now (frame .entry)) at (digitsOf wordWidth word) ⌝ }
+{
+    bitfields::put_field(frame, at, layout::WORD_BITS, word);
+}
+
 // Behind sync and coefficients, which stand already: A, B, vendor data, reserved, check bits, pad.
 fn finish(frame: &mut [u8], a: u32, b: u32, vendor: &[u8])
     requires { ⌜ (length (now frame) ≡ frameLength) × (length (now vendor) ≡ vendorLength) ⌝ }
@@ -43,8 +50,8 @@ fn finish(frame: &mut [u8], a: u32, b: u32, vendor: &[u8])
         (frameBits (fieldOf syncField (bitsOf (now (frame .entry))))
         (fieldOf coefficientsField (bitsOf (now (frame .entry))) ++ behind a b (now (vendor .entry)) (replicate reservedWidth 0))) ⌝ }
 {
-    bitfields::put_field(frame, layout::A_AT, layout::WORD_BITS, a);
-    bitfields::put_field(frame, layout::B_AT, layout::WORD_BITS, b);
+    put_word(frame, layout::A_AT, a);
+    put_word(frame, layout::B_AT, b);
     octets::copy(frame, layout::VENDOR_AT, vendor, 0, layout::VENDOR_BITS);
     octets::clear(frame, layout::RESERVED_AT, layout::RESERVED_BITS);
     let r = remainder::check_bits(frame, layout::COEFFICIENTS_AT, layout::MESSAGE_BITS);
@@ -55,7 +62,8 @@ fn finish(frame: &mut [u8], a: u32, b: u32, vendor: &[u8])
 
 // A training frame.
 fn put_training(frame: &mut [u8], coefficients: &[i32], count: usize, a: u32, b: u32, vendor: &[u8])
-    requires { ⌜ (length (now frame) ≡ frameLength) × (length (now coefficients) ≡ coefficientCount) × (count ≤ coefficientCount) × (length (now vendor) ≡ vendorLength) ⌝ }
+    requires { ⌜ (length (now frame) ≡ frameLength) × (length (now coefficients) ≡ coefficientCount) × (count ≤ coefficientCount)
+        × (length (now vendor) ≡ vendorLength) ⌝ }
     ensures { λ r. ⌜ now (frame .exit) ≡ octetsOf frameLength (trainingBits count (now (coefficients .entry)) a b (now (vendor .entry))) ⌝ }
 {
     bitfields::put_field(frame, 0, layout::SYNC_BITS, layout::TRAINING_SYNC);

@@ -36,8 +36,11 @@ loop-less c = omega arith
 loop-again : tie.Need-loop-again Inv-loop μ-loop
 loop-again c =
     let os = c .before .before .before .before .before .before .before .before .before .args .octets .now in
-    let l = c .before .before .before .before .before .before .loop in
-    (omega arith, put-as (put-more (hexes (take (l .k) os)) (hex (getD os (l .k) 0)) (l .inv .1) (c .before .before .put-hex .ensures)) (hexes-next os (l .k) (c .before .before .before .before .before .loop-test .taken)))
+    let l = c .before .before .before .before .before .before .loop in (
+      omega arith,
+      put-as (put-more (hexes (take (l .k) os)) (hex (getD os (l .k) 0)) (l .inv .1) (c .before .before .put-hex .ensures))
+          (hexes-next os (l .k) (c .before .before .before .before .before .loop-test .taken)),
+    )
 
 same-length : tie.Need-same-length Inv-loop μ-loop
 same-length c = put-length (hexes (take (c .before .loop .k) (c .before .before .before .before .args .octets .now))) (c .before .loop .inv .1)

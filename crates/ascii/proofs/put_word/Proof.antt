@@ -35,8 +35,11 @@ loop-less c = omega arith
 loop-again : tie.Need-loop-again Inv-loop μ-loop
 loop-again c =
     let w = c .before .before .before .before .before .before .before .before .before .args .word .now in
-    let l = c .before .before .before .before .before .before .loop in
-    (omega arith, put-as (put-more (take (l .k) w) (_ ∷ []) (l .inv .1) (c .before .before .put .ensures)) (word-next w (l .k) (c .before .before .before .before .before .loop-test .taken)))
+    let l = c .before .before .before .before .before .before .loop in (
+      omega arith,
+      put-as (put-more (take (l .k) w) (_ ∷ []) (l .inv .1) (c .before .before .put .ensures))
+          (word-next w (l .k) (c .before .before .before .before .before .loop-test .taken)),
+    )
 
 same-length : tie.Need-same-length Inv-loop μ-loop
 same-length c = put-length (take (c .before .loop .k) (c .before .before .before .before .args .word .now)) (c .before .loop .inv .1)

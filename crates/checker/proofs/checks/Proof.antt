@@ -14,7 +14,8 @@ returns : tie.Need-returns
 returns c =
     let a = c .before .before .before .args in
     let r = c .before .check-bits in
-    checks-is (a .frame .now) (r .result) (a .c) (c .turned .result) (c .before .before .before .pre .0) (r .ensures) (c .before .before .before .pre .1) (c .turned .ensures)
+    checks-is (a .frame .now) (r .result) (a .c) (c .turned .result) (c .before .before .before .pre .0) (r .ensures)
+    (c .before .before .before .pre .1) (c .turned .ensures)
 
 pub checks-spec : {M : Type 1} → statement M
 checks-spec = tie.close (tie.spec check-bits-requires turned-requires returns)

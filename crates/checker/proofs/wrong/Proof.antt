@@ -28,10 +28,16 @@ returns-2 c =
     let s = c .before .before .before .before .before .single in
     let k = c .before .before .before .before .known in
     let e = c .before .before .pair in
-    simp (known-is f (s .result) (s .ensures) (k .result) (k .ensures) ∙ not-false _ (c .before .before .before .if1 .left), pad-not f (e .result) (e .ensures) (c .if2 .taken))
+    simp (
+      known-is f (s .result) (s .ensures) (k .result) (k .ensures)
+          ∙ not-false _ (c .before .before .before .if1 .left),
+      pad-not f (e .result) (e .ensures) (c .if2 .taken),
+    )
 
 checks-requires : tie.Need-checks-requires
-checks-requires c κs = (c .before .before .before .before .before .before .before .pre, check-is (c .before .before .before .before .before .before .before .args .frame .now) (c .before .before .pair .result) (c .before .before .pair .ensures))
+checks-requires c κs =
+    let a = c .before .before .before .before .before .before .before in
+    (a .pre, check-is (a .args .frame .now) (c .before .before .pair .result) (c .before .before .pair .ensures))
 
 returns-3 : tie.Need-returns-3
 returns-3 c =
@@ -39,7 +45,13 @@ returns-3 c =
     let s = c .before .before .before .before .before .before .before .single in
     let k = c .before .before .before .before .before .before .known in
     let e = c .before .before .before .before .pair in
-    simp (known-is f (s .result) (s .ensures) (k .result) (k .ensures) ∙ not-false _ (c .before .before .before .before .before .if1 .left), pad-is f (e .result) (e .ensures) (c .before .before .if2 .left), sym (c .before .checks .ensures) ∙ not-true _ (c .if3 .taken))
+    simp (
+      known-is f (s .result) (s .ensures) (k .result) (k .ensures)
+          ∙ not-false _ (c .before .before .before .before .before .if1 .left),
+      pad-is f (e .result) (e .ensures) (c .before .before .if2 .left),
+      sym
+          (c .before .checks .ensures) ∙ not-true _ (c .if3 .taken),
+    )
 
 is-clear-requires : tie.Need-is-clear-requires
 is-clear-requires c κs = search needs
@@ -50,8 +62,17 @@ returns-4 c =
     let s = c .before .before .before .before .before .before .before .before .before .before .single in
     let k = c .before .before .before .before .before .before .before .before .before .known in
     let e = c .before .before .before .before .before .before .before .pair in
-    simp (known-is f (s .result) (s .ensures) (k .result) (k .ensures) ∙ not-false _ (c .before .before .before .before .before .before .before .before .if1 .left))
-    (simp (pad-is f (e .result) (e .ensures) (c .before .before .before .before .before .if2 .left), sym (c .before .before .before .before .checks .ensures) ∙ not-false _ (c .before .before .before .if3 .left), training-is f (s .result) (s .ensures) (c .before .before .if4 .taken), sym (c .before .is-clear .ensures) ∙ not-true _ (c .if5 .taken)))
+    simp (known-is f (s .result) (s .ensures) (k .result) (k .ensures)
+    ∙ not-false _ (c .before .before .before .before .before .before .before .before .if1 .left))
+    (simp (
+      pad-is f (e .result) (e .ensures) (c .before .before .before .before .before .if2 .left),
+      sym
+          (c .before .before .before .before .checks .ensures)
+          ∙ not-false _ (c .before .before .before .if3 .left),
+      training-is f (s .result) (s .ensures) (c .before .before .if4 .taken),
+      sym
+          (c .before .is-clear .ensures) ∙ not-true _ (c .if5 .taken),
+    ))
 
 returns-5 : tie.Need-returns-5
 returns-5 c =
@@ -59,8 +80,17 @@ returns-5 c =
     let s = c .before .before .before .before .before .before .before .before .before .before .single in
     let k = c .before .before .before .before .before .before .before .before .before .known in
     let e = c .before .before .before .before .before .before .before .pair in
-    simp (known-is f (s .result) (s .ensures) (k .result) (k .ensures) ∙ not-false _ (c .before .before .before .before .before .before .before .before .if1 .left))
-    (simp (pad-is f (e .result) (e .ensures) (c .before .before .before .before .before .if2 .left), sym (c .before .before .before .before .checks .ensures) ∙ not-false _ (c .before .before .before .if3 .left), training-is f (s .result) (s .ensures) (c .before .before .if4 .taken), sym (c .before .is-clear .ensures) ∙ not-false _ (c .if5 .left)))
+    simp (known-is f (s .result) (s .ensures) (k .result) (k .ensures)
+    ∙ not-false _ (c .before .before .before .before .before .before .before .before .if1 .left))
+    (simp (
+      pad-is f (e .result) (e .ensures) (c .before .before .before .before .before .if2 .left),
+      sym
+          (c .before .before .before .before .checks .ensures)
+          ∙ not-false _ (c .before .before .before .if3 .left),
+      training-is f (s .result) (s .ensures) (c .before .before .if4 .taken),
+      sym
+          (c .before .is-clear .ensures) ∙ not-false _ (c .if5 .left),
+    ))
 
 returns-6 : tie.Need-returns-6
 returns-6 c =
@@ -69,7 +99,12 @@ returns-6 c =
     let k = c .before .before .before .before .before .before .before .known in
     let e = c .before .before .before .before .before .pair in
     simp (known-is f (s .result) (s .ensures) (k .result) (k .ensures) ∙ not-false _ (c .before .before .before .before .before .before .if1 .left))
-    (simp (pad-is f (e .result) (e .ensures) (c .before .before .before .if2 .left), sym (c .before .before .checks .ensures) ∙ not-false _ (c .before .if3 .left), training-not f (s .result) (s .ensures) (c .if4 .left)))
+    (simp (
+      pad-is f (e .result) (e .ensures) (c .before .before .before .if2 .left),
+      sym (c .before .before .checks .ensures)
+          ∙ not-false _ (c .before .if3 .left),
+      training-not f (s .result) (s .ensures) (c .if4 .left),
+    ))
 
 pub wrong-spec : {M : Type 1} → statement M
 wrong-spec =

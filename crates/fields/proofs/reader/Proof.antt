@@ -72,7 +72,8 @@ module _ {M : Type 1} (𝓤 : URA M) (H : Heap 𝓤) (A : Atoms 𝓤) (W : Given
   exits : ent 𝓤 (onEntry 𝓤 H A reader.signature (κ, tt) (q, tt) a at) (Post (T′.lowered made))
   exits =
       qed W ((‵ (flft κ q) ⊛ ‵ ftrue) ∷ ‵ (owns (ShrSlice (named 0) κ u8 ∷ usize ∷ []) a at) ∷ []) ∵
-      suffices ! _ (ends-at 𝓤 H A reader.ended stayed (reader.clauses 𝓤 H A mem run) W (((κ, tt), (q, tt), tt, a, at), tt) (T′.lowered made) made (tt, (tt, tt)) (tt, (tt, tt))) $
+      suffices ! _ (ends-at 𝓤 H A reader.ended stayed (reader.clauses 𝓤 H A mem run) W (((κ, tt), (q, tt), tt, a, at), tt) (T′.lowered made) made
+      (tt, (tt, tt)) (tt, (tt, tt))) $
       says ! refl $
       frame ! $ fsplit ! $ use1 W (‵ Own ⊛ ‵ Own) (shr-slice-copy 𝓤 H A W (named 0) κ u8 .twice s (v ∷ [])) $ split ! $
       move ! (0 ∷ 2 ∷ []) $ fjoin ! $ frame ! $
@@ -81,25 +82,31 @@ module _ {M : Type 1} (𝓤 : URA M) (H : Heap 𝓤) (A : Atoms 𝓤) (W : Given
       by ! (own-shut 𝓤 H A W (T.the-type α) (T′.the-laws α) (s, (n, tt)))
 
   module _ (C : Calls 𝓤 H) (Λ : Loops 𝓤 H) where
-    walk : Is (ShrSlice (named 0) κ u8) s (v ∷ []) → ent 𝓤 (onEntry 𝓤 H A reader.signature (κ, tt) (q, tt) a at) (WpFn 𝓤 H C Λ code.function (v ∷ vint w64 n ∷ []) Post)
+    walk : Is (ShrSlice (named 0) κ u8) s (v ∷ [])
+        → ent 𝓤 (onEntry 𝓤 H A reader.signature (κ, tt) (q, tt) a at) (WpFn 𝓤 H C Λ code.function (v ∷ vint w64 n ∷ []) Post)
     walk p =
         qed W (raw (onEntry 𝓤 H A reader.signature (κ, tt) (q, tt) a at) ∷ []) ∵ enter ! C Λ code.function (v ∷ vint w64 n ∷ []) _ $
         alloc1 ! (λ l₀. alloc1 ! (λ l₁. alloc1 ! (λ l₂. alloc0 ! $ params1 ! $
         pass1 ! (init ! 2 refl (shr-slice-lawful 𝓤 H A W (named 0) κ u8 .typed s (v ∷ []) p .0)) $
         pass1 ! (init ! 0 refl (tt, record { fits = fits })) $ pass0 ! $
         -- [_2; …; _1; …; room for _0; …; the token, and what the parameters own]
-        assigns ! (agg ! (and-then ! (load ! (from ! (stop !)) (look ! 2 refl)) (and-then ! (load ! (from ! (stop !)) (look ! 0 refl)) (no-more !)))) (from ! (stop !)) (init ! 4 refl (tt, (shr-slice-lawful 𝓤 H A W (named 0) κ u8 .typed s (v ∷ []) p .0 .1, (record { fits = fits }, tt)))) $
+        assigns ! (agg ! (and-then ! (load ! (from ! (stop !)) (look ! 2 refl)) (and-then ! (load ! (from ! (stop !)) (look ! 0 refl)) (no-more !))))
+        (from ! (stop !)) (init ! 4 refl (tt, (shr-slice-lawful 𝓤 H A W (named 0) κ u8 .typed s (v ∷ []) p .0 .1, (record { fits = fits }, tt)))) $
         returns ! (look ! 4 refl) $ forget ! 0 refl $ forget ! 2 refl $ forget ! 4 refl $ move ! (4 ∷ 5 ∷ []) $ free1 ! $
         move ! (2 ∷ 3 ∷ []) $ free1 ! $ free1 ! $ free0 ! $ by ! exits)))
 
 module _ {M : Type 1} (𝓤 : URA M) (H : Heap 𝓤) (A : Atoms 𝓤) (W : Given 𝓤 H A) (mem : Memory → SProp 𝓤) (run : Routine → Fun 𝓤) where
   reader-walks : (C : Calls 𝓤 H) (Λ : Loops 𝓤 H) → Walks 𝓤 H A reader.ended stayed (WpFn 𝓤 H C Λ code.function) (reader.clauses 𝓤 H A mem run)
-  reader-walks C Λ = walked 𝓤 H A reader.ended stayed (reader.clauses 𝓤 H A mem run) (WpFn 𝓤 H C Λ code.function) (λ κs. (slice-vals, (uint-vals w64, tt))) (λ κs. (shr-slice-tells (named 0) (κs .0) u8, (uint-tells w64, tt)))
+  reader-walks C Λ = walked 𝓤 H A reader.ended stayed (reader.clauses 𝓤 H A mem run) (WpFn 𝓤 H C Λ code.function)
+      (λ κs. (slice-vals, (uint-vals w64, tt))) (λ κs. (shr-slice-tells (named 0) (κs .0) u8, (uint-tells w64, tt)))
       (λ κs qs bounds a g are. via 𝓤 _ (fst∗ 𝓤 _ (emp 𝓤)) (walk 𝓤 H A W mem run (κs .0) (qs .0) (a .0) (a .1 .0) (are .1 .0 .1) C Λ (are .0)))
 
 reader-meets : {M : Type 1} (𝓤 : URA M) (H : Heap 𝓤) (A : Atoms 𝓤) → Given 𝓤 H A → (mem : Memory → SProp 𝓤) (run : Routine → Fun 𝓤) (𝓣 : Tables 𝓤 H)
     → Meets 𝓤 H A reader.signature (WpFn 𝓤 H (𝓣 .C) (𝓣 .Λ) code.function) (reader.spec 𝓤 H A mem run)
-reader-meets 𝓤 H A W mem run 𝓣 = walk-meets 𝓤 H A reader.ended stayed W (goes-none-slice 𝓤 H A W 1 (0 ∷ []) tt (plain (λ _. u8)) yes, (goes-none 𝓤 H A W 1 (λ _. usize) yes (λ κs x f. refl), tt)) (reader.clauses 𝓤 H A mem run) (WpFn 𝓤 H (𝓣 .C) (𝓣 .Λ) code.function) (WpFn-mono 𝓤 H (W .laws) 𝓣 code.function) (reader-walks 𝓤 H A W mem run (𝓣 .C) (𝓣 .Λ))
+reader-meets 𝓤 H A W mem run 𝓣 = walk-meets 𝓤 H A reader.ended stayed W
+    (goes-none-slice 𝓤 H A W 1 (0 ∷ []) tt (plain (λ _. u8)) yes, (goes-none 𝓤 H A W 1 (λ _. usize) yes (λ κs x f. refl), tt))
+    (reader.clauses 𝓤 H A mem run) (WpFn 𝓤 H (𝓣 .C) (𝓣 .Λ) code.function) (WpFn-mono 𝓤 H (W .laws) 𝓣 code.function)
+    (reader-walks 𝓤 H A W mem run (𝓣 .C) (𝓣 .Λ))
 
 pub reader-spec : {M : Type 1} → stated.statement M
 unfolding code.routine tablesOf

@@ -86,7 +86,8 @@ returns-2 c =
     let p = c .before .before .before .before .before .wide2 in
     let q = c .before .before .before .wide3 in
     let r = c .before .wide4 in
-    let e : o .result + p .result * 256 + (q .result * 65536 + r .result * 16777216) ≡ getD os at 0 + 256 * getD os (at + 1) 0 + 65536 * getD os (at + 2) 0 + 16777216 * getD os (at + 3) 0 =
+    let e : o .result + p .result * 256 + (q .result * 65536 + r .result * 16777216)
+    ≡ getD os at 0 + 256 * getD os (at + 1) 0 + 65536 * getD os (at + 2) 0 + 16777216 * getD os (at + 3) 0 =
     omega (arith, o .ensures .0, p .ensures .0, q .ensures .0, r .ensures .0) in
     toZ-ofZ (record { sfits = c .to-signed .ok }) ∙ c .to-signed .ensures ∙ ap (signedOf 32) e ∙ sym (number-at os (a .k) (λ i. omega (arith, known i)) room)
 

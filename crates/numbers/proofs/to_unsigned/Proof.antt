@@ -31,15 +31,21 @@ sub-result-2 : tie.Need-sub-result-2
 sub-result-2 c = rw (toZ-ofZ (c .before .fits .z), far c, toZ-ofZ (fits c)) (omega (arith, c .before .fits .z .sfits))
 
 cast-result-2 : tie.Need-cast-result-2
-cast-result-2 c = rw (toZ-ofZ (c .before .fits .z), from-zero (c .before .args .z) (c .before .fits .z) (rw (toZ-ofZ (c .before .fits .z)) at (c .if1 .left)) .0) (tt, record { fits = omega (arith, c .before .fits .z .sfits) })
+cast-result-2 c = rw (
+  toZ-ofZ (c .before .fits .z),
+  from-zero (c .before .args .z) (c .before .fits .z)
+      (rw (toZ-ofZ (c .before .fits .z)) at (c .if1 .left)) .0,
+) (tt, record { fits = omega (arith, c .before .fits .z .sfits) })
 
 returns : tie.Need-returns
-returns c = rw (toZ-ofZ (c .before .fits .z), far c, toZ-ofZ (fits c)) (below-zero (v c) (c .before .fits .z) (rw (toZ-ofZ (c .before .fits .z)) at (c .if1 .taken)) .1)
+returns c = rw (toZ-ofZ (c .before .fits .z), far c, toZ-ofZ (fits c))
+    (below-zero (v c) (c .before .fits .z) (rw (toZ-ofZ (c .before .fits .z)) at (c .if1 .taken)) .1)
 
 returns-2 : tie.Need-returns-2
 returns-2 c =
     rw (toZ-ofZ (c .before .fits .z))
-    (ap natAbs (from-zero (c .before .args .z) (c .before .fits .z) (rw (toZ-ofZ (c .before .fits .z)) at (c .if1 .left)) .0) ∙ from-zero (c .before .args .z) (c .before .fits .z) (rw (toZ-ofZ (c .before .fits .z)) at (c .if1 .left)) .1)
+    (ap natAbs (from-zero (c .before .args .z) (c .before .fits .z) (rw (toZ-ofZ (c .before .fits .z)) at (c .if1 .left)) .0)
+    ∙ from-zero (c .before .args .z) (c .before .fits .z) (rw (toZ-ofZ (c .before .fits .z)) at (c .if1 .left)) .1)
 
 pub to-unsigned-spec : {M : Type 1} → statement M
 to-unsigned-spec =

@@ -55,7 +55,8 @@ module _ (c : tie.After-in-range Inv-loop μ-loop) where
       ∙ ap (λ (t : Bool). t && every isSignal (drop (at + 1) (numbersOf os))) (sym tested)
 
 returns : tie.Need-returns Inv-loop μ-loop
-returns c = sym (split (c .before) ∙ ap (λ (t : Bool). t && every isSignal (drop (at (c .before) + 1) (numbersOf (os (c .before))))) (not-true (c .before .in-range .result) (c .if1 .taken)))
+returns c = sym (split (c .before) ∙ ap (λ (t : Bool). t && every isSignal (drop (at (c .before) + 1) (numbersOf (os (c .before)))))
+    (not-true (c .before .in-range .result) (c .if1 .taken)))
 
 add-i : tie.Need-add-i Inv-loop μ-loop
 add-i c = omega arith
@@ -64,8 +65,12 @@ loop-less : tie.Need-loop-less Inv-loop μ-loop
 loop-less c = omega arith
 
 loop-again : tie.Need-loop-again Inv-loop μ-loop
-loop-again c =
-    (omega (arith, room (c .before)), split (c .before) ∙ ap (λ (t : Bool). t && every isSignal (drop (at (c .before) + 1) (numbersOf (os (c .before))))) (not-false (c .before .in-range .result) (c .if1 .left)))
+loop-again c = (
+  omega (arith, room (c .before)),
+  split (c .before)
+      ∙ ap (λ (t : Bool). t && every isSignal (drop (at (c .before) + 1) (numbersOf (os (c .before)))))
+      (not-false (c .before .in-range .result) (c .if1 .left)),
+)
 
 returns-2 : tie.Need-returns-2 Inv-loop μ-loop
 unfolding every

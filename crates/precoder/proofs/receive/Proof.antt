@@ -21,7 +21,8 @@ module _ (c : tie.After-sum) where
   s-read = toZ-ofZ (record { sfits = c .sum .ok }) ∙ c .sum .ensures
 
   s-small : natAbs s ≤ 49478023249920
-  s-small = sum-abs (c .before .before .args .coefficients .now) (c .before .before .args .history .now) (c .before .before .pre .1) (c .before .before .pre .2) 180
+  s-small = sum-abs (c .before .before .args .coefficients .now) (c .before .before .args .history .now) (c .before .before .pre .1)
+      (c .before .before .pre .2) 180
 
 module _ (c : tie.After-rounded) where
   rounds : Rounds (s (c .before)) (c .rounded .result)
@@ -34,7 +35,8 @@ module _ (c : tie.After-rounded) where
   wide = toZ-ofZ (wide-fits _ (c .before .before .before .fits .y))
 
   u-fits : SFits w64 (c .before .before .before .args .y +ℤ c .rounded .result)
-  u-fits = plus-v-fits (s (c .before)) (c .rounded .result) (s-small (c .before)) rounds (c .before .before .before .args .y) (c .before .before .before .fits .y)
+  u-fits = plus-v-fits (s (c .before)) (c .rounded .result) (s-small (c .before)) rounds (c .before .before .before .args .y)
+      (c .before .before .before .fits .y)
 
 sum-requires : tie.Need-sum-requires
 sum-requires c κs = search needs

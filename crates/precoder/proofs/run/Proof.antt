@@ -37,17 +37,22 @@ module _ (c : tie.Else1) where
 -- what was read: the numbers of coefficients and history
 module _ (c : tie.After-ranges-right) where
   taps-are : c .before .before .before .before .before .numbers .result ≡ numbersOf (coefficients (c .before .before .before .before .before .before))
-  taps-are = c .before .before .before .before .before .numbers .ensures ∙ numbers-whole (coefficients (c .before .before .before .before .before .before)) (lengths (c .before .before .before .before .before .before) .0)
+  taps-are = c .before .before .before .before .before .numbers .ensures
+      ∙ numbers-whole (coefficients (c .before .before .before .before .before .before)) (lengths (c .before .before .before .before .before .before) .0)
 
   past-is : c .before .before .before .numbers2 .result ≡ numbersOf (history (c .before .before .before .before .before .before))
-  past-is = c .before .before .before .numbers2 .ensures ∙ numbers-whole (history (c .before .before .before .before .before .before)) (lengths (c .before .before .before .before .before .before) .1)
+  past-is = c .before .before .before .numbers2 .ensures
+      ∙ numbers-whole (history (c .before .before .before .before .before .before)) (lengths (c .before .before .before .before .before .before) .1)
 
 -- what the check of the ranges has shown
 module _ (c : tie.Else2) where
-  in-range : rangesRight (c .before .before .before .before .before .before .numbers .result) (c .before .before .before .before .numbers2 .result) (numbersOf (symbols (c .before .before .before .before .before .before .before))) ≡ true
+  in-range : rangesRight (c .before .before .before .before .before .before .numbers .result) (c .before .before .before .before .numbers2 .result)
+      (numbersOf (symbols (c .before .before .before .before .before .before .before))) ≡ true
   in-range = sym (c .before .ranges-right .ensures) ∙ not-false _ (c .if2 .left)
 
-  values-in-range : rangesRight (numbersOf (coefficients (c .before .before .before .before .before .before .before))) (numbersOf (history (c .before .before .before .before .before .before .before))) (numbersOf (symbols (c .before .before .before .before .before .before .before))) ≡ true
+  values-in-range : rangesRight (numbersOf (coefficients (c .before .before .before .before .before .before .before)))
+      (numbersOf (history (c .before .before .before .before .before .before .before)))
+      (numbersOf (symbols (c .before .before .before .before .before .before .before))) ≡ true
   values-in-range = rw (taps-are (c .before), past-is (c .before)) at in-range
 
 lengths-right-requires : tie.Need-lengths-right-requires
@@ -98,13 +103,19 @@ returns-2 c =
     }
 
 turn-all-requires : tie.Need-turn-all-requires
-turn-all-requires c κs = let e = c .before .before .before in (in-range e, lengths (e .before .before .before .before .before .before .before) .2, lengths (e .before .before .before .before .before .before .before) .3)
+turn-all-requires c κs = let e = c .before .before .before in (
+  in-range e,
+  lengths (e .before .before .before .before .before .before .before) .2,
+  lengths
+      (e .before .before .before .before .before .before .before) .3,
+)
 
 slice-aggregate-put-numbers : tie.Need-slice-aggregate-put-numbers
 slice-aggregate-put-numbers c =
     let d = c .before .before .before .before .before .before .before .before .before in
     let e = d .before .before .before .before .before .before in
-    sym (ap length (c .before .before .before .before .turn-all .ensures .past-is) ∙ past-length _ _ (ap length (past-is d) ∙ numbers-many (history e) ∙ ap (λ (n : ℕ). n / 4) (lengths e .1)))
+    sym (ap length (c .before .before .before .before .turn-all .ensures .past-is)
+    ∙ past-length _ _ (ap length (past-is d) ∙ numbers-many (history e) ∙ ap (λ (n : ℕ). n / 4) (lengths e .1)))
 
 put-numbers-requires : tie.Need-put-numbers-requires
 put-numbers-requires c κs = search needs

@@ -21,7 +21,8 @@ module _ (c : tie.After-sum) where
   s-read = toZ-ofZ (record { sfits = c .sum .ok }) ∙ c .sum .ensures
 
   s-small : natAbs s ≤ 49478023249920
-  s-small = sum-abs (c .before .before .args .coefficients .now) (c .before .before .args .history .now) (c .before .before .pre .0) (c .before .before .pre .1) 180
+  s-small = sum-abs (c .before .before .args .coefficients .now) (c .before .before .args .history .now) (c .before .before .pre .0)
+      (c .before .before .pre .1) 180
 
 module _ (c : tie.After-rounded) where
   rounds : Rounds (s (c .before)) (c .rounded .result)
@@ -34,7 +35,8 @@ module _ (c : tie.After-rounded) where
   wide = toZ-ofZ (wide-fits _ (c .before .before .before .fits .x))
 
   u-fits : SFits w64 (c .before .before .before .args .x -ℤ c .rounded .result)
-  u-fits = less-v-fits (s (c .before)) (c .rounded .result) (s-small (c .before)) rounds (c .before .before .before .args .x) (c .before .before .before .fits .x)
+  u-fits = less-v-fits (s (c .before)) (c .rounded .result) (s-small (c .before)) rounds (c .before .before .before .args .x)
+      (c .before .before .before .fits .x)
 
 sum-requires : tie.Need-sum-requires
 sum-requires c κs = search needs
@@ -61,7 +63,12 @@ returns c =
     let fits : SFits w32 (f .result) = record { sfits = f .ok } in
     let y : toZ w32 (ofZ w32 (f .result)) ≡ f .result = toZ-ofZ fits in
     rw y (
-      record { v = b .rounded .result; rounds = rounds b; folds = rw (toZ-ofZ (b .before .before .before .fits .x), wide b, v-read b, toZ-ofZ (u-fits b)) at (f .ensures) },
+      record {
+        v = b .rounded .result;
+        rounds = rounds b;
+        folds =
+            rw (toZ-ofZ (b .before .before .before .fits .x), wide b, v-read b, toZ-ofZ (u-fits b)) at (f .ensures);
+      },
       rw y at (c .shift .ensures),
     )
 

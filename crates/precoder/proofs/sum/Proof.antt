@@ -64,7 +64,8 @@ module _ (c : tie.After-product Inv-loop μ-loop) where
       toZ-ofZ (record { sfits = c .product .ok }) ∙ c .product .ensures ∙ ap₂ (λ (a b : ℤ). a *ℤ b) (toZ-ofZ f) (toZ-ofZ g)
 
   so-far : toZ w64 (c .before .before .before .before .loop .s) ≡ exactSum at cs ys
-  so-far = ap (toZ w64) (c .before .before .before .before .loop .inv .1) ∙ toZ-ofZ (sum-fits cs ys (pre .0) (pre .1) at (c .before .before .before .before .loop .inv .0))
+  so-far = ap (toZ w64) (c .before .before .before .before .loop .inv .1)
+      ∙ toZ-ofZ (sum-fits cs ys (pre .0) (pre .1) at (c .before .before .before .before .loop .inv .0))
 
   more : SFits w64 (exactSum at cs ys +ℤ getD cs at (pos 0) *ℤ getD ys at (pos 0))
   unfolding exactSum

@@ -86,7 +86,8 @@ module _ (c : tie.After-number Inv-loop μ-loop) where
   -- it and those after it are in range
   symbols-in : (isSignal symbol ≡ true) × (every isSignal (drop (at + 1) (numbersOf symbols)) ≡ true)
   symbols-in =
-      both (isSignal symbol) (every isSignal (drop (at + 1) (numbersOf symbols))) (sym (remains isSignal symbols at four-more) ∙ c .before .before .loop .inv .5)
+      both (isSignal symbol) (every isSignal (drop (at + 1) (numbersOf symbols)))
+      (sym (remains isSignal symbols at four-more) ∙ c .before .before .loop .inv .5)
 
 turn-requires : tie.Need-turn-requires Inv-loop μ-loop
 turn-requires c κs = let w = c .before in (rw (read w) (symbols-in w .0), in-range w, w .before .before .loop .inv .2)

@@ -13,12 +13,14 @@ returns c =
 returns-2 : tie.Need-returns-2
 returns-2 c =
     let a = c .before .before .args in let f = c .before .before .fits in
-    sym (above-out (a .low) (a .high) (a .z) (rw (toZ-ofZ (f .z), toZ-ofZ (f .low)) at (c .before .if1 .left)) (rw (toZ-ofZ (f .z), toZ-ofZ (f .high)) at (c .if2 .taken)))
+    sym (above-out (a .low) (a .high) (a .z) (rw (toZ-ofZ (f .z), toZ-ofZ (f .low)) at (c .before .if1 .left))
+    (rw (toZ-ofZ (f .z), toZ-ofZ (f .high)) at (c .if2 .taken)))
 
 returns-3 : tie.Need-returns-3
 returns-3 c =
     let a = c .before .before .args in let f = c .before .before .fits in
-    sym (inside (a .low) (a .high) (a .z) (rw (toZ-ofZ (f .z), toZ-ofZ (f .low)) at (c .before .if1 .left)) (rw (toZ-ofZ (f .z), toZ-ofZ (f .high)) at (c .if2 .left)))
+    sym (inside (a .low) (a .high) (a .z) (rw (toZ-ofZ (f .z), toZ-ofZ (f .low)) at (c .before .if1 .left))
+    (rw (toZ-ofZ (f .z), toZ-ofZ (f .high)) at (c .if2 .left)))
 
 pub in-range-spec : {M : Type 1} → statement M
 in-range-spec = tie.close (tie.spec returns returns-2 returns-3)

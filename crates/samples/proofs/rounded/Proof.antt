@@ -46,7 +46,14 @@ returns c =
     let f : SFits w64 (c .halves-up .result) = record { sfits = c .halves-up .ok } in
     rw (toZ-ofZ f)
     (subst (λ (z : ℤ). Rounds z (c .halves-up .result)) (floor-corrected (s b))
-    (rw (toZ-ofZ (b .fits .s), toZ-ofZ (cut-fits b), toZ-ofZ (less-fits b), toZ-ofZ (rest-fits (s b)), toZ-ofZ (rest-more-fits (s b))) at (c .halves-up .ensures)))
+    (rw (
+      toZ-ofZ (b .fits .s),
+      toZ-ofZ (cut-fits b),
+      toZ-ofZ (less-fits b),
+      toZ-ofZ (rest-fits (s b)),
+      toZ-ofZ
+          (rest-more-fits (s b)),
+    ) at (c .halves-up .ensures)))
 
 halves-up-requires-2 : tie.Need-halves-up-requires-2
 halves-up-requires-2 c κs =

@@ -50,7 +50,8 @@ loop-again c =
     let size = c .before .before .before .whole .ensures in
     let moves = c .before .loop-test .taken in
     let e : toZ w32 (ofZ w32 (getD (l .history) (l .k - 1) (pos 0))) ≡ getD old (l .k - 1) (pos 0) =
-    toZ-ofZ (record { sfits = c .history .given }) ∙ ap (λ (h : List ℤ). getD h (l .k - 1) (pos 0)) (l .inv .1) ∙ moved-read old size (l .k) moves (l .inv .0) in
+    toZ-ofZ (record { sfits = c .history .given }) ∙ ap (λ (h : List ℤ). getD h (l .k - 1) (pos 0)) (l .inv .1)
+    ∙ moved-read old size (l .k) moves (l .inv .0) in
     (omega arith, rw e (ap (λ (h : List ℤ). set h (l .k) (getD old (l .k - 1) (pos 0))) (l .inv .1) ∙ moved-more old size (l .k) moves (l .inv .0)))
 
 element-set-from-y : tie.Need-element-set-from-y Inv-loop μ-loop

@@ -8,7 +8,8 @@ use mir.Syntax.{w32}
 use mir.Val.{SFits, toZ, ofZ}
 use mir.Facts.{toZ-ofZ}
 use Rattle.symbol.specs.Levels.{dataLevels, placeIn}
-use Rattle.symbol.proofs.Levels.{rank, rank-low, rank-middle, rank-high, place-below, place-over, place-odd, place-even, Above, above, code-given, code-refused}
+use Rattle.symbol.proofs.Levels.{rank, rank-low, rank-middle, rank-high, place-below, place-over, place-odd, place-even, Above, above}
+use Rattle.symbol.proofs.Levels.{code-given, code-refused}
 use Rattle.symbol.proofs.level_code.Statement.{statement}
 use Rattle.symbol.proofs.level_code.Tie as tie
 

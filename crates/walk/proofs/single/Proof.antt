@@ -1,4 +1,5 @@
--- `walk::single` meets its contract: a walk of its MIR, by hand. A reader is made in a local (`Makes.antt`), lent to `take`, and comes back behind the field (`Takes.antt`).
+-- `walk::single` meets its contract: a walk of its MIR, by hand. A reader is made in a local (`Makes.antt`), lent to `take`, and comes back behind
+-- the field (`Takes.antt`).
 -- Of the two callees the proof knows that they meet their contracts.
 -- Assumes nothing.
 use mathlib.Core.Path.{_≡_, refl, ap, subst}
@@ -17,9 +18,11 @@ use prog.Wp.{Heap, Calls, Loops, WpFn, Tables}
 use ghost.Atoms.{Atoms}
 use contract.Monad.{Fun}
 use contract.Running.{givenOf, tables, tablesOf}
-use types.Kit.{Given, Item, ‵, raw, _⊛_, given, ⋆, some, later, _$_, _∵_, !, qed, by, move, keep, drop, use1, use2, use3, split, split3, join, learn, pick, rewrite, fsplit, fjoin, suffices, frame, await}
+use types.Kit.{Given, Item, ‵, raw, _⊛_, given, ⋆, some, later, _$_, _∵_, !, qed, by, move, keep, drop, use1, use2, use3, split, split3, join, learn}
+use types.Kit.{pick, rewrite, fsplit, fjoin, suffices, frame, await}
 use types.Part.{whole, sub, look-in, agg}
-use types.Run.{look, init, forget, stop, fld, from, load, addr, of-opd, and-then, no-more, assigns, land, returns, enter, alloc1, alloc0, params1, pass1, pass0, free1, free0}
+use types.Run.{look, init, forget, stop, fld, from, load, addr, of-opd, and-then, no-more, assigns, land, returns, enter, alloc1, alloc0, params1}
+use types.Run.{pass1, pass0, free1, free0}
 use sound.WpLaws.{FmC, fmOf, WpFn-mono}
 use denote.RattleType.{RattleType, owns}
 use denote.Laws.{Is, shows}
@@ -101,15 +104,19 @@ module _ {M : Type 1} (𝓤 : URA M) (H : Heap 𝓤) (A : Atoms 𝓤) (W : Given
 
   -- what a call of `take` asks beside what is kept, and what it gives
   abbrev asks : (l : ℕ) (r : FieldReader) (x : ℕ) → x < 2 ^ 32 → Item 𝓤
-  asks l r x fits = later (some (λ (p : ℕ × GName). raw (Takes.Taking u32 FieldRead 𝓤 H A .pre (Takes.to u32 FieldRead 𝓤 H A W κ q l r x fits p)) ⊛ ‵ (Kept 𝓤 H A W κ q l (p .0) (p .1))))
+  asks l r x fits = later (some
+      (λ (p : ℕ × GName). raw (Takes.Taking u32 FieldRead 𝓤 H A .pre (Takes.to u32 FieldRead 𝓤 H A W κ q l r x fits p)) ⊛ ‵
+      (Kept 𝓤 H A W κ q l (p .0) (p .1))))
 
   abbrev gives : ℕ → FieldReader → ℕ → Val → Item 𝓤
-  gives l r x u = later (some (λ (y : ℕ). given (FieldRead (now s) (r .at) x y) (‵ (u32 .own y (u ∷ [])) ⊛ ‵ (cell l (past r x)) ⊛ ‵ (own l (past r x)) ⊛ ‵ (flft κ q))))
+  gives l r x u = later (some
+      (λ (y : ℕ). given (FieldRead (now s) (r .at) x y) (‵ (u32 .own y (u ∷ [])) ⊛ ‵ (cell l (past r x)) ⊛ ‵ (own l (past r x)) ⊛ ‵ (flft κ q))))
 
   exits : (x : ℕ) → FieldRead (now s) n w x → x < 2 ^ 32 → behindOf n w < 2 ^ 64 → ent 𝓤 (⋆ 𝓤 H A (‵ (flft κ q) ∷ ‵ Frame ∷ [])) (Post (S′.lowered (result x)))
   exits x e x-fits next-fits =
       qed W (‵ (flft κ q) ∷ ‵ Frame ∷ []) ∵
-      suffices ! _ (ends-at 𝓤 H A single.ended stayed (single.clauses 𝓤 H A at-mem run) W (((κ, tt), (q, tt), tt, a, at), tt) (S′.lowered (result x)) (result x) (tt, (tt, (tt, tt))) (tt, (tt, (tt, tt)))) $
+      suffices ! _ (ends-at 𝓤 H A single.ended stayed (single.clauses 𝓤 H A at-mem run) W (((κ, tt), (q, tt), tt, a, at), tt) (S′.lowered (result x))
+      (result x) (tt, (tt, (tt, tt))) (tt, (tt, (tt, tt)))) $
       says ! (ap result e) $ nothing ! $ move ! (1 ∷ 0 ∷ []) $ join ! $ frame ! $
       nothing ! $ owned ! u32 (Is u32) (uint-makes 𝓤 H A W w32) w _ (refl, w-fits) $ fjoin ! $
       owned ! usize (Is usize) (uint-makes 𝓤 H A W w64) n _ (refl, n-fits) $ fjoin ! $ move ! (1 ∷ 0 ∷ []) $ fjoin ! $ frame ! $
@@ -120,10 +127,13 @@ module _ {M : Type 1} (𝓤 : URA M) (H : Heap 𝓤) (A : Atoms 𝓤) (W : Given
   module _ (C : Calls 𝓤 H) (Λ : Loops 𝓤 H) (fm : FmC 𝓤 H (W .laws) C)
       (known-reader : Triple 𝓤 (C #fields·reader) (Reader 𝓤 H A at-mem run))
       (known-take : Triple 𝓤 (C #fields·FieldReader·take) (Takes.Taking u32 FieldRead 𝓤 H A)) where
-    walk : Is (ShrSlice (named 0) κ u8) s (v ∷ []) → ent 𝓤 (onEntry 𝓤 H A single.signature (κ, tt) (q, tt) a at) (WpFn 𝓤 H C Λ code.function (v ∷ vint w64 n ∷ vint w32 w ∷ []) Post)
+    walk : Is (ShrSlice (named 0) κ u8) s (v ∷ [])
+        → ent 𝓤 (onEntry 𝓤 H A single.signature (κ, tt) (q, tt) a at) (WpFn 𝓤 H C Λ code.function (v ∷ vint w64 n ∷ vint w32 w ∷ []) Post)
     walk p =
-        qed W ((‵ (flft κ q) ⊛ ‵ ftrue) ∷ ‵ (owns (ShrSlice (named 0) κ u8 ∷ usize ∷ u32 ∷ []) a at) ∷ []) ∵ enter ! C Λ code.function (v ∷ vint w64 n ∷ vint w32 w ∷ []) _ $
-        alloc1 ! (λ l₀. alloc1 ! (λ l₁. alloc1 ! (λ l₂. alloc1 ! (λ l₃. alloc1 ! (λ l₄. alloc1 ! (λ l₅. alloc1 ! (λ l₆. alloc1 ! (λ l₇. alloc1 ! (λ l₈. alloc0 ! $
+        qed W ((‵ (flft κ q) ⊛ ‵ ftrue) ∷ ‵ (owns (ShrSlice (named 0) κ u8 ∷ usize ∷ u32 ∷ []) a at) ∷ []) ∵ enter ! C Λ code.function
+        (v ∷ vint w64 n ∷ vint w32 w ∷ []) _ $
+        alloc1 ! (λ l₀. alloc1 ! (λ l₁. alloc1 !
+        (λ l₂. alloc1 ! (λ l₃. alloc1 ! (λ l₄. alloc1 ! (λ l₅. alloc1 ! (λ l₆. alloc1 ! (λ l₇. alloc1 ! (λ l₈. alloc0 ! $
         params1 ! $
         pass1 ! (init ! 14 refl (shr-slice-lawful 𝓤 H A W (named 0) κ u8 .typed s (v ∷ []) p .0)) $
         pass1 ! (init ! 12 refl (tt, record { fits = n-fits })) $ pass1 ! (init ! 10 refl (tt, record { fits = w-fits })) $ pass0 ! $
@@ -132,7 +142,8 @@ module _ {M : Type 1} (𝓤 : URA M) (H : Heap 𝓤) (A : Atoms 𝓤) (W : Given
         -- `reader`
         use2 W (raw (Reader 𝓤 H A at-mem run .pre (Makes.to 𝓤 H A at-mem run W κ q s n n-fits)) ⊛ ‵ Frame) (Makes.goes 𝓤 H A at-mem run W κ q s n n-fits) $
         split ! $
-        calls-at ! fm (Reader 𝓤 H A at-mem run) known-reader (Makes.to 𝓤 H A at-mem run W κ q s n n-fits) (and-then ! (load ! (from ! (stop !)) (look ! 16 refl)) (and-then ! (load ! (from ! (stop !)) (look ! 14 refl)) (no-more !))) (λ u.
+        calls-at ! fm (Reader 𝓤 H A at-mem run) known-reader (Makes.to 𝓤 H A at-mem run W κ q s n n-fits)
+        (and-then ! (load ! (from ! (stop !)) (look ! 16 refl)) (and-then ! (load ! (from ! (stop !)) (look ! 14 refl)) (no-more !))) (λ u.
         use1 W (later (given ((u ≡ T′.lowered h) × Typed u) (‵ (own l₄ h) ⊛ ‵ (flft κ q)))) (Makes.comes 𝓤 H A at-mem run W κ q s n n-fits u) $
         await ! tt $ learn ! (λ e. split ! $
         -- [what the reader owns; the token; what the frame owns; _8; …; room for _0; …]
@@ -142,15 +153,18 @@ module _ {M : Type 1} (𝓤 : URA M) (H : Heap 𝓤) (A : Atoms 𝓤) (W : Given
         -- `take`
         move ! (11 ∷ 0 ∷ 1 ∷ []) $ use3 W (asks l₄ h w w-fits) (Takes.goes u32 FieldRead 𝓤 H A W κ q l₄ h w w-fits) $ await ! tt $
         pick ! (λ x. split ! $
-        calls-at ! fm (Takes.Taking u32 FieldRead 𝓤 H A) known-take (Takes.to u32 FieldRead 𝓤 H A W κ q l₄ h w w-fits x) (and-then ! (load ! (from ! (stop !)) (look ! 5 refl)) (and-then ! (load ! (from ! (stop !)) (look ! 12 refl)) (no-more !))) (λ u₁.
+        calls-at ! fm (Takes.Taking u32 FieldRead 𝓤 H A) known-take (Takes.to u32 FieldRead 𝓤 H A W κ q l₄ h w w-fits x)
+        (and-then ! (load ! (from ! (stop !)) (look ! 5 refl)) (and-then ! (load ! (from ! (stop !)) (look ! 12 refl)) (no-more !))) (λ u₁.
         use2 W (gives l₄ h w u₁) (Takes.comes u32 FieldRead 𝓤 H A W κ q l₄ h w w-fits x u₁) $ await ! tt $
         pick ! (λ y. learn ! (λ e₁. split ! $ peeks ! u32 (Is u32) (shows 𝓤 H A u32) y (u₁ ∷ []) (λ is₁. drop ! $
         split3 ! $ move ! (1 ∷ []) $ peeks ! R (Is R) (shows 𝓤 H A R) (past h w) (T′.lowered (past h w) ∷ []) (λ is₂.
         -- [what the reader owns; its cell, _4; the token; what the frame owns; _8; …; _7; …; _6; …; room for _5; …; …; _3; …; _2; …; _1; …; room for _0; …]
         land ! (from ! (stop !)) (init ! 10 refl (uint-lawful 𝓤 H A W w32 .typed y _ is₁ .0)) $
         rewrite ! 10 (λ (x : Val). ‵ (fat fullShare (tyInt w32) l₅ 0 x)) (ap only (is₁ .0)) refl $
-        assigns ! (of-opd ! (load ! (from ! (fld ! refl (stop !))) (look-in ! 1 (sub ! 1 refl (whole !))))) (from ! (stop !)) (init ! 4 refl (tt, typed 𝓤 H A W κ (past h w) _ is₂ .1 .1 .0)) $
-        assigns ! (agg ! (and-then ! (load ! (from ! (stop !)) (look ! 10 refl)) (and-then ! (load ! (from ! (stop !)) (look ! 4 refl)) (no-more !)))) (from ! (stop !)) (init ! 19 refl (tt, (record { fits = is₁ .1 }, (typed 𝓤 H A W κ (past h w) _ is₂ .1 .1 .0, tt)))) $
+        assigns ! (of-opd ! (load ! (from ! (fld ! refl (stop !))) (look-in ! 1 (sub ! 1 refl (whole !))))) (from ! (stop !))
+        (init ! 4 refl (tt, typed 𝓤 H A W κ (past h w) _ is₂ .1 .1 .0)) $
+        assigns ! (agg ! (and-then ! (load ! (from ! (stop !)) (look ! 10 refl)) (and-then ! (load ! (from ! (stop !)) (look ! 4 refl)) (no-more !))))
+        (from ! (stop !)) (init ! 19 refl (tt, (record { fits = is₁ .1 }, (typed 𝓤 H A W κ (past h w) _ is₂ .1 .1 .0, tt)))) $
         returns ! (look ! 19 refl) $ forget ! 1 refl $ forget ! 4 refl $ forget ! 6 refl $ forget ! 8 refl $ forget ! 10 refl $
         forget ! 13 refl $ forget ! 15 refl $ forget ! 17 refl $ forget ! 19 refl $
         move ! (19 ∷ 20 ∷ []) $ free1 ! $ move ! (17 ∷ 18 ∷ []) $ free1 ! $ move ! (15 ∷ 16 ∷ []) $ free1 ! $ move ! (13 ∷ 14 ∷ []) $
@@ -159,18 +173,25 @@ module _ {M : Type 1} (𝓤 : URA M) (H : Heap 𝓤) (A : Atoms 𝓤) (W : Given
         keep ! (1 ∷ 2 ∷ []) $ by ! (exits y e₁ (is₁ .1) (typed 𝓤 H A W κ (past h w) _ is₂ .1 .1 .0 .fits)))))))))))))))))))
 
 module _ {M : Type 1} (𝓤 : URA M) (H : Heap 𝓤) (A : Atoms 𝓤) (W : Given 𝓤 H A) (mem : Memory → SProp 𝓤) (run : Routine → Fun 𝓤) where
-  single-walks : (C : Calls 𝓤 H) (Λ : Loops 𝓤 H) → FmC 𝓤 H (W .laws) C → Triple 𝓤 (C #fields·reader) (Reader 𝓤 H A mem run) → Triple 𝓤 (C #fields·FieldReader·take) (Takes.Taking u32 FieldRead 𝓤 H A)
+  single-walks : (C : Calls 𝓤 H) (Λ : Loops 𝓤 H) → FmC 𝓤 H (W .laws) C → Triple 𝓤 (C #fields·reader) (Reader 𝓤 H A mem run)
+      → Triple 𝓤 (C #fields·FieldReader·take) (Takes.Taking u32 FieldRead 𝓤 H A)
       → Walks 𝓤 H A single.ended stayed (WpFn 𝓤 H C Λ code.function) (single.clauses 𝓤 H A mem run)
   single-walks C Λ fm known-reader known-take =
-      walked 𝓤 H A single.ended stayed (single.clauses 𝓤 H A mem run) (WpFn 𝓤 H C Λ code.function) (λ κs. (slice-vals, (uint-vals w64, (uint-vals w32, tt)))) (λ κs. (shr-slice-tells (named 0) (κs .0) u8, (uint-tells w64, (uint-tells w32, tt))))
-      (λ κs qs bounds a g are. via 𝓤 _ (fst∗ 𝓤 _ (emp 𝓤)) (walk 𝓤 H A W mem run (κs .0) (qs .0) (a .0) (a .1 .0) (a .1 .1 .0) (are .1 .0 .1) (are .1 .1 .0 .1) C Λ fm known-reader known-take (are .0)))
+      walked 𝓤 H A single.ended stayed (single.clauses 𝓤 H A mem run) (WpFn 𝓤 H C Λ code.function)
+      (λ κs. (slice-vals, (uint-vals w64, (uint-vals w32, tt)))) (λ κs. (shr-slice-tells (named 0) (κs .0) u8, (uint-tells w64, (uint-tells w32, tt))))
+      (λ κs qs bounds a g are. via 𝓤 _ (fst∗ 𝓤 _ (emp 𝓤))
+      (walk 𝓤 H A W mem run (κs .0) (qs .0) (a .0) (a .1 .0) (a .1 .1 .0) (are .1 .0 .1) (are .1 .1 .0 .1) C Λ fm known-reader known-take (are .0)))
 
 single-meets : {M : Type 1} (𝓤 : URA M) (H : Heap 𝓤) (A : Atoms 𝓤) (W : Given 𝓤 H A) (mem : Memory → SProp 𝓤) (run : Routine → Fun 𝓤) (𝓣 : Tables 𝓤 H)
     → Triple 𝓤 (𝓣 .C #fields·reader) (Reader 𝓤 H A mem run) → Triple 𝓤 (𝓣 .C #fields·FieldReader·take) (Takes.Taking u32 FieldRead 𝓤 H A)
     → Meets 𝓤 H A single.signature (WpFn 𝓤 H (𝓣 .C) (𝓣 .Λ) code.function) (single.spec 𝓤 H A mem run)
 single-meets 𝓤 H A W mem run 𝓣 known-reader known-take =
-    walk-meets 𝓤 H A single.ended stayed W (goes-none-slice 𝓤 H A W 1 (0 ∷ []) tt (plain (λ _. u8)) yes, (goes-none 𝓤 H A W 1 (λ _. usize) yes (λ κs x f. refl), (goes-none 𝓤 H A W 1 (λ _. u32) yes (λ κs x f. refl), tt))) (single.clauses 𝓤 H A mem run)
-    (WpFn 𝓤 H (𝓣 .C) (𝓣 .Λ) code.function) (WpFn-mono 𝓤 H (W .laws) 𝓣 code.function) (single-walks 𝓤 H A W mem run (𝓣 .C) (𝓣 .Λ) (fmOf 𝓤 H (W .laws) 𝓣) known-reader known-take)
+    walk-meets 𝓤 H A single.ended stayed W (
+      goes-none-slice 𝓤 H A W 1 (0 ∷ []) tt (plain (λ _. u8)) yes,
+      (goes-none 𝓤 H A W 1 (λ _. usize) yes (λ κs x f. refl), (goes-none 𝓤 H A W 1 (λ _. u32) yes (λ κs x f. refl), tt)),
+    ) (single.clauses 𝓤 H A mem run)
+    (WpFn 𝓤 H (𝓣 .C) (𝓣 .Λ) code.function) (WpFn-mono 𝓤 H (W .laws) 𝓣 code.function)
+    (single-walks 𝓤 H A W mem run (𝓣 .C) (𝓣 .Λ) (fmOf 𝓤 H (W .laws) 𝓣) known-reader known-take)
 
 pub single-spec : {M : Type 1} → stated.statement M
 unfolding code.routine tablesOf
@@ -179,4 +200,5 @@ single-spec 𝓤 H 𝓜 𝓖 𝓡 =
     (tables 𝓤 H 𝓜 𝓡 code.env .C) (tables 𝓤 H 𝓜 𝓡 code.env .Λ) #walk·single code.function (code.unfolded 𝓤 H 𝓜 𝓡)
     (single-meets 𝓤 H (𝓖 .A) (givenOf 𝓤 H 𝓜 𝓖) (𝓜 .mem) (𝓡 .run) (tablesOf 𝓤 H 𝓜 (tables 𝓤 H 𝓜 𝓡 code.env))
     (cited 𝓤 H (Reader 𝓤 H (𝓖 .A) (𝓜 .mem) (𝓡 .run)) 𝓜 𝓡 code.env #fields·reader reader-def.routine code.calls-fields·reader (reader-thm.met 𝓤 H 𝓜 𝓖 𝓡))
-    (cited 𝓤 H (Takes.Taking u32 FieldRead 𝓤 H (𝓖 .A)) 𝓜 𝓡 code.env #fields·FieldReader·take take-def.routine code.calls-fields·FieldReader·take (take-thm.met 𝓤 H 𝓜 𝓖 𝓡)))
+    (cited 𝓤 H (Takes.Taking u32 FieldRead 𝓤 H (𝓖 .A)) 𝓜 𝓡 code.env #fields·FieldReader·take take-def.routine code.calls-fields·FieldReader·take
+    (take-thm.met 𝓤 H 𝓜 𝓖 𝓡)))

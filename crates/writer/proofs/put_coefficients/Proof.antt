@@ -23,7 +23,8 @@ abbrev μ-loop : tie.MeasureT-loop
 μ-loop frame₀ coefficients count k₀ frame k = 180 - k
 
 loop-holds : tie.Need-loop-holds Inv-loop μ-loop
-loop-holds c = let a = c .before .args in (omega arith, laid-none (a .frame .now) 14 (λ i. omega (arith, c .slice-known .given i)) ∙ ap (laid (a .frame .now) 14) (number-none 22))
+loop-holds c = let a = c .before .args in
+    (omega arith, laid-none (a .frame .now) 14 (λ i. omega (arith, c .slice-known .given i)) ∙ ap (laid (a .frame .now) 14) (number-none 22))
 
 coefficient-requires : tie.Need-coefficient-requires Inv-loop μ-loop
 coefficient-requires c κs = omega arith

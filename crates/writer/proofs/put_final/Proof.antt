@@ -22,7 +22,9 @@ returns c =
     let s₁ = c .before .before .before .before .before .before .before .before .before .before .put-field in
     let s₂ = c .before .before .before .before .before .before .put-coefficients in
     let t = c .before .before .finish in
-    final-put (a .frame .now) (a .vendor .now) (c .before .before .before .before .before .before .before .before .before .before .before .before .before .before .pre .0) (s₁ .last .0) (s₂ .last .0) (t .last .0) (a .coefficients .now) (s₁ .ensures) (s₂ .ensures) (t .ensures)
+    final-put (a .frame .now) (a .vendor .now)
+    (c .before .before .before .before .before .before .before .before .before .before .before .before .before .before .pre .0) (s₁ .last .0)
+    (s₂ .last .0) (t .last .0) (a .coefficients .now) (s₁ .ensures) (s₂ .ensures) (t .ensures)
 
 pub put-final-spec : {M : Type 1} → statement M
 put-final-spec =

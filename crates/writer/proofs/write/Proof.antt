@@ -44,7 +44,8 @@ returns-5 c =
     let m = c .before .before .before .before in
     let a = m .before .before .before .before .before .before .args in
     subst (λ (k : ℕ). Written k (a .count) (a .coefficients .now) (a .a) (a .b) (a .vendor .now) (a .frame .now) 0 (p .last .0)) (sym (m .match .keys2))
-    (written (simp (eq-eqb _ _ (m .before .before .before .if1 .left), eq-eqb _ _ (m .before .before .if2 .left), eq-eqb _ _ (m .before .if3 .left))) (p .ensures))
+    (written (simp (eq-eqb _ _ (m .before .before .before .if1 .left), eq-eqb _ _ (m .before .before .if2 .left), eq-eqb _ _ (m .before .if3 .left)))
+    (p .ensures))
 
 returns-6 : tie.Need-returns-6
 returns-6 c =

@@ -25,6 +25,7 @@ take-spec 𝓤 H 𝓜 𝓖 𝓡 =
     let W = givenOf 𝓤 H 𝓜 𝓖 in
     entered 𝓤 H (tripleOf 𝓤 H (𝓖 .A) take.signature (take.spec 𝓤 H (𝓖 .A) (𝓜 .mem) (𝓡 .run)))
     (tables 𝓤 H 𝓜 𝓡 code.env .C) (tables 𝓤 H 𝓜 𝓡 code.env .Λ) #fields·FieldReader·take code.function (code.unfolded 𝓤 H 𝓜 𝓡)
-    (meets u32 FieldRead (λ v u is. uint-lawful 𝓤 H (𝓖 .A) W w32 .typed v _ is .0) #bitfields·field 𝓤 H (𝓖 .A) W (𝓜 .mem) (𝓡 .run) (tablesOf 𝓤 H 𝓜 (tables 𝓤 H 𝓜 𝓡 code.env))
+    (meets u32 FieldRead (λ v u is. uint-lawful 𝓤 H (𝓖 .A) W w32 .typed v _ is .0) #bitfields·field 𝓤 H (𝓖 .A) W (𝓜 .mem) (𝓡 .run)
+    (tablesOf 𝓤 H 𝓜 (tables 𝓤 H 𝓜 𝓡 code.env))
     (cited 𝓤 H (Reading u32 FieldRead 𝓤 H (𝓖 .A)) 𝓜 𝓡 code.env #bitfields·field read-def.routine code.calls-bitfields·field (read-thm.met 𝓤 H 𝓜 𝓖 𝓡))
     (cited 𝓤 H (Past 𝓤 H (𝓖 .A) (𝓜 .mem) (𝓡 .run)) 𝓜 𝓡 code.env #bitfields·behind behind-def.routine code.calls-bitfields·behind (behind-thm.met 𝓤 H 𝓜 𝓖 𝓡)))

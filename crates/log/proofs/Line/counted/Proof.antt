@@ -24,13 +24,17 @@ with-requires : tie.Need-with-requires Inv-loop μ-loop
 with-requires c κs = search needs
 
 returns : tie.Need-returns Inv-loop μ-loop
-returns c = c .with .ensures ∙ below (c .before .before .before .before .before .before .args .digits .now) (c .before .before .before .before .loop .k) (c .before .before .before .loop-test .taken) (c .before .if1 .taken)
+returns c =
+    let a = c .before .before .before in
+    c .with .ensures ∙ below (a .before .before .before .args .digits .now) (a .before .loop .k) (a .loop-test .taken) (c .before .if1 .taken)
 
 with-requires-2 : tie.Need-with-requires-2 Inv-loop μ-loop
 with-requires-2 c κs = search needs
 
 returns-2 : tie.Need-returns-2 Inv-loop μ-loop
-returns-2 c = c .with2 .ensures ∙ above (c .before .before .before .before .before .before .before .args .digits .now) (c .before .before .before .before .before .loop .k) (c .before .before .before .before .loop-test .taken) (c .before .if2 .taken)
+returns-2 c =
+    let a = c .before .before .before .before in
+    c .with2 .ensures ∙ above (a .before .before .before .args .digits .now) (a .before .loop .k) (a .loop-test .taken) (c .before .if2 .taken)
 
 more-requires : tie.Need-more-requires Inv-loop μ-loop
 more-requires c κs = search needs
@@ -42,13 +46,21 @@ loop-less : tie.Need-loop-less Inv-loop μ-loop
 loop-less c = omega arith
 
 loop-again : tie.Need-loop-again Inv-loop μ-loop
-loop-again c = let l = c .before .before .before .before .before .loop in read-more (c .before .before .before .before .before .before .before .args .digits .now) (l .ticks) (l .k) (c .more .result) (l .inv) (c .before .before .before .before .loop-test .taken) (c .before .before .if1 .left) (c .before .if2 .left) (c .more .ensures)
+loop-again c =
+    let a = c .before .before .before .before in
+    let l = a .before .loop in
+    read-more (a .before .before .before .args .digits .now) (l .ticks) (l .k) (c .more .result) (l .inv) (a .loop-test .taken)
+    (c .before .before .if1 .left) (c .before .if2 .left) (c .more .ensures)
 
 with-requires-3 : tie.Need-with-requires-3 Inv-loop μ-loop
 with-requires-3 c κs = search needs
 
 returns-3 : tie.Need-returns-3 Inv-loop μ-loop
-returns-3 c = let l = c .before .before .before .loop in c .with3 .ensures ∙ none-counted (c .before .before .before .before .before .args .digits .now) (l .ticks) (l .k) (l .inv) (c .before .before .loop-test .left) (c .before .if3 .taken)
+returns-3 c =
+    let a = c .before .before .before in
+    let l = a .loop in
+    c .with3 .ensures ∙ none-counted (a .before .before .args .digits .now) (l .ticks) (l .k) (l .inv) (c .before .before .loop-test .left)
+    (c .before .if3 .taken)
 
 cast-if4 : tie.Need-cast-if4 Inv-loop μ-loop
 cast-if4 c = search needs
@@ -57,7 +69,10 @@ with-requires-4 : tie.Need-with-requires-4 Inv-loop μ-loop
 with-requires-4 c κs = search needs
 
 returns-4 : tie.Need-returns-4 Inv-loop μ-loop
-returns-4 c = let l = c .before .before .before .before .loop in c .with4 .ensures ∙ many-counted (c .before .before .before .before .before .before .args .digits .now) (l .ticks) (l .k) (l .inv) (c .before .before .before .loop-test .left) (c .before .if4 .taken)
+returns-4 c =
+    let a = c .before .before .before in
+    let l = a .before .loop in
+    c .with4 .ensures ∙ many-counted (a .before .before .before .args .digits .now) (l .ticks) (l .k) (l .inv) (a .loop-test .left) (c .before .if4 .taken)
 
 cast-with : tie.Need-cast-with Inv-loop μ-loop
 cast-with c = omega arith
@@ -66,7 +81,11 @@ with-requires-5 : tie.Need-with-requires-5 Inv-loop μ-loop
 with-requires-5 c κs = search needs
 
 returns-5 : tie.Need-returns-5 Inv-loop μ-loop
-returns-5 c = let l = c .before .before .before .before .loop in c .with5 .ensures ∙ some-counted (c .before .before .before .before .before .before .args .digits .now) (l .ticks) (l .k) (l .inv) (c .before .before .before .loop-test .left) (c .before .before .if3 .left) (c .before .if4 .left)
+returns-5 c =
+    let a = c .before .before .before in
+    let l = a .before .loop in
+    c .with5 .ensures ∙ some-counted (a .before .before .before .args .digits .now) (l .ticks) (l .k) (l .inv) (a .loop-test .left)
+    (c .before .before .if3 .left) (c .before .if4 .left)
 
 pub counted-spec : {M : Type 1} → statement M
 counted-spec =

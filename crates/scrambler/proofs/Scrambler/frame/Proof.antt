@@ -15,7 +15,8 @@ same-length c =
 returns : tie.Need-returns
 returns c =
     let a = c .before .before .before .before .before .args in
-    frame-refused (a .self) (a .frame .now) (a .output .now) (wayOf (a .back)) (c .before .frame-refusal .result) (c .before .frame-refusal .ensures) (c .if1 .taken)
+    frame-refused (a .self) (a .frame .now) (a .output .now) (wayOf (a .back)) (c .before .frame-refusal .result) (c .before .frame-refusal .ensures)
+    (c .if1 .taken)
 
 tap-requires : tie.Need-tap-requires
 tap-requires c κs = tt
@@ -31,7 +32,8 @@ clear-requires c κs = tt
 
 same-length-2 : tie.Need-same-length-2
 same-length-2 c =
-    c .before .before .clear .kept .0 ∙ c .before .before .before .before .before .before .run .kept .1 .1 .1 .1 .1 .1 .0 ∙ c .before .before .before .before .before .before .before .before .before .before .copy .kept .0
+    c .before .before .clear .kept .0 ∙ c .before .before .before .before .before .before .run .kept .1 .1 .1 .1 .1 .1 .0
+    ∙ c .before .before .before .before .before .before .before .before .before .before .copy .kept .0
 
 returns-2 : tie.Need-returns-2
 returns-2 c =
@@ -39,8 +41,10 @@ returns-2 c =
     let k = u .before .before .before .before .copy in
     let v = u .before .before .before .before .before .before in
     let a = v .before .before .before .before .before .before .args in
-    frame-taken (a .self) (a .frame .now) (a .output .now) (wayOf (a .back)) (v .tap .result) (u .run .result) (k .last .0) (u .run .last .1 .1 .1 .1 .1 .1 .0) (c .before .before .clear .last .0)
-    (v .tap .ensures) (k .ensures) (u .run .ensures) (c .before .before .clear .ensures) (sym (v .before .before .frame-refusal .ensures) ∙ v .before .if1 .left)
+    frame-taken (a .self) (a .frame .now) (a .output .now) (wayOf (a .back)) (v .tap .result) (u .run .result) (k .last .0)
+    (u .run .last .1 .1 .1 .1 .1 .1 .0) (c .before .before .clear .last .0)
+    (v .tap .ensures) (k .ensures) (u .run .ensures) (c .before .before .clear .ensures)
+    (sym (v .before .before .frame-refusal .ensures) ∙ v .before .if1 .left)
 
 pub frame-spec : {M : Type 1} → statement M
 frame-spec =

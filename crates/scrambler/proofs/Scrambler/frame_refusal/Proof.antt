@@ -15,16 +15,36 @@ returns-3 : tie.Need-returns-3
 returns-3 c = simp (eq-eqb _ _ (c .before .before .before .if1 .left), eq-eqb _ _ (c .before .before .if2 .left), lt-ltb _ _ (c .if3 .taken))
 
 returns-4 : tie.Need-returns-4
-returns-4 c = simp (eq-eqb _ _ (c .before .before .before .before .before .if1 .left), eq-eqb _ _ (c .before .before .before .before .if2 .left), le-ltb _ _ (c .before .before .if3 .left), le-leb _ _ (c .if4 .taken))
+returns-4 c =
+    let a = c .before .before .before .before in
+    simp (eq-eqb _ _ (a .before .if1 .left), eq-eqb _ _ (a .if2 .left), le-ltb _ _ (c .before .before .if3 .left), le-leb _ _ (c .if4 .taken))
 
 is-clear-requires : tie.Need-is-clear-requires
 is-clear-requires c κs = search needs
 
 returns-5 : tie.Need-returns-5
-returns-5 c = simp (eq-eqb _ _ (c .before .before .before .before .before .before .before .if1 .left), eq-eqb _ _ (c .before .before .before .before .before .before .if2 .left), le-ltb _ _ (c .before .before .before .before .if3 .left), lt-leb _ _ (c .before .before .if4 .left), sym (c .before .is-clear .ensures) ∙ not-true _ (c .if5 .taken))
+returns-5 c =
+    let a = c .before .before .before .before in
+    simp (
+      eq-eqb _ _ (a .before .before .before .if1 .left),
+      eq-eqb _ _ (a .before .before .if2 .left),
+      le-ltb _ _ (a .if3 .left),
+      lt-leb _ _
+          (c .before .before .if4 .left),
+      sym (c .before .is-clear .ensures) ∙ not-true _ (c .if5 .taken),
+    )
 
 returns-6 : tie.Need-returns-6
-returns-6 c = simp (eq-eqb _ _ (c .before .before .before .before .before .before .before .if1 .left), eq-eqb _ _ (c .before .before .before .before .before .before .if2 .left), le-ltb _ _ (c .before .before .before .before .if3 .left), lt-leb _ _ (c .before .before .if4 .left), sym (c .before .is-clear .ensures) ∙ not-false _ (c .if5 .left))
+returns-6 c =
+    let a = c .before .before .before .before in
+    simp (
+      eq-eqb _ _ (a .before .before .before .if1 .left),
+      eq-eqb _ _ (a .before .before .if2 .left),
+      le-ltb _ _ (a .if3 .left),
+      lt-leb _ _
+          (c .before .before .if4 .left),
+      sym (c .before .is-clear .ensures) ∙ not-false _ (c .if5 .left),
+    )
 
 pub frame-refusal-spec : {M : Type 1} → statement M
 frame-refusal-spec =

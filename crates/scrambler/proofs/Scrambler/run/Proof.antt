@@ -13,7 +13,9 @@ same-length : tie.Need-same-length
 same-length c = search needs
 
 returns : tie.Need-returns
-returns c = let a = c .before .before .before .before .before .args in run-refused (a .self) (a .input .now) (a .bits) (a .output .now) (wayOf (a .back)) (c .before .run-refusal .result) (c .before .run-refusal .ensures) (c .if1 .taken)
+returns c = let a = c .before .before .before .before .before .args in
+    run-refused (a .self) (a .input .now) (a .bits) (a .output .now) (wayOf (a .back)) (c .before .run-refusal .result)
+    (c .before .run-refusal .ensures) (c .if1 .taken)
 
 tap-requires : tie.Need-tap-requires
 tap-requires c κs = search needs
@@ -27,8 +29,10 @@ same-length-2 c = search needs
 returns-2 : tie.Need-returns-2
 returns-2 c =
     let a = c .before .before .before .before .before .before .before .before .before .before .args in
-    run-taken (a .self) (a .input .now) (a .bits) (a .output .now) (wayOf (a .back)) (c .before .before .before .before .tap .result) (c .before .before .run .result) (c .before .before .run .last .1 .1 .1 .1 .1 .1 .0)
-    (c .before .before .before .before .tap .ensures) (c .before .before .run .ensures) (sym (c .before .before .before .before .before .before .run-refusal .ensures) ∙ c .before .before .before .before .before .if1 .left)
+    run-taken (a .self) (a .input .now) (a .bits) (a .output .now) (wayOf (a .back)) (c .before .before .before .before .tap .result)
+    (c .before .before .run .result) (c .before .before .run .last .1 .1 .1 .1 .1 .1 .0)
+    (c .before .before .before .before .tap .ensures) (c .before .before .run .ensures)
+    (sym (c .before .before .before .before .before .before .run-refusal .ensures) ∙ c .before .before .before .before .before .if1 .left)
 
 pub run-spec : {M : Type 1} → statement M
 run-spec =

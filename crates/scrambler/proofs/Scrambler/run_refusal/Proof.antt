@@ -21,10 +21,14 @@ returns-3 : tie.Need-returns-3
 returns-3 c = simp (room-enough _ _ (c .before .before .before .if1 .left), eq-eqb _ _ (c .before .before .if2 .left), lt-ltb _ _ (c .if3 .taken))
 
 returns-4 : tie.Need-returns-4
-returns-4 c = simp (room-enough _ _ (c .before .before .before .before .before .if1 .left), eq-eqb _ _ (c .before .before .before .before .if2 .left), le-ltb _ _ (c .before .before .if3 .left), le-leb _ _ (c .if4 .taken))
+returns-4 c =
+    let a = c .before .before .before .before in
+    simp (room-enough _ _ (a .before .if1 .left), eq-eqb _ _ (a .if2 .left), le-ltb _ _ (c .before .before .if3 .left), le-leb _ _ (c .if4 .taken))
 
 returns-5 : tie.Need-returns-5
-returns-5 c = simp (room-enough _ _ (c .before .before .before .before .before .if1 .left), eq-eqb _ _ (c .before .before .before .before .if2 .left), le-ltb _ _ (c .before .before .if3 .left), lt-leb _ _ (c .if4 .left))
+returns-5 c =
+    let a = c .before .before .before .before in
+    simp (room-enough _ _ (a .before .if1 .left), eq-eqb _ _ (a .if2 .left), le-ltb _ _ (c .before .before .if3 .left), lt-leb _ _ (c .if4 .left))
 
 pub run-refusal-spec : {M : Type 1} → statement M
 run-refusal-spec =
