@@ -2,21 +2,22 @@
 use mathlib.Core.Path.{_≡_, refl, ap, _∙_}
 use mathlib.Core.Bool.{Bool, true, false, cond, _||_}
 use mathlib.Core.Logic.{_⊎_, inl, inr}
-use mathlib.Core.List.{List, [], _∷_, _++_, append-assoc}
+use mathlib.Core.List.{List, [], _∷_, _++_, append-nil, append-assoc}
 use Prim.Native.Nat.{ℕ, _-_, _/_, _%_}
 use native.Mathlib.Omega.{arith}
 use borrow.Author.Tests.{ne-eqb, lt-ltb, le-ltb}
 use lib.Dec.{eqb, ltb}
-use Rattle.ascii.specs.Text.{text}
+use Rattle.ascii.specs.Text.{text, decimal}
 use Rattle.forms.specs.Forms.{firstOf, formedBy, formed, rowBy, rowOf}
 use Rattle.forms.proofs.Laws.{each}
 use Rattle.supervisor.specs.declared.Supervisor.{Supervisor}
-use Rattle.storytext.specs.Texts.{seconds, reportName, nameOf, shortName, verbOf, lackOf, lackText, lasts, restText, leftText, waitText, refusedText}
+use Rattle.storytext.specs.Texts.{numbered, seconds, reportName, nameOf, shortName, verbOf, lackOf, lackText, lasts, restText, leftText}
+use Rattle.storytext.specs.Texts.{waitText, reasonText}
 
 -- ---- what is left of a phase outside an attempt
 
-pub left-some : (s : Supervisor) (l n : ℕ) → (s .phase ≡ 1) ⊎ ((s .phase ≡ 11) ⊎ (s .phase ≡ 13)) → l ≡ lasts (s .silence) (s .phase) → n ≡ l - s .ticks
-    → restText n ≡ leftText s
+pub left-some : (s : Supervisor) (l n : ℕ) → (s .phase ≡ 1) ⊎ ((s .phase ≡ 11) ⊎ (s .phase ≡ 13)) → l ≡ lasts (s .silence) (s .phase)
+    → n ≡ l - s .ticks → restText n ≡ leftText s
 unfolding leftText
 left-some s l n h q e = ap restText (e ∙ ap (λ (k : ℕ). k - s .ticks) q) ∙ go h
   where
@@ -44,11 +45,22 @@ unfolding rowOf rowBy nameOf
 name-told end p =
     each (λ (n : ℕ). rowOf names (cond (ltb 12 n) 14 (cond (eqb n 5) (cond (eqb end 1) 13 n) n)) ≡ nameOf end n) 13
     (refl, (refl, (refl, (refl, (refl, (quiet (eqb end 1), (refl, (refl, (refl, (refl, (refl, (refl, (refl, tt)))))))))))))
-    (λ n h. simp
-    (lt-ltb 12 n h, ne-eqb n 0 (λ e. omega arith), ne-eqb n 1 (λ e. omega arith), ne-eqb n 2 (λ e. omega arith), ne-eqb n 3 (λ e. omega arith),
-    ne-eqb n 4 (λ e. omega arith), ne-eqb n 5 (λ e. omega arith), ne-eqb n 6 (λ e. omega arith), ne-eqb n 7 (λ e. omega arith),
-    ne-eqb n 8 (λ e. omega arith), ne-eqb n 9 (λ e. omega arith), ne-eqb n 10 (λ e. omega arith), ne-eqb n 11 (λ e. omega arith),
-    ne-eqb n 12 (λ e. omega arith))) p
+    (λ n h. simp (
+      lt-ltb 12 n h,
+      ne-eqb n 0 (λ e. omega arith),
+      ne-eqb n 1 (λ e. omega arith),
+      ne-eqb n 2 (λ e. omega arith),
+      ne-eqb n 3 (λ e. omega arith),
+      ne-eqb n 4 (λ e. omega arith),
+      ne-eqb n 5 (λ e. omega arith),
+      ne-eqb n 6 (λ e. omega arith),
+      ne-eqb n 7 (λ e. omega arith),
+      ne-eqb n 8 (λ e. omega arith),
+      ne-eqb n 9 (λ e. omega arith),
+      ne-eqb n 10 (λ e. omega arith),
+      ne-eqb n 11 (λ e. omega arith),
+      ne-eqb n 12 (λ e. omega arith),
+    )) p
   where
     quiet : (b : Bool) → rowOf names (cond b 13 5) ≡ cond b (text "Quiet (1.500 s)") (text "Quiet (0.500 s)")
     quiet true = refl
@@ -63,9 +75,17 @@ unfolding rowOf rowBy reportName
 report-told =
     each (λ (n : ℕ). rowOf reports (cond (ltb 8 n) 0 n) ≡ reportName n) 9
     (refl, (refl, (refl, (refl, (refl, (refl, (refl, (refl, (refl, tt)))))))))
-    (λ n h. simp
-    (lt-ltb 8 n h, ne-eqb n 1 (λ e. omega arith), ne-eqb n 2 (λ e. omega arith), ne-eqb n 3 (λ e. omega arith), ne-eqb n 4 (λ e. omega arith),
-    ne-eqb n 5 (λ e. omega arith), ne-eqb n 6 (λ e. omega arith), ne-eqb n 7 (λ e. omega arith), ne-eqb n 8 (λ e. omega arith)))
+    (λ n h. simp (
+      lt-ltb 8 n h,
+      ne-eqb n 1 (λ e. omega arith),
+      ne-eqb n 2 (λ e. omega arith),
+      ne-eqb n 3 (λ e. omega arith),
+      ne-eqb n 4 (λ e. omega arith),
+      ne-eqb n 5 (λ e. omega arith),
+      ne-eqb n 6 (λ e. omega arith),
+      ne-eqb n 7 (λ e. omega arith),
+      ne-eqb n 8 (λ e. omega arith),
+    ))
 
 abbrev pub shorts : List ℕ
 shorts = text "\n\n\nC_r\nHearing\nQuiet\nS_c\nS_r\nT_c\nT_r\nF_c\n"
@@ -75,9 +95,17 @@ unfolding rowOf rowBy shortName
 short-told =
     each (λ (n : ℕ). rowOf shorts (cond (ltb 10 n) 0 n) ≡ shortName n) 11
     (refl, (refl, (refl, (refl, (refl, (refl, (refl, (refl, (refl, (refl, (refl, tt)))))))))))
-    (λ n h. simp
-    (lt-ltb 10 n h, ne-eqb n 3 (λ e. omega arith), ne-eqb n 4 (λ e. omega arith), ne-eqb n 5 (λ e. omega arith), ne-eqb n 6 (λ e. omega arith),
-    ne-eqb n 7 (λ e. omega arith), ne-eqb n 8 (λ e. omega arith), ne-eqb n 9 (λ e. omega arith), ne-eqb n 10 (λ e. omega arith)))
+    (λ n h. simp (
+      lt-ltb 10 n h,
+      ne-eqb n 3 (λ e. omega arith),
+      ne-eqb n 4 (λ e. omega arith),
+      ne-eqb n 5 (λ e. omega arith),
+      ne-eqb n 6 (λ e. omega arith),
+      ne-eqb n 7 (λ e. omega arith),
+      ne-eqb n 8 (λ e. omega arith),
+      ne-eqb n 9 (λ e. omega arith),
+      ne-eqb n 10 (λ e. omega arith),
+    ))
 
 abbrev pub verbs : List ℕ
 verbs =
@@ -89,9 +117,15 @@ unfolding rowOf rowBy verbOf
 verb-told kind c =
     each (λ (n : ℕ). rowOf verbs (cond (ltb 7 n) 0 (cond (eqb n 3) (cond (eqb c 0) 8 n) n)) ≡ verbOf n c) 8
     (refl, (refl, (refl, (late (eqb c 0), (refl, (refl, (refl, (refl, tt))))))))
-    (λ n h. simp
-    (lt-ltb 7 n h, ne-eqb n 1 (λ e. omega arith), ne-eqb n 2 (λ e. omega arith), ne-eqb n 3 (λ e. omega arith), ne-eqb n 5 (λ e. omega arith),
-    ne-eqb n 6 (λ e. omega arith), ne-eqb n 7 (λ e. omega arith))) kind
+    (λ n h. simp (
+      lt-ltb 7 n h,
+      ne-eqb n 1 (λ e. omega arith),
+      ne-eqb n 2 (λ e. omega arith),
+      ne-eqb n 3 (λ e. omega arith),
+      ne-eqb n 5 (λ e. omega arith),
+      ne-eqb n 6 (λ e. omega arith),
+      ne-eqb n 7 (λ e. omega arith),
+    )) kind
   where
     late : (b : Bool) → rowOf verbs (cond b 8 3) ≡ cond b (text "time is up, ends in exception: ") (text "ends in exception: ")
     late true = refl
@@ -140,12 +174,23 @@ wait-told =
     silent true = refl
     silent false = refl
 
+abbrev pub reasons : List ℕ
+reasons =
+    text "\n: the log has more than 1048576 octets\n: this line is no code\n\n"
+    ++ text ": no line counts so many ticks, or the log has over 1000000000\n"
+
+pub reason-told : (n : ℕ) → rowOf reasons (cond (ltb 4 n) 0 n) ≡ reasonText n
+unfolding rowOf rowBy reasonText
+reason-told =
+    each (λ (n : ℕ). rowOf reasons (cond (ltb 4 n) 0 n) ≡ reasonText n) 5 (refl, (refl, (refl, (refl, (refl, tt)))))
+    (λ n h. simp (lt-ltb 4 n h, ne-eqb n 1 (λ e. omega arith), ne-eqb n 2 (λ e. omega arith), ne-eqb n 4 (λ e. omega arith)))
+
 -- ---- forms with several numbers
 
 pub seconds-form : (t : ℕ) → formed (text "#.### s") (t / 1000 ∷ t / 100 % 10 ∷ t / 10 % 10 ∷ t % 10 ∷ []) ≡ seconds t
 unfolding formed formedBy firstOf seconds
 seconds-form t = simp append-assoc
 
-pub refused-form : (n l : ℕ) → formed (text "refused # at line #\n") (n ∷ l ∷ []) ≡ refusedText n l
-unfolding formed formedBy firstOf refusedText
-refused-form n l = simp append-assoc
+pub refused-form : (n l : ℕ) → formed (text "refused # at line #") (n ∷ l ∷ []) ≡ numbered "refused " n " at line " ++ decimal l
+unfolding formed formedBy firstOf
+refused-form n l = simp (append-assoc, append-nil)
