@@ -8,7 +8,7 @@
 # make help                 prints this
 .PHONY: all test pair bench install uninstall clean help
 
-VERSION = 0.1.0
+VERSION = 0.2.0
 PROGRAMS = lister replay sorter
 PREFIX = /usr/local
 bindir = $(PREFIX)/bin
