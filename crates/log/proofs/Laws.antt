@@ -13,7 +13,7 @@ use lib.Seq.{take-suc, take-all, drop-cons}
 use Rattle.ascii.specs.Text.{digitOf, reading}
 use Rattle.ascii.proofs.Reading.{reading-more}
 use Rattle.log.specs.declared.Line.{Line}
-use Rattle.log.specs.Lines.{line, isDigit, digits, counted, said, lineOf, upToEnd, endOf}
+use Rattle.log.specs.Lines.{mostTicks, line, isDigit, digits, counted, said, lineOf, upToEnd, endOf}
 
 -- ---- where a line ends
 
@@ -82,7 +82,7 @@ above ds k h l = simp (broken ds k h (simp (le-leb 48 (getD ds k 0) (omega arith
 
 -- the number held is the number read, or both are past the most
 abbrev pub Same : ℕ → ℕ → Type 0
-Same t v = (t ≡ v) ⊎ ((1000000000 < t) × (1000000000 < v))
+Same t v = (t ≡ v) ⊎ ((mostTicks < t) × (mostTicks < v))
 
 -- after k digits
 pub record Read (ds : List ℕ) (t k : ℕ) : Type 0 where
@@ -96,7 +96,7 @@ read-none ds = record { within = omega arith; all = refl; same = inl refl }
 
 -- one more
 pub read-more : (ds : List ℕ) (t k t′ : ℕ) → Read ds t k → k < length ds → 48 ≤ getD ds k 0 → getD ds k 0 ≤ 57
-    → t′ ≡ cond (leb t 1000000000) (t * 10 + (getD ds k 0 - 48)) t → Read ds t′ (k + 1)
+    → t′ ≡ cond (leb t mostTicks) (t * 10 + (getD ds k 0 - 48)) t → Read ds t′ (k + 1)
 read-more ds t k t′ r h lo hi e =
     let o = getD ds k 0 in
     let next : take (k + 1) ds ≡ take k ds ++ (o ∷ []) = ap (λ (n : ℕ). take n ds) (add-one k) ∙ take-suc ds k 0 h in
@@ -106,17 +106,17 @@ read-more ds t k t′ r h lo hi e =
     record {
       within = omega arith;
       all = ap digits next ∙ digits-more (take k ds) o ∙ simp (r .all, le-leb 48 o lo, le-leb o 57 hi);
-      same = go (leb t 1000000000) refl (r .same) v;
+      same = go (leb t mostTicks) refl (r .same) v;
     }
   where
-    go : (b : Bool) → leb t 1000000000 ≡ b → Same t (reading 10 0 (take k ds))
+    go : (b : Bool) → leb t mostTicks ≡ b → Same t (reading 10 0 (take k ds))
         → reading 10 0 (take (k + 1) ds) ≡ reading 10 0 (take k ds) * 10 + (getD ds k 0 - 48) → Same t′ (reading 10 0 (take (k + 1) ds))
     go true q (inl x) v = let f : t′ ≡ t * 10 + (getD ds k 0 - 48) = e ∙ ap (λ (b : Bool). cond b (t * 10 + (getD ds k 0 - 48)) t) q in inl (omega arith)
-    go true q (inr x) v = absurd (omega (arith, leb-true t 1000000000 q, x .0))
+    go true q (inr x) v = absurd (omega (arith, leb-true t mostTicks q, x .0))
     go false q (inl x) v = let f : t′ ≡ t = e ∙ ap (λ (b : Bool). cond b (t * 10 + (getD ds k 0 - 48)) t) q in
-        inr (omega (arith, leb-false t 1000000000 q), omega (arith, leb-false t 1000000000 q))
+        inr (omega (arith, leb-false t mostTicks q), omega (arith, leb-false t mostTicks q))
     go false q (inr x) v = let f : t′ ≡ t = e ∙ ap (λ (b : Bool). cond b (t * 10 + (getD ds k 0 - 48)) t) q in
-        inr (omega (arith, leb-false t 1000000000 q), omega (arith, x .1))
+        inr (omega (arith, leb-false t mostTicks q), omega (arith, x .1))
 
 -- all of them
 whole : (ds : List ℕ) (t k : ℕ) → Read ds t k → length ds ≤ k → (digits ds ≡ true) × Same t (reading 10 0 ds)
@@ -130,20 +130,20 @@ none-counted ds t k r h z = pick (whole ds t k r h .0) (whole ds t k r h .1)
     pick d (inl e) = simp (d, lt-leb 1 (reading 10 0 ds) (omega arith))
     pick d (inr e) = absurd (omega (arith, e .0))
 
-pub many-counted : (ds : List ℕ) (t k : ℕ) → Read ds t k → length ds ≤ k → 1000000000 < t → line 4 0 0 ≡ counted ds
+pub many-counted : (ds : List ℕ) (t k : ℕ) → Read ds t k → length ds ≤ k → mostTicks < t → line 4 0 0 ≡ counted ds
 unfolding counted
 many-counted ds t k r h z = pick (whole ds t k r h .0) (whole ds t k r h .1)
   where
     pick : digits ds ≡ true → Same t (reading 10 0 ds) → line 4 0 0 ≡ counted ds
-    pick d (inl e) = simp (d, le-leb 1 (reading 10 0 ds) (omega arith), lt-leb (reading 10 0 ds) 1000000000 (omega arith))
-    pick d (inr e) = simp (d, le-leb 1 (reading 10 0 ds) (omega (arith, e .1)), lt-leb (reading 10 0 ds) 1000000000 (e .1))
+    pick d (inl e) = simp (d, le-leb 1 (reading 10 0 ds) (omega arith), lt-leb (reading 10 0 ds) mostTicks (omega arith))
+    pick d (inr e) = simp (d, le-leb 1 (reading 10 0 ds) (omega (arith, e .1)), lt-leb (reading 10 0 ds) mostTicks (e .1))
 
-pub some-counted : (ds : List ℕ) (t k : ℕ) → Read ds t k → length ds ≤ k → (t ≡ 0 → ⊥) → t ≤ 1000000000 → line 0 0 t ≡ counted ds
+pub some-counted : (ds : List ℕ) (t k : ℕ) → Read ds t k → length ds ≤ k → (t ≡ 0 → ⊥) → t ≤ mostTicks → line 0 0 t ≡ counted ds
 unfolding counted
 some-counted ds t k r h z l = pick (whole ds t k r h .0) (whole ds t k r h .1)
   where
     pick : digits ds ≡ true → Same t (reading 10 0 ds) → line 0 0 t ≡ counted ds
-    pick d (inl e) = simp (d, le-leb 1 (reading 10 0 ds) (omega arith), le-leb (reading 10 0 ds) 1000000000 (omega arith)) (ap (line 0 0) e)
+    pick d (inl e) = simp (d, le-leb 1 (reading 10 0 ds) (omega arith), le-leb (reading 10 0 ds) mostTicks (omega arith)) (ap (line 0 0) e)
     pick d (inr e) = absurd (omega (arith, e .0))
 
 -- ---- an empty line

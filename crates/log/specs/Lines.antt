@@ -21,11 +21,15 @@ unfoldable pub digits : List ℕ → Bool
 digits [] = true
 digits (o ∷ os) = isDigit o && digits os
 
+-- the most ticks that a line may count
+abbrev pub mostTicks : ℕ
+mostTicks = 1000000000
+
 -- behind `0*`: digits that read as 1 to 1,000,000,000 are that many ticks; other digits, or none at all, are 4; what is no digit is 2
 unfoldable pub counted : List ℕ → Line
 counted ds =
     cond (digits ds)
-    (cond (leb 1 (reading 10 0 ds) && leb (reading 10 0 ds) 1000000000) (line 0 0 (reading 10 0 ds)) (line 4 0 0))
+    (cond (leb 1 (reading 10 0 ds) && leb (reading 10 0 ds) mostTicks) (line 0 0 (reading 10 0 ds)) (line 4 0 0))
     (line 2 0 0)
 
 -- a character alone: one of the codes 0 to 8, else 2

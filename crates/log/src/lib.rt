@@ -3,7 +3,7 @@ ghost use mathlib.Core.Path.{_≡_};
 ghost use mathlib.Core.Bool.{cond};
 ghost use Prim.Native.Nat.{_+_, _-_, _*_, _≤_};
 ghost use lib.Dec.{leb};
-ghost use Rattle.log.specs.Lines.{counted, oneCode, said, lineOf, endOf};
+ghost use Rattle.log.specs.Lines.{mostTicks, counted, oneCode, said, lineOf, endOf};
 ghost use Rattle.log.specs.Lines.{line as lineWith};
 
 // What a line says. With any answer but 0 the other numbers are 0.
@@ -84,7 +84,7 @@ impl Line {
     // A number with one more digit. Past the most it is held, so that no sum wraps.
     fn more(ticks: u64, digit: u8) -> u64
         requires { ⌜ (48 ≤ digit) × (digit ≤ 57) ⌝ }
-        ensures { λ r. ⌜ r ≡ cond (leb ticks 1000000000) (ticks * 10 + (digit - 48)) ticks ⌝ }
+        ensures { λ r. ⌜ r ≡ cond (leb ticks mostTicks) (ticks * 10 + (digit - 48)) ticks ⌝ }
     {
         if ticks <= (Self::MOST as u64) {
             ticks * 10 + (digit - b'0') as u64

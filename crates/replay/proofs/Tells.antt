@@ -12,10 +12,10 @@ use Rattle.startup.specs.Attempts.{at}
 use Rattle.startup.specs.Make.{Taken}
 use Rattle.startup.proofs.Counts.{and-right}
 use Rattle.log.specs.declared.Line.{Line}
-use Rattle.log.specs.Lines.{line, digits, counted, oneCode, said, plain, lineOf}
+use Rattle.log.specs.Lines.{mostTicks, line, digits, counted, oneCode, said, plain, lineOf}
 use Rattle.story.specs.declared.Story.{Story}
 use Rattle.story.specs.declared.Event.{Event}
-use Rattle.story.specs.Events.{refusedWith, eventOf, startOf, storyOf}
+use Rattle.story.specs.Events.{most, refusedWith, eventOf, startOf, storyOf}
 use Rattle.story.specs.Whole.{Tells}
 use Rattle.story.proofs.Whole.{tells}
 use Rattle.replay.specs.Replay.{repeated, followed, linesOf, ending, endingFrom, codesOf}
@@ -80,7 +80,7 @@ line-low l =
     (either-low (eqb (length l) 1) (oneCode (getD l 0 0)) _ (one-low (getD l 0 0))
     (either-low (eqb (getD l 0 0) 48 && eqb (getD l 1 0) 42) (counted (drop 2 l)) (line 2 0 0)
     (either-low (digits (drop 2 l)) _ (line 2 0 0)
-    (either-low (leb 1 (reading 10 0 (drop 2 l)) && leb (reading 10 0 (drop 2 l)) 1000000000) (line 0 0 (reading 10 0 (drop 2 l))) (line 4 0 0) (lit≤ tt) (lit≤ tt)) (lit≤ tt))
+    (either-low (leb 1 (reading 10 0 (drop 2 l)) && leb (reading 10 0 (drop 2 l)) mostTicks) (line 0 0 (reading 10 0 (drop 2 l))) (line 4 0 0) (lit≤ tt) (lit≤ tt)) (lit≤ tt))
     (lit≤ tt)))
 
 -- each of these is a code
@@ -105,7 +105,7 @@ codes-low (l ∷ ls) = low-more (lineOf l .times) (lineOf l .code) (codesOf ls) 
 -- ---- the whole
 
 -- the story at the end of a log, where no line was refused, tells what the list of the log's codes says
-pub log-tells : (end silence : ℕ) → end ≤ 1 → Taken silence → (log : List ℕ) → length (codesOf (linesOf log)) ≤ 1000000000
+pub log-tells : (end silence : ℕ) → end ≤ 1 → Taken silence → (log : List ℕ) → length (codesOf (linesOf log)) ≤ most
     → endingFrom 1 (startOf end silence .story) (linesOf log) .answer ≡ 0
     → Tells end silence (codesOf (linesOf log)) (endingFrom 1 (startOf end silence .story) (linesOf log) .story)
 log-tells end silence known t log small z =

@@ -1,6 +1,6 @@
 -- What the replayer follows: the lines of a log in order, a step for each code of a line, up to the first that is refused.
 use Prim.Native.Nat.{ℕ, zero, suc}
-use mathlib.Core.Bool.{cond}
+use mathlib.Core.Bool.{true, cond}
 use mathlib.Core.List.{List, [], _∷_, _++_}
 use lib.Dec.{eqb}
 use lib.ListN.{replicate}
@@ -10,6 +10,10 @@ use Rattle.story.specs.declared.Story.{Story}
 use Rattle.story.specs.declared.Event.{Event}
 use Rattle.story.specs.Events.{refusedWith, eventOf}
 use Rattle.replay.specs.declared.Ending.{Ending}
+
+-- the most octets that a log may have; one more is read, which shows that it is too long
+abbrev pub mostOctets : ℕ
+mostOctets = 1048576
 
 -- the last event of a code that comes n times behind the event e, up to the first that is refused
 unfoldable pub repeated : ℕ → ℕ → Event → Event
@@ -30,9 +34,9 @@ unfoldable pub linesOf : List ℕ → List (List ℕ)
 linesOf [] = []
 linesOf (o ∷ os) = cond (eqb o 10) ([] ∷ linesOf os) (onto o (linesOf os))
 
--- how a log ended: with this answer, on this line, and the story there
+-- how a log ended, where all of its story could be written: with this answer, on this line, and the story there
 abbrev pub ending : ℕ → ℕ → Story → Ending
-ending n line s = record { answer = n; line = line; story = s }
+ending n line s = record { written = true; answer = n; line = line; story = s }
 
 -- how it ends from the line number n on: with 0 behind the last line, or on the first that is refused
 unfoldable pub endingFrom : ℕ → Story → List (List ℕ) → Ending

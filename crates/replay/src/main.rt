@@ -1,11 +1,13 @@
 // The start-up replayer: tells the story of a log on standard input. What a line says is crate log's, what happened crate story's,
 // and its text crate storytext's; here they are only read, looped over and written.
 //
-//     replay ltu|ntu [SILENCE] < LOG
+//     replay [--status] ltu|ntu [SILENCE] < LOG
 ghost use mathlib.Core.Path.{_≡_};
-ghost use Prim.Native.Nat.{_≤_};
+ghost use mathlib.Core.Bool.{true};
+ghost use Prim.Native.Nat.{_+_, _≤_};
 ghost use lib.ListN.{length};
-ghost use Rattle.replay.specs.Replay.{followed, linesOf, endingFrom};
+ghost use Rattle.replay.specs.Replay.{mostOctets, followed, linesOf, endingFrom};
+use libc::STDERR_FILENO;
 use libc::STDIN_FILENO;
 use libc::STDOUT_FILENO;
 use log::Line;
@@ -16,33 +18,84 @@ use supervisor::Supervisor;
 
 // The most octets that a log may have.
 const MOST: usize = 1048576;
+// One more is read, so that a longer log shows.
+const READ: usize = 1048577;
+// One more than can be read: a read failed.
+const FAILED: usize = 1048578;
+// Room for every line (storytext's theorems on what fits).
+const ROOM: usize = 320;
+// What no end and no silence is.
+const NO_END: u32 = 2;
 
-// Writes the line of an event, unless there is nothing to tell. 192 octets are room for every line (storytext's theorems on what fits).
-fn tell(event: Event) {
-    if event.kind == kind::NOTHING {
-        return;
-    }
-    let mut room = [0u8; 192];
-    let n = storytext::put_event(&mut room, event);
-    io::write_all(STDOUT_FILENO, &room[..n]);
+const NO_SILENCE: u32 = 1;
+// Where the status goes that --status asks for.
+const STATUS_FILENO: i32 = 3;
+// The status: in data mode, not so, and what was no log at all.
+const DATA_MODE: u8 = b'0';
+
+const OTHER: u8 = b'1';
+
+const WRONG: u8 = b'2';
+
+// Says what failed, and why.
+fn fail(what: &[u8]) {
+    io::write_all(STDERR_FILENO, b"replay: ");
+    os::fail(what);
 }
 
-// Writes the line of the log's end.
-fn tell_end(story: Story) {
-    let mut room = [0u8; 192];
+// Writes to standard output, and answers whether it could; where not, says so.
+fn print(text: &[u8]) -> bool {
+    if io::write_all(STDOUT_FILENO, text) {
+        return true;
+    }
+    fail(b"standard output");
+    false
+}
+
+// Writes the line of an event, unless there is nothing to tell.
+fn tell(event: Event) -> bool {
+    if event.kind == kind::NOTHING {
+        return true;
+    }
+    let mut room = [0u8; ROOM];
+    let n = storytext::put_event(&mut room, event);
+    print(&room[..n])
+}
+
+// Writes the lines of the log's end, and answers the status.
+fn tell_end(story: Story) -> u8 {
+    let mut room = [0u8; ROOM];
     let n = storytext::put_end(&mut room, story);
-    io::write_all(STDOUT_FILENO, &room[..n]);
+    if !print(&room[..n]) {
+        return WRONG;
+    }
+    if storytext::in_data_mode(story) {
+        DATA_MODE
+    } else {
+        OTHER
+    }
 }
 
 // Writes the line of a refusal.
-fn tell_refused(answer: u32, line: u32) {
-    let mut room = [0u8; 192];
+fn tell_refused(answer: u32, line: u32) -> u8 {
+    let mut room = [0u8; ROOM];
     let n = storytext::put_refused(&mut room, answer, line);
-    io::write_all(STDOUT_FILENO, &room[..n]);
+    print(&room[..n]);
+    WRONG
 }
 
-// How a log ended: 0 at its end, or what refused a line of it.
+// What became of a line.
+struct Followed {
+    // Whether all of it could be written.
+    written: bool,
+    event: Event,
+}
+
+// How a log ended.
 struct Ending {
+    // Whether all of its story could be written.
+    written: bool,
+    // 0 at its end, or what refused a line of it.
     answer: u32,
     // The number of the line, the first being 1; behind the last one, one more.
     line: u32,
@@ -51,8 +104,8 @@ struct Ending {
 }
 
 // Tells the codes of a line, up to the first that is refused, and gives the last event; of a line without codes, one that tells nothing.
-fn follow(story: Story, said: Line) -> Event
-    ensures { λ r. ⌜ r ≡ followed story said ⌝ }
+fn follow(story: Story, said: Line) -> Followed
+    ensures { λ r. ⌜ (r .written ≡ true → r .event ≡ followed story said) ⌝ }
 {
     let code = said.code;
     let times = said.times;
@@ -69,28 +122,49 @@ fn follow(story: Story, said: Line) -> Event
         let so_far = event.story;
         event = so_far.step(code);
         if event.answer != answer::DONE {
-            return event;
+            return Followed {
+                written: true,
+                event,
+            };
         }
-        tell(event);
+        if !tell(event) {
+            return Followed {
+                written: false,
+                event,
+            };
+        }
         k += 1;
     }
-    event
+    Followed {
+        written: true,
+        event,
+    }
 }
 
-// Tells a log line by line, to its end or the first line that is refused.
+// Tells a log line by line, to its end, the first line that is refused or the first that cannot be written.
 fn replay(log: &[u8], begun: Story) -> Ending
-    requires { ⌜ length (now log) ≤ 1048576 ⌝ }
-    ensures { λ r. ⌜ r ≡ endingFrom 1 begun (linesOf (now (log .entry))) ⌝ }
+    requires { ⌜ length (now log) ≤ mostOctets ⌝ }
+    ensures { λ r. ⌜ (r .written ≡ true → r ≡ endingFrom 1 begun (linesOf (now (log .entry)))) ⌝ }
 {
     let mut story = begun;
     let mut line: u32 = 1;
     let mut at = 0;
     while at < log.len() {
         let end = log::line_end(log, at);
-        let event = follow(story, Line::read(&log[at..end]));
+        let followed = follow(story, Line::read(&log[at..end]));
+        let event = followed.event;
         let next = event.story;
+        if !followed.written {
+            return Ending {
+                written: false,
+                answer: answer::DONE,
+                line,
+                story: next,
+            };
+        }
         if event.answer != answer::DONE {
             return Ending {
+                written: true,
                 answer: event.answer,
                 line,
                 story: next,
@@ -101,6 +175,7 @@ fn replay(log: &[u8], begun: Story) -> Ending
         at = end + 1;
     }
     Ending {
+        written: true,
         answer: answer::DONE,
         line,
         story,
@@ -116,7 +191,7 @@ fn ended(octet: u8) -> u32
 
 // The number of the line that the last of these octets stands on.
 fn last_line(log: &[u8]) -> u32
-    requires { ⌜ length (now log) ≤ 1048577 ⌝ }
+    requires { ⌜ length (now log) ≤ mostOctets + 1 ⌝ }
 {
     let mut line: u32 = 1;
     let mut at = 1;
@@ -127,91 +202,294 @@ fn last_line(log: &[u8]) -> u32
     line
 }
 
-// Tells what was read. One octet more than a log may have shows that it is too long.
-fn tell_all(log: &[u8], begun: Event)
-    requires { ⌜ length (now log) ≤ 1048577 ⌝ }
-{
-    if MOST < log.len() {
-        tell_refused(answer::LENGTH, last_line(log));
-        return;
+// Tells what became of a log.
+fn tell_ending(ending: Ending) -> u8 {
+    if !ending.written {
+        return WRONG;
     }
-    tell(begun);
-    let ending = replay(log, begun.story);
     if ending.answer == answer::DONE {
-        tell_end(ending.story);
+        let story = ending.story;
+        tell_end(story)
     } else {
-        tell_refused(ending.answer, ending.line);
+        tell_refused(ending.answer, ending.line)
     }
 }
 
-// The end of this name; 2 for any other, which no start takes.
+// Tells what was read. One octet more than a log may have shows that it is too long.
+fn tell_all(log: &[u8], begun: Event) -> u8
+    requires { ⌜ length (now log) ≤ mostOctets + 1 ⌝ }
+{
+    if MOST < log.len() {
+        return tell_refused(answer::LENGTH, last_line(log));
+    }
+    if !tell(begun) {
+        return WRONG;
+    }
+    tell_ending(replay(log, begun.story))
+}
+
+// Reads up to 1,048,577 octets of standard input, and answers how many came; one more where a read fails.
+fn fill(octets: &mut [u8]) -> usize
+    requires { ⌜ length (now octets) ≡ mostOctets + 1 ⌝ }
+    ensures { λ r. ⌜ r ≤ mostOctets + 2 ⌝ }
+{
+    let mut n: usize = 0;
+    while n < READ {
+        let rest = &mut octets[n..];
+        let got = libc::read(STDIN_FILENO, rest);
+        if got < 0 {
+            return FAILED;
+        }
+        let m = io::count(got, rest);
+        if m == 0 {
+            return n;
+        }
+        n += m;
+    }
+    n
+}
+
+// Room for a log and one octet more. The proofs of its callers know its length alone, and never count it out.
+fn room() -> [u8; READ]
+    ensures { λ r. ⌜ mostOctets + 1 ≡ length r ⌝ }
+{
+    [0; READ]
+}
+
+// Tells the log on standard input.
+fn tell_input(begun: Event) -> u8 {
+    let mut log = room();
+    let n = fill(&mut log);
+    if READ < n {
+        fail(b"standard input");
+        return WRONG;
+    }
+    tell_all(&log[..n], begun)
+}
+
+// What the arguments ask for.
+struct Asked {
+    // options::WORD to tell a log, HELP or VERSION, or UNKNOWN for an argument that is wrong: the first of them counts.
+    what: u32,
+    // The place of the wrong argument.
+    at: usize,
+    // The places of the end's name and of the silence; 0 where there is none.
+    end: usize,
+    silence: usize,
+    // Whether the status is asked for.
+    status: bool,
+    // Whether -- has come.
+    ended: bool,
+}
+
+impl Asked {
+    // The same, asking for this.
+    fn asks(mut self, what: u32, at: usize) -> Asked {
+        if self.what == options::WORD {
+            self.what = what;
+            self.at = at;
+        }
+        self
+    }
+
+    // One word more: the end's name, then the silence.
+    fn word(mut self, at: usize) -> Asked {
+        if self.end == 0 {
+            self.end = at;
+            return self;
+        }
+        if self.silence == 0 {
+            self.silence = at;
+            return self;
+        }
+        self.asks(options::UNKNOWN, at)
+    }
+
+    // One option more.
+    fn option(mut self, option: u32, at: usize) -> Asked {
+        match option {
+            options::STATUS => {
+                self.status = true;
+                self
+            },
+            options::END => {
+                self.ended = true;
+                self
+            },
+            options::HELP => self.asks(options::HELP, 0),
+            options::VERSION => self.asks(options::VERSION, 0),
+            _ => self.asks(options::UNKNOWN, at),
+        }
+    }
+
+    // One argument more, which is this option.
+    fn with(self, option: u32, at: usize) -> Asked {
+        if self.ended {
+            return self.word(at);
+        }
+        if option == options::WORD {
+            self.word(at)
+        } else {
+            self.option(option, at)
+        }
+    }
+}
+
+// Which option argument i is. One that is too long to be one is a word.
+fn option_at(i: usize) -> u32 {
+    let mut word = io::buffer();
+    let n = os::arg(i, &mut word);
+    options::read(&word[..n])
+}
+
+// What all arguments ask for.
+fn arguments() -> Asked {
+    let count = os::arg_count();
+    let mut asked = Asked {
+        what: options::WORD,
+        at: 0,
+        end: 0,
+        silence: 0,
+        status: false,
+        ended: false,
+    };
+    let mut i = 1;
+    while i < count {
+        asked = asked.with(option_at(i), i);
+        i += 1;
+    }
+    asked
+}
+
+// The end of this name.
 fn end_named(word: &[u8]) -> u32 {
     if word.len() != 3 {
-        return 2;
+        return NO_END;
     }
     if word[1] != b't' {
-        return 2;
+        return NO_END;
     }
     if word[2] != b'u' {
-        return 2;
+        return NO_END;
     }
     match word[0] {
         b'l' => Supervisor::LTU,
         b'n' => Supervisor::NTU,
-        _ => 2,
+        _ => NO_END,
     }
 }
 
-// The end that the first argument names. More than two arguments name none.
-fn end_given() -> u32 {
-    if 3 < os::arg_count() {
-        return 2;
+// The end that argument i names; none where there is no such argument.
+fn end_at(i: usize) -> u32 {
+    if i == 0 {
+        return NO_END;
     }
-    let mut word = [0u8; 4];
-    let n = os::arg(1, &mut word);
+    let mut word = io::buffer();
+    let n = os::arg(i, &mut word);
     end_named(&word[..n])
 }
 
-// The silence that the second argument gives: 0, the default, where there is none; 1, which no start takes, where it is no number.
-fn silence_given() -> u32 {
-    if os::arg_count() < 3 {
+// The silence that argument i gives: 0, the default, where there is none.
+fn silence_at(i: usize) -> u32 {
+    if i == 0 {
         return 0;
     }
-    let mut word = [0u8; 16];
-    let n = os::arg(2, &mut word);
+    let mut word = io::buffer();
+    let n = os::arg(i, &mut word);
     let said = Line::counted(&word[..n]);
     if said.answer == answer::DONE {
         said.times
     } else {
-        1
+        NO_SILENCE
     }
 }
 
-// Room for a log and one octet more. The proofs of its callers know its length alone, and never count it out.
-fn room() -> [u8; 1048577]
-    ensures { λ r. ⌜ 1048577 ≡ length r ⌝ }
-{
-    [0; 1048577]
+// Says how the replayer is called.
+fn usage() -> u8 {
+    io::write_all(
+        STDERR_FILENO,
+        b"usage: replay [--status] ltu|ntu [SILENCE] < LOG\n",
+    );
+    WRONG
 }
 
-// The end and the silence are arguments, the log is standard input; the story goes to standard output.
-fn main() {
-    let begun = Story::start(end_given(), silence_given());
-    if begun.answer == answer::UNKNOWN {
+// Says that argument i is wrong.
+fn refuse(i: usize) -> u8 {
+    let mut word = io::buffer();
+    let n = os::arg(i, &mut word);
+    io::write_all(STDERR_FILENO, b"replay: wrong argument: ");
+    io::write_all(STDERR_FILENO, &word[..n]);
+    io::write_all(STDERR_FILENO, b"\n");
+    usage()
+}
+
+// Says why no card starts so.
+fn refuse_start(answer: u32) -> u8 {
+    if answer == answer::UNKNOWN {
+        io::write_all(STDERR_FILENO, b"replay: the end is ltu or ntu\n");
+    } else {
         io::write_all(
-            STDOUT_FILENO,
-            b"refused 2\nusage: replay ltu|ntu [SILENCE] < LOG\n",
+            STDERR_FILENO,
+            b"replay: the silence is 2000 to 60000 ticks\n",
         );
-        return;
     }
+    usage()
+}
+
+// Tells the log of a card with this end and silence.
+fn tell_card(end: u32, silence: u32) -> u8 {
+    let begun = Story::start(end, silence);
     if begun.answer != answer::DONE {
-        io::write_all(
-            STDOUT_FILENO,
-            b"refused 4\nusage: replay ltu|ntu [SILENCE] < LOG, SILENCE from 2000 to 60000\n",
-        );
-        return;
+        return refuse_start(begun.answer);
     }
-    let mut log = room();
-    let n = io::read_full(STDIN_FILENO, &mut log);
-    tell_all(&log[..n], begun);
+    tell_input(begun)
+}
+
+// The status of what had to be written and nothing else.
+fn done(written: bool) -> u8 {
+    if written { DATA_MODE } else { WRONG }
+}
+
+// How the replayer is called.
+fn help() -> u8 {
+    done(print(
+        b"usage: replay [--status] ltu|ntu [SILENCE] < LOG\n\
+              Tells the story of an SDSL start-up log: one code a line, 0 to 8; 0*300 is 300 ticks.\n\
+              The last line is the verdict. SILENCE is 2000 to 60000 ticks, and 2000 where it is not given.\n\
+              \x20 --status   writes a digit to descriptor 3: 0 the card is in data mode, 1 it is not,\n\
+              \x20            2 wrong use, or a log that is refused or cannot be read or told\n\
+              \x20 --version  prints the version\n\
+              \x20 --help     prints this\n",
+    ))
+}
+
+// The version.
+fn version() -> u8 {
+    if !print(b"sdsl-replay ") {
+        return WRONG;
+    }
+    if !print(&options::RELEASE) {
+        return WRONG;
+    }
+    done(print(b"\n"))
+}
+
+// Does what is asked, and answers the status.
+fn run(asked: Asked) -> u8 {
+    let what = asked.what;
+    match what {
+        options::HELP => help(),
+        options::VERSION => version(),
+        options::UNKNOWN => refuse(asked.at),
+        _ => tell_card(end_at(asked.end), silence_at(asked.silence)),
+    }
+}
+
+// Does as the arguments say.
+fn main() {
+    let asked = arguments();
+    let status = run(asked);
+    if asked.status {
+        io::write_all(STATUS_FILENO, &[status]);
+    }
 }

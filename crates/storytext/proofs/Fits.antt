@@ -18,7 +18,8 @@ use Rattle.story.specs.declared.Story.{Story}
 use Rattle.story.specs.declared.Event.{Event}
 use Rattle.storytext.specs.Texts.{attemptTicks, numbered, seconds, ticksText, reportName, nameOf, phaseText, shortName, verbOf, attemptText, codeText}
 use Rattle.storytext.specs.Texts.{whenText, eventText, lackOf, lackText, usedText, tryingText, inDataMode, lasts, restText, leftText, waitText}
-use Rattle.storytext.specs.Texts.{unheardText, nowText, howText, causeText, whyText, behindText, thenText, endedText, verdictText, endText, refusedText}
+use Rattle.storytext.specs.Texts.{unheardText, nowText, howText, causeText, whyText, behindText, thenText, endedText}
+use Rattle.storytext.specs.Texts.{verdictText, endText, reasonText, refusedText}
 
 -- ---- numbers
 
@@ -234,9 +235,14 @@ module _ (s : Story) (h : SmallStory s) where
   unfolding endText
   end-fits = simp length-append (omega (arith, ticks-length (s .clock) (h .clock), verdict-length))
 
+reason-length : (n : ℕ) → length (reasonText n) ≤ 64
+unfolding reasonText
+reason-length n =
+    either-length (eqb n 1) _ _ 64 (lit≤ tt) (either-length (eqb n 2) _ _ 64 (lit≤ tt) (either-length (eqb n 4) _ [] 64 (lit≤ tt) (lit≤ tt)))
+
 pub refused-fits : (n l : ℕ) → n < 2 ^ 32 → l < 2 ^ 32 → length (refusedText n l) ≤ 320
 unfolding refusedText
-refused-fits n l h i = simp length-append (omega (arith, number-length n h, number-length l i))
+refused-fits n l h i = simp length-append (omega (arith, number-length n h, number-length l i, reason-length n))
 
 -- what fits stands whole at the start of the room
 pub whole : (line room exit : List ℕ) (r : ℕ) → Put room 0 line r exit → length line ≤ 320 → 320 ≤ length room → take r exit ≡ line

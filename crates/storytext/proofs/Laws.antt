@@ -2,21 +2,22 @@
 use mathlib.Core.Path.{_≡_, refl, ap, _∙_}
 use mathlib.Core.Bool.{Bool, true, false, cond, _||_}
 use mathlib.Core.Logic.{_⊎_, inl, inr}
-use mathlib.Core.List.{List, [], _∷_, _++_, append-assoc}
+use mathlib.Core.List.{List, [], _∷_, _++_, append-nil, append-assoc}
 use Prim.Native.Nat.{ℕ, _-_, _/_, _%_}
 use native.Mathlib.Omega.{arith}
 use borrow.Author.Tests.{ne-eqb, lt-ltb, le-ltb}
 use lib.Dec.{eqb, ltb}
-use Rattle.ascii.specs.Text.{text}
+use Rattle.ascii.specs.Text.{text, decimal}
 use Rattle.forms.specs.Forms.{firstOf, formedBy, formed, rowBy, rowOf}
 use Rattle.forms.proofs.Laws.{each}
 use Rattle.supervisor.specs.declared.Supervisor.{Supervisor}
-use Rattle.storytext.specs.Texts.{seconds, reportName, nameOf, shortName, verbOf, lackOf, lackText, lasts, restText, leftText, waitText, refusedText}
+use Rattle.storytext.specs.Texts.{numbered, seconds, reportName, nameOf, shortName, verbOf, lackOf, lackText, lasts, restText, leftText}
+use Rattle.storytext.specs.Texts.{waitText, reasonText}
 
 -- ---- what is left of a phase outside an attempt
 
-pub left-some : (s : Supervisor) (l n : ℕ) → (s .phase ≡ 1) ⊎ ((s .phase ≡ 11) ⊎ (s .phase ≡ 13)) → l ≡ lasts (s .silence) (s .phase) → n ≡ l - s .ticks
-    → restText n ≡ leftText s
+pub left-some : (s : Supervisor) (l n : ℕ) → (s .phase ≡ 1) ⊎ ((s .phase ≡ 11) ⊎ (s .phase ≡ 13)) → l ≡ lasts (s .silence) (s .phase)
+    → n ≡ l - s .ticks → restText n ≡ leftText s
 unfolding leftText
 left-some s l n h q e = ap restText (e ∙ ap (λ (k : ℕ). k - s .ticks) q) ∙ go h
   where
@@ -173,12 +174,23 @@ wait-told =
     silent true = refl
     silent false = refl
 
+abbrev pub reasons : List ℕ
+reasons =
+    text "\n: the log has more than 1048576 octets\n: this line is no code\n\n"
+    ++ text ": no line counts so many ticks, or the log has over 1000000000\n"
+
+pub reason-told : (n : ℕ) → rowOf reasons (cond (ltb 4 n) 0 n) ≡ reasonText n
+unfolding rowOf rowBy reasonText
+reason-told =
+    each (λ (n : ℕ). rowOf reasons (cond (ltb 4 n) 0 n) ≡ reasonText n) 5 (refl, (refl, (refl, (refl, (refl, tt)))))
+    (λ n h. simp (lt-ltb 4 n h, ne-eqb n 1 (λ e. omega arith), ne-eqb n 2 (λ e. omega arith), ne-eqb n 4 (λ e. omega arith)))
+
 -- ---- forms with several numbers
 
 pub seconds-form : (t : ℕ) → formed (text "#.### s") (t / 1000 ∷ t / 100 % 10 ∷ t / 10 % 10 ∷ t % 10 ∷ []) ≡ seconds t
 unfolding formed formedBy firstOf seconds
 seconds-form t = simp append-assoc
 
-pub refused-form : (n l : ℕ) → formed (text "refused # at line #\n") (n ∷ l ∷ []) ≡ refusedText n l
-unfolding formed formedBy firstOf refusedText
-refused-form n l = simp append-assoc
+pub refused-form : (n l : ℕ) → formed (text "refused # at line #") (n ∷ l ∷ []) ≡ numbered "refused " n " at line " ++ decimal l
+unfolding formed formedBy firstOf
+refused-form n l = simp (append-assoc, append-nil)

@@ -1,3 +1,4 @@
 pub mod Laws
 pub mod Names
 pub mod Fits
+pub mod One

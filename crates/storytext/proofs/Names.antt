@@ -40,11 +40,13 @@ unfolding phaseText nameOf ruleText awaitsText reportName seconds decimal decima
 ltu-told silence = (refl, (refl, (refl, (refl, (refl, (refl, (refl, (refl, (refl, (exception-told 0 silence, tt))))))))))
 
 -- the row of a phase is among them
-pick : (end silence p : ℕ) (rs : List Row) → AllTold end silence rs → isOf p rs ≡ true → phaseText (inPhase end silence p) ≡ rowText (rowOf p rs)
+pick : (end silence p : ℕ) (rs : List Row) → AllTold end silence rs → isOf p rs ≡ true
+    → phaseText (inPhase end silence p) ≡ rowText (rowOf p rs)
 pick end silence p [] a h = absurd (false≢true h)
 pick end silence p (r ∷ rs) a h = go (eqb p (r .phase)) refl (pick end silence p rs (a .1)) h
   where
-    go : (b : Bool) → eqb p (r .phase) ≡ b → (isOf p rs ≡ true → phaseText (inPhase end silence p) ≡ rowText (rowOf p rs)) → (b || isOf p rs) ≡ true
+    go : (b : Bool) → eqb p (r .phase) ≡ b → (isOf p rs ≡ true → phaseText (inPhase end silence p) ≡ rowText (rowOf p rs))
+        → (b || isOf p rs) ≡ true
         → phaseText (inPhase end silence p) ≡ rowText (cond b r (rowOf p rs))
     go true q rest h = ap (λ (k : ℕ). phaseText (inPhase end silence k)) (eqb-true p (r .phase) q) ∙ a .0
     go false q rest h = rest h
@@ -67,7 +69,8 @@ told-by-row s h = let w = legal s h in go (s .end) (w .known) (w .of)
         (eq-or-lt-of-le k)
 
 -- and what is told as left of a phase outside an attempt is counted from its row's limit
-pub left-by-row : (s : Supervisor) → answer (stateRefusals s) ≡ 0 → (s .phase ≡ 1) ⊎ ((s .phase ≡ 11) ⊎ (s .phase ≡ 13)) → lasts (s .silence) (s .phase) ≡ here s .lasts
+pub left-by-row : (s : Supervisor) → answer (stateRefusals s) ≡ 0 → (s .phase ≡ 1) ⊎ ((s .phase ≡ 11) ⊎ (s .phase ≡ 13))
+    → lasts (s .silence) (s .phase) ≡ here s .lasts
 left-by-row s h = go (s .phase) (eqb (s .end) 1) (legal s h .of)
   where
     go : (p : ℕ) (b : Bool) → isOf p (cond b (ntu (s .silence)) (ltu (s .silence))) ≡ true → (p ≡ 1) ⊎ ((p ≡ 11) ⊎ (p ≡ 13))

@@ -227,6 +227,14 @@ verdictText s = cond (inAttempt (s .state .phase)) (tryingText s) (cond (eqb (s 
 unfoldable pub endText : Story → List ℕ
 endText s = text "end of log at tick " ++ ticksText (s .clock) ++ text "\n" ++ verdictText s ++ text "\n"
 
--- what is refused, and where
+-- why a log is refused
+unfoldable pub reasonText : ℕ → List ℕ
+reasonText n =
+    cond (eqb n 1) (text ": the log has more than 1048576 octets")
+    (cond (eqb n 2) (text ": this line is no code")
+    (cond (eqb n 4) (text ": no line counts so many ticks, or the log has over 1000000000")
+    []))
+
+-- what is refused, on which line of the log, and why
 unfoldable pub refusedText : ℕ → ℕ → List ℕ
-refusedText n l = numbered "refused " n " at line " ++ decimal l ++ text "\n"
+refusedText n l = numbered "refused " n " at line " ++ decimal l ++ reasonText n ++ text "\n"

@@ -8,7 +8,7 @@ ghost use Rattle.ascii.specs.Promises.{Put};
 ghost use Rattle.storytext.specs.Texts.{seconds, ticksText, reportName, nameOf, phaseText, shortName, verbOf, attemptText, codeText};
 ghost use Rattle.storytext.specs.Texts.{whenText, eventText, lackOf, lackText, usedText, tryingText, InDataMode, lasts, restText, leftText};
 ghost use Rattle.storytext.specs.Texts.{waitText, unheardText, nowText, howText, causeText, whyText, behindText, thenText, endedText};
-ghost use Rattle.storytext.specs.Texts.{verdictText, endText, refusedText};
+ghost use Rattle.storytext.specs.Texts.{verdictText, endText, reasonText, refusedText};
 use startup::Run;
 use story::Event;
 use story::Outcome;
@@ -483,9 +483,33 @@ pub fn put_end(room: &mut [u8], story: Story) -> usize
     ascii::put(room, at, b'\n')
 }
 
+// The row of a refusal's words: its number, and 0 for one that no log has.
+fn reason_row(answer: u32) -> u32
+    ensures { λ r. ⌜ r ≡ cond (ltb 4 answer) 0 answer ⌝ }
+{
+    if answer::RANGE < answer { 0 } else { answer }
+}
+
+// Why a log is refused.
+fn put_reason(room: &mut [u8], at: usize, answer: u32) -> usize
+    ensures { λ r. ⌜ Put (now (room .entry)) at (reasonText answer) r (now (room .exit)) ⌝ }
+{
+    forms::put_row(
+        room,
+        at,
+        b"\n\
+          : the log has more than 1048576 octets\n\
+          : this line is no code\n\n\
+          : no line counts so many ticks, or the log has over 1000000000\n",
+        reason_row(answer),
+    )
+}
+
 // The line of a refusal, with the number of the log's line that it stood on.
 pub fn put_refused(room: &mut [u8], answer: u32, line: u32) -> usize
     ensures { λ r. ⌜ Put (now (room .entry)) 0 (refusedText answer line) r (now (room .exit)) ⌝ }
 {
-    forms::put_form(room, 0, b"refused # at line #\n", &[answer, line])
+    let mut at = forms::put_form(room, 0, b"refused # at line #", &[answer, line]);
+    at = put_reason(room, at, answer);
+    ascii::put(room, at, b'\n')
 }

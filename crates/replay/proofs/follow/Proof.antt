@@ -1,6 +1,7 @@
 -- `replay::follow` meets its contract. After k turns the code has times - k turns to come.
 use borrow.Author.Needs.{needs}
 use mathlib.Core.Path.{_≡_, sym, _∙_}
+use mathlib.Core.Bool.{false≢true}
 use Prim.Native.Nat.{_+_, _-_, _≤_}
 use native.Mathlib.Omega.{arith}
 use native.Mathlib.Numerals.{unary-clauses}
@@ -22,10 +23,17 @@ step-requires : tie.Need-step-requires Inv-loop μ-loop
 step-requires c κs = search needs
 
 returns : tie.Need-returns Inv-loop μ-loop
-returns c = let a = c .before .before .before .before .before .before .args in let l = c .before .before .before .before .before .loop in repeat-stop (a .said .code) (a .said .times - l .k) (l .event) (c .before .before .step .result) (c .before .before .step .ensures) (c .if1 .taken) (omega arith) ∙ l .inv .1
+returns c =
+    let a = c .before .before .before .before .before .before .args in
+    let l = c .before .before .before .before .before .loop in
+    let s = c .before .before .step in
+    λ w. repeat-stop (a .said .code) (a .said .times - l .k) (l .event) (s .result) (s .ensures) (c .if1 .taken) (omega arith) ∙ l .inv .1
 
 tell-requires : tie.Need-tell-requires Inv-loop μ-loop
 tell-requires c κs = search needs
+
+returns-2 : tie.Need-returns-2 Inv-loop μ-loop
+returns-2 c = λ w. absurd (false≢true w)
 
 add-k : tie.Need-add-k Inv-loop μ-loop
 add-k c = omega arith
@@ -34,10 +42,20 @@ loop-less : tie.Need-loop-less Inv-loop μ-loop
 loop-less c = omega arith
 
 loop-again : tie.Need-loop-again Inv-loop μ-loop
-loop-again c = let a = c .before .before .before .before .before .before .before .args in let l = c .before .before .before .before .before .before .loop in (omega arith, repeat-more (a .said .code) (a .said .times - l .k) (a .said .times - (l .k + 1)) (l .event) (c .before .before .before .step .result) (c .before .before .before .step .ensures) (c .before .if1 .left) (omega arith) ∙ l .inv .1)
+loop-again c =
+    let a = c .before .before .before .before .before .before .before .before .args in
+    let l = c .before .before .before .before .before .before .before .loop in
+    let s = c .before .before .before .before .step in
+    let z = c .before .before .if1 .left in (
+      omega arith,
+      repeat-more (a .said .code) (a .said .times - l .k) (a .said .times - (l .k + 1)) (l .event) (s .result) (s .ensures) z (omega arith) ∙ l .inv .1,
+    )
 
-returns-2 : tie.Need-returns-2 Inv-loop μ-loop
-returns-2 c = let a = c .before .before .args in let l = c .before .loop in sym (repeat-none (a .said .code) (a .said .times - l .k) (l .event) (omega arith)) ∙ l .inv .1
+returns-3 : tie.Need-returns-3 Inv-loop μ-loop
+returns-3 c =
+    let a = c .before .before .args in
+    let l = c .before .loop in
+    λ w. sym (repeat-none (a .said .code) (a .said .times - l .k) (l .event) (omega arith)) ∙ l .inv .1
 
 pub follow-spec : {M : Type 1} → statement M
 follow-spec =
@@ -49,7 +67,8 @@ follow-spec =
     step-requires
     returns
     tell-requires
+    returns-2
     add-k
     loop-less
     loop-again
-    returns-2)
+    returns-3)

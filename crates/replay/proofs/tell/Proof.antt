@@ -1,8 +1,8 @@
 -- `replay::tell` is safe: the text lies within the room.
+use borrow.Author.Needs.{needs}
 use mathlib.Core.Path.{sym}
 use native.Mathlib.Omega.{arith}
 use lib.Seq.{length-take-le}
-use borrow.Author.Needs.{needs}
 use Rattle.replay.proofs.tell.Statement.{statement}
 use Rattle.replay.proofs.tell.Tie as tie
 
@@ -18,11 +18,13 @@ put-event-requires c κs = search needs
 array-share-prefix-room : tie.Need-array-share-prefix-room
 array-share-prefix-room c = search needs
 
-slice-aggregate-write-all : tie.Need-slice-aggregate-write-all
-slice-aggregate-write-all c = sym (length-take-le (c .before .before .put-event .result) (c .before .before .put-event .last .0) (omega (arith, c .before .before .put-event .ensures .behind, c .before .before .put-event .kept .0)))
+slice-aggregate-print : tie.Need-slice-aggregate-print
+slice-aggregate-print c =
+    let t = c .before .before .put-event in
+    sym (length-take-le (t .result) (t .last .0) (omega (arith, t .ensures .behind, t .kept .0)))
 
-write-all-requires : tie.Need-write-all-requires
-write-all-requires c κs = search needs
+print-requires : tie.Need-print-requires
+print-requires c κs = search needs
 
 returns-2 : tie.Need-returns-2
 returns-2 c = search needs
@@ -35,6 +37,6 @@ tell-spec =
     slice-aggregate-put-event
     put-event-requires
     array-share-prefix-room
-    slice-aggregate-write-all
-    write-all-requires
+    slice-aggregate-print
+    print-requires
     returns-2)

@@ -1,8 +1,8 @@
 -- `replay::tell_refused` is safe: the text lies within the room.
+use borrow.Author.Needs.{needs}
 use mathlib.Core.Path.{sym}
 use native.Mathlib.Omega.{arith}
 use lib.Seq.{length-take-le}
-use borrow.Author.Needs.{needs}
 use Rattle.replay.proofs.tell_refused.Statement.{statement}
 use Rattle.replay.proofs.tell_refused.Tie as tie
 
@@ -15,11 +15,13 @@ put-refused-requires c κs = search needs
 array-share-prefix-room : tie.Need-array-share-prefix-room
 array-share-prefix-room c = search needs
 
-slice-aggregate-write-all : tie.Need-slice-aggregate-write-all
-slice-aggregate-write-all c = sym (length-take-le (c .before .before .put-refused .result) (c .before .before .put-refused .last .0) (omega (arith, c .before .before .put-refused .ensures .behind, c .before .before .put-refused .kept .0)))
+slice-aggregate-print : tie.Need-slice-aggregate-print
+slice-aggregate-print c =
+    let t = c .before .before .put-refused in
+    sym (length-take-le (t .result) (t .last .0) (omega (arith, t .ensures .behind, t .kept .0)))
 
-write-all-requires : tie.Need-write-all-requires
-write-all-requires c κs = search needs
+print-requires : tie.Need-print-requires
+print-requires c κs = search needs
 
 returns : tie.Need-returns
 returns c = search needs
@@ -31,6 +33,6 @@ tell-refused-spec =
     slice-aggregate-put-refused
     put-refused-requires
     array-share-prefix-room
-    slice-aggregate-write-all
-    write-all-requires
+    slice-aggregate-print
+    print-requires
     returns)
