@@ -41,8 +41,11 @@ abbrev pub absent : Bool → ℕ
 absent given = cond given noWord noCustomer
 
 -- how many octets a file has; more than a frame has are counted as one more
+abbrev pub mostOctets : ℕ
+mostOctets = 530
+
 abbrev pub octetsOf : List ℕ → ℕ
-octetsOf file = min (length file) (suc frameOctets)
+octetsOf file = min (length file) mostOctets
 
 -- a file of so many octets, refused with n: every other number is 0, and vendor data too
 abbrev pub refusedVerdict : ℕ → ℕ → Customer → Verdict
