@@ -1,7 +1,7 @@
 -- The texts fit the program's rooms, so that nothing is cut there. Assumes nothing.
 use mathlib.Core.Path.{_≡_, refl, ap}
 use mathlib.Core.Bool.{Bool, true, false, cond}
-use mathlib.Core.List.{List, [], _∷_, _++_}
+use mathlib.Core.List.{List, [], _∷_}
 use Prim.Native.Nat.{ℕ, zero, suc, _+_, _*_, _≤_, _<_}
 use native.Mathlib.Omega.{arith}
 use lib.Dec.{eqb, ltb, lit≤}
@@ -161,6 +161,37 @@ line-fits name frame k = go (answer (checkRefusals frame)) (within frame k)
 
 pub unread-fits : (name : List ℕ) (k : Customer) → length (cardLine name (refusedVerdict unreadable 0 k)) ≤ length name + 900
 unread-fits name k = line-length name (refusedVerdict unreadable 0 k) (lit≤ tt) (lit≤ tt) none-length
+
+-- ---- a reference that does not serve
+
+octets-small : (n o : ℕ) (bits : List ℕ) (k : Customer) → o ≤ 530 → judged n o bits k .octets ≤ 530
+unfolding judged
+octets-small zero o bits k h = pick (hasSync trainingSync bits)
+  where
+    pick : (t : Bool) → cond t (trainingVerdict o bits k) (finalVerdict o bits k) .octets ≤ 530
+    pick true = h
+    pick false = h
+octets-small (suc n) o bits k h = h
+
+reference-length : (name : List ℕ) (v : Verdict) → v .rank ≤ good → v .octets ≤ 530 → length (referenceLine name v) ≤ length name + 600
+unfolding referenceLine
+reference-length name v r o =
+    simp length-append (omega (arith, shown-length name, words-length (cond (eqb (v .rank) good) finalFrame (v .rank)) (v .octets) small (omega arith)))
+  where
+    either : (b : Bool) → cond b finalFrame (v .rank) < 10000000
+    either true = lit≤ tt
+    either false = omega arith
+
+    small : cond (eqb (v .rank) good) finalFrame (v .rank) < 10000000
+    small = either (eqb (v .rank) good)
+
+pub reference-fits : (name frame : List ℕ) (k : Customer) → length (referenceLine name (verdictOf frame k)) ≤ length name + 600
+unfolding verdictOf
+reference-fits name frame k =
+    reference-length name (verdictOf frame k) (within frame k) (octets-small (answer (checkRefusals frame)) (octetsOf frame) (bitsOf frame) k (omega arith))
+
+pub no-reference-fits : (name : List ℕ) (k : Customer) → length (referenceLine name (refusedVerdict unreadable 0 k)) ≤ length name + 600
+no-reference-fits name k = reference-length name (refusedVerdict unreadable 0 k) (lit≤ tt) (lit≤ tt)
 
 pub heading-fits : (given : Bool) → length (heading given) ≤ 128
 unfolding heading

@@ -74,6 +74,7 @@ heading given =
 unfoldable pub csvOctet : ℕ → List ℕ
 csvOctet o = cond (eqb o 9) (text "\",\"") (cond (eqb o 10) (text "\"\r\n") (cond (eqb o 34) (text "\"\"") (o ∷ [])))
 
+-- all its octets
 unfoldable pub csvOctets : List ℕ → List ℕ
 csvOctets [] = []
 csvOctets (o ∷ os) = csvOctet o ++ csvOctets os

@@ -8,16 +8,19 @@ use Rattle.forms.specs.Forms.{formed, rowOf}
 use Rattle.verdict.specs.Ranks.{cannotBeRead, lastRefusal, wrongLength}
 use Rattle.layout.specs.Places.{frameLength}
 
--- the row of a verdict: cannot be read, 0; refused with any answer, 1; then the others as they are numbered
+-- the row of all refusals
 abbrev pub refusedRow : ℕ
 refusedRow = 1
 
+-- the row of a verdict: cannot be read, 0; refused with any answer; then the others as they are numbered
 abbrev pub rowOfRank : ℕ → ℕ
 rowOfRank n = cond (eqb n cannotBeRead) 0 (cond (ltb lastRefusal n) (n - lastRefusal + refusedRow) refusedRow)
 
+-- the verdicts' names; a refusal's number and reason follow
 abbrev pub names : List ℕ
 names = text "cannot be read\nrefused \nfinal frame\nTURNED\nother words\nmatch\ngood\n"
 
+-- what to do about each
 abbrev pub todos : List ℕ
 todos =
     text "check the file\ndo not ship; capture its frame again\ncapture its training frame; this one has no A and B\n"
@@ -39,7 +42,7 @@ refusal n = formed (text "#: ") (n ∷ []) ++ rowOf reasons n
 unfoldable pub nameOf : ℕ → List ℕ
 nameOf n = rowOf names (rowOfRank n) ++ cond (eqb (rowOfRank n) refusedRow) (refusal n) []
 
--- what to do
+-- what to do with a card
 unfoldable pub todo : ℕ → List ℕ
 todo n = rowOf todos (rowOfRank n)
 

@@ -348,7 +348,7 @@ fn sort(files: &[usize], csv: bool, customer: verdict::Customer) -> u32
     totals::status(customer.given, ranks)
 }
 
-// Says what a reference that does not serve is found to be.
+// Says what a reference that does not serve is found to be (cardline's theorem reference-fits).
 fn refer(name: &[u8], v: verdict::Verdict) -> u32 {
     let mut room = [0u8; 8192];
     let n = cardline::reference(name, v, &mut room);

@@ -1,15 +1,15 @@
 -- The totals fit the program's room, so that nothing is cut there. Assumes nothing.
 use mathlib.Core.Bool.{Bool, true, false}
 use mathlib.Core.List.{List, [], _∷_}
-use Prim.Native.Nat.{ℕ, zero, suc, _+_, _-_, _*_, _≤_, _<_}
+use Prim.Native.Nat.{ℕ, zero, suc, _-_, _*_, _≤_, _<_}
 use native.Mathlib.Omega.{arith}
 use lib.Dec.{eqb, lit≤}
 use lib.ListN.{length, length-append}
 use Rattle.ascii.specs.Text.{text}
 use Rattle.ascii.proofs.Numbers.{decimal-length}
 use Rattle.forms.specs.Forms.{firstOf, formedBy, formed}
-use Rattle.verdict.specs.Ranks.{good}
-use Rattle.cardline.specs.Words.{rowOfRank, refusedRow, nameOf, todo}
+use Rattle.verdict.specs.Ranks.{verdicts}
+use Rattle.cardline.specs.Words.{rowOfRank, refusedRow}
 use Rattle.cardline.proofs.Fits.{cond-length, name-length, todo-length}
 use Rattle.totals.specs.Totals.{howMany, fine, written, cardsText, fineText, firstLine, joint, verdictLine, verdictLines, allFine, notText}
 use Rattle.totals.specs.Totals.{lastLine, totalsText}
@@ -81,4 +81,4 @@ pub totals-fit : (given : Bool) (ranks : List ℕ) → length (totalsText given 
 unfolding totalsText
 totals-fit given ranks =
     simp length-append
-    (omega (arith, first-length given ranks, lines-length (suc good) ranks (lit≤ tt), last-length given (allFine given ranks)))
+    (omega (arith, first-length given ranks, lines-length verdicts ranks (lit≤ tt), last-length given (allFine given ranks)))

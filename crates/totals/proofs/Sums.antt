@@ -2,11 +2,11 @@
 use mathlib.Core.Path.{_≡_, refl, ap, _∙_}
 use mathlib.Core.Bool.{Bool}
 use mathlib.Core.List.{List, [], _∷_}
-use Prim.Native.Nat.{ℕ, suc, _+_, _-_, _≤_, _<_}
+use Prim.Native.Nat.{ℕ, suc, _+_, _-_, _≤_}
 use native.Mathlib.Omega.{arith}
 use lib.ListN.{length}
 use Rattle.verdict.specs.declared.Customer.{Customer}
-use Rattle.verdict.specs.Ranks.{good, unreadable}
+use Rattle.verdict.specs.Ranks.{good, verdicts, unreadable}
 use Rattle.verdict.specs.Verdict.{refusedVerdict, verdictOf}
 use Rattle.verdict.proofs.Ranks.{within, unread-within}
 use Rattle.totals.specs.Totals.{howMany, fine}
@@ -30,7 +30,7 @@ rank-within : (k : Customer) (c : Card) → rankOf k c ≤ good
 rank-within k (read frame) = within frame k
 rank-within k unread = unread-within k
 
-below : (k : Customer) (cs : List Card) → AllBelow (suc good) (ranksOf k cs)
+below : (k : Customer) (cs : List Card) → AllBelow verdicts (ranksOf k cs)
 below k [] = tt
 below k (c ∷ cs) = (omega (arith, rank-within k c), below k cs)
 
@@ -39,8 +39,8 @@ ranks-length k [] = refl
 ranks-length k (c ∷ cs) = ap suc (ranks-length k cs)
 
 -- the counts of the lines, verdict by verdict, are all the cards: every card is counted in one line, and in one only
-pub lines-add-up : (k : Customer) (cs : List Card) → countedBelow (suc good) (ranksOf k cs) ≡ length cs
-lines-add-up k cs = all-counted (suc good) (ranksOf k cs) (below k cs) ∙ ranks-length k cs
+pub lines-add-up : (k : Customer) (cs : List Card) → countedBelow verdicts (ranksOf k cs) ≡ length cs
+lines-add-up k cs = all-counted verdicts (ranksOf k cs) (below k cs) ∙ ranks-length k cs
 
 -- so are the two counts of the first line
 pub first-adds-up : (given : Bool) (k : Customer) (cs : List Card)

@@ -5,9 +5,9 @@ use mathlib.Core.List.{List, [], _∷_, _++_}
 use Prim.Native.Nat.{ℕ, zero, suc, _+_, _-_, min}
 use lib.Dec.{eqb, ltb}
 use lib.ListN.{length}
-use Rattle.ascii.specs.Text.{text, decimal}
+use Rattle.ascii.specs.Text.{text}
 use Rattle.forms.specs.Forms.{formed}
-use Rattle.verdict.specs.Ranks.{cannotBeRead, matching, good}
+use Rattle.verdict.specs.Ranks.{cannotBeRead, matching, good, verdicts}
 use Rattle.cardline.specs.Words.{rowOfRank, refusedRow, nameOf, todo}
 
 -- how many verdicts of a list are x
@@ -23,6 +23,7 @@ fine given = cond given matching good
 abbrev pub mostWritten : ℕ
 mostWritten = 4294967295
 
+-- a count as it is written
 abbrev pub written : ℕ → ℕ
 written n = min n mostWritten
 
@@ -56,16 +57,17 @@ verdictLines (suc n) ranks = verdictLines n ranks ++ verdictLine n (howMany n ra
 abbrev pub allFine : Bool → List ℕ → Bool
 allFine given ranks = eqb (howMany (fine given) ranks) (length ranks)
 
--- the last line: "all match", "not all match", and with no customer "all good", "not all good"
+-- the last line's first word, where not every card is fine
 unfoldable pub notText : Bool → List ℕ
 notText all = cond all [] (text "not ")
 
+-- the last line: "all match", "not all match", and with no customer "all good", "not all good"
 unfoldable pub lastLine : Bool → Bool → List ℕ
 lastLine given all = notText all ++ cond given (text "all match\n") (text "all good\n")
 
 -- the totals
 unfoldable pub totalsText : Bool → List ℕ → List ℕ
-totalsText given ranks = firstLine given ranks ++ verdictLines (suc good) ranks ++ lastLine given (allFine given ranks)
+totalsText given ranks = firstLine given ranks ++ verdictLines verdicts ranks ++ lastLine given (allFine given ranks)
 
 -- the digit that says how it went: 0 every card is fine, 1 not, 2 where a file cannot be read
 unfoldable pub statusOf : Bool → List ℕ → ℕ

@@ -3,6 +3,7 @@ ghost use mathlib.Core.Path.{_≡_};
 ghost use mathlib.Core.Bool.{cond};
 ghost use lib.Dec.{eqb};
 ghost use Rattle.ascii.specs.Promises.{Put};
+ghost use Rattle.verdict.specs.Ranks.{verdicts};
 ghost use Rattle.totals.specs.Totals.{howMany, fine as fineOf, written as writtenOf, cardsText, fineText, firstLine};
 ghost use Rattle.totals.specs.Totals.{joint, verdictLine, verdictLines, allFine, notText, lastLine};
 ghost use Rattle.totals.specs.Promises.{Totalled, IsStatus};
@@ -121,7 +122,7 @@ fn put_line(room: &mut [u8], at: usize, rank: u32, count: usize) -> usize
 
 // A line for each verdict that a card has.
 fn put_lines(room: &mut [u8], at: usize, ranks: &[u32]) -> usize
-    ensures { λ r. ⌜ Put (now (room .entry)) at (verdictLines 21 (now (ranks .entry))) r (now (room .exit)) ⌝ }
+    ensures { λ r. ⌜ Put (now (room .entry)) at (verdictLines verdicts (now (ranks .entry))) r (now (room .exit)) ⌝ }
 {
     let mut next = at;
     let mut n: u32 = 0;

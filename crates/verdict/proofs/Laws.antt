@@ -19,7 +19,8 @@ use Rattle.reader.proofs.Given.{found, found-is, none-applies, coefficients-are
 use Rattle.verdict.specs.declared.Customer.{Customer}
 use Rattle.verdict.specs.declared.Verdict.{Verdict}
 use Rattle.verdict.specs.Ranks.{trainingRank, finalRank}
-use Rattle.verdict.specs.Verdict.{lastFirst, likeOf, absent, octetsOf, refusedVerdict, trainingBy, trainingVerdict, finalBy, finalVerdict, judged, verdictOf}
+use Rattle.verdict.specs.Verdict.{lastFirst, likeOf, absent, octetsOf, refusedVerdict, trainingBy, trainingVerdict, finalBy, finalVerdict}
+use Rattle.verdict.specs.Verdict.{judged, verdictOf}
 use Rattle.verdict.specs.Verdict.{nobody, customerBy, customerOf}
 
 -- ---- a word beside the customer's

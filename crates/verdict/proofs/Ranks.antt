@@ -1,5 +1,5 @@
 -- Every card has one verdict, and what a match and a refusal mean. Assumes nothing.
-use mathlib.Core.Path.{_≡_, refl, sym, ap, _∙_}
+use mathlib.Core.Path.{_≡_, refl, ap, _∙_}
 use mathlib.Core.Bool.{Bool, true, false, cond, _&&_, _||_}
 use mathlib.Core.List.{List, [], _∷_}
 use Prim.Native.Nat.{ℕ, zero, suc, _≤_}
@@ -12,7 +12,6 @@ use Rattle.layout.specs.Places.{aField, bField}
 use Rattle.layout.specs.Frame.{trainingSync, fieldOf}
 use Rattle.layout.specs.Refusals.{hasSync, checkRefusals}
 use Rattle.verdict.specs.declared.Customer.{Customer}
-use Rattle.verdict.specs.declared.Verdict.{Verdict}
 use Rattle.verdict.specs.Ranks.{sameWord, lastRefusal, finalFrame, matching, good, unreadable, refusedRank, trainingRank, finalRank}
 use Rattle.verdict.specs.Verdict.{lastFirst, likeOf, octetsOf, refusedVerdict, trainingVerdict, finalVerdict, judged, verdictOf}
 

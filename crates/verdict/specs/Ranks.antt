@@ -56,6 +56,10 @@ matching = 19
 abbrev pub good : ℕ
 good = 20
 
+-- how many verdicts there are
+abbrev pub verdicts : ℕ
+verdicts = 21
+
 -- the answer that stands for a file that cannot be read: past the last that any refusal may have
 abbrev pub unreadable : ℕ
 unreadable = 255

@@ -29,9 +29,13 @@ likeOf given x y = cond given (cond (eqb x y) sameWord (cond (eqb x (lastFirst y
 abbrev pub absent : Bool → ℕ
 absent given = cond given noWord noCustomer
 
+-- one octet more than a frame has
+abbrev pub mostOctets : ℕ
+mostOctets = suc frameLength
+
 -- how many octets a file has; more than a frame has are counted as one more
 abbrev pub octetsOf : List ℕ → ℕ
-octetsOf file = min (length file) (suc frameLength)
+octetsOf file = min (length file) mostOctets
 
 -- a file of so many octets, refused with n: every other number is 0, and vendor data too
 abbrev pub refusedVerdict : ℕ → ℕ → Customer → Verdict

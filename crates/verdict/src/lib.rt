@@ -2,7 +2,7 @@
 ghost use mathlib.Core.Path.{_≡_};
 ghost use Prim.Native.Nat.{min};
 ghost use Rattle.verdict.specs.Ranks.{refusedRank, trainingRank, finalRank};
-ghost use Rattle.verdict.specs.Verdict.{likeOf, absent, refusedVerdict};
+ghost use Rattle.verdict.specs.Verdict.{likeOf, absent, mostOctets, refusedVerdict};
 ghost use Rattle.verdict.specs.Promises.{Judged, Unread, IsCustomer, IsNobody};
 
 // The customer's words A and B, where a reference frame is given.
@@ -120,7 +120,7 @@ fn final_rank(given: bool) -> u32
 
 // How many octets a file has, as they are counted.
 fn counted(n: usize) -> u32
-    ensures { λ r. ⌜ r ≡ min n 530 ⌝ }
+    ensures { λ r. ⌜ r ≡ min n mostOctets ⌝ }
 {
     if n < MOST_OCTETS {
         n as u32

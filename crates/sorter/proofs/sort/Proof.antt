@@ -1,7 +1,6 @@
 -- `sorter::sort` is safe: there is a verdict for each card.
 use borrow.Author.Needs.{needs}
 use mathlib.Core.Path.{sym}
-use native.Mathlib.Omega.{arith}
 use lib.ListN.{length}
 use lib.Seq.{length-take-le}
 use Rattle.sorter.proofs.sort.Statement.{statement}

@@ -1,10 +1,6 @@
 -- `totals::put_joint` meets its contract.
 use borrow.Author.Needs.{needs}
-use mathlib.Core.Path.{_≡_}
-use native.Mathlib.Omega.{arith}
-use borrow.Author.Tests.{eq-eqb, ne-eqb, lt-ltb, le-ltb}
 use Rattle.ascii.proofs.Room.{put-as}
-use Rattle.totals.specs.Totals.{joint}
 use Rattle.totals.proofs.Counting.{unread-joint, later-joint, refused-joint}
 use Rattle.totals.proofs.put_joint.Statement.{statement}
 use Rattle.totals.proofs.put_joint.Tie as tie

@@ -5,16 +5,17 @@ use Prim.Native.Nat.{_-_, _≤_}
 use native.Mathlib.Omega.{arith}
 use Rattle.ascii.specs.Promises.{Put}
 use Rattle.ascii.proofs.Room.{put-none, put-more, put-as, put-length}
+use Rattle.verdict.specs.Ranks.{verdicts}
 use Rattle.totals.specs.Totals.{verdictLine, verdictLines}
 use Rattle.totals.proofs.Counting.{lines-none, lines-next}
 use Rattle.totals.proofs.put_lines.Statement.{statement}
 use Rattle.totals.proofs.put_lines.Tie as tie
 
 abbrev Inv-loop : tie.InvT-loop
-Inv-loop room₀ at ranks next₀ n₀ room next n = (n ≤ 21) × Put room₀ at (verdictLines n ranks) next room
+Inv-loop room₀ at ranks next₀ n₀ room next n = (n ≤ verdicts) × Put room₀ at (verdictLines n ranks) next room
 
 abbrev μ-loop : tie.MeasureT-loop
-μ-loop room₀ at ranks next₀ n₀ room next n = 21 - n
+μ-loop room₀ at ranks next₀ n₀ room next n = verdicts - n
 
 loop-holds : tie.Need-loop-holds Inv-loop μ-loop
 loop-holds c = let a = c .before .before .args in (omega arith, put-as (put-none (a .room .now) (a .at)) (lines-none (a .ranks .now)))
@@ -49,7 +50,7 @@ same-length c = put-length (verdictLines (c .before .loop .n) (c .before .before
 returns : tie.Need-returns Inv-loop μ-loop
 returns c =
     let l = c .before .loop in
-    let e : l .n ≡ 21 = omega arith in
+    let e : l .n ≡ verdicts = omega arith in
     put-as (l .inv .1) (ap (λ n. verdictLines n (c .before .before .before .before .args .ranks .now)) e)
 
 pub put-lines-spec : {M : Type 1} → statement M

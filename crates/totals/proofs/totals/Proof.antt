@@ -3,6 +3,7 @@ use borrow.Author.Needs.{needs}
 use mathlib.Core.Path.{ap}
 use mathlib.Core.List.{_++_}
 use Rattle.ascii.proofs.Room.{put-more, put-as, told}
+use Rattle.verdict.specs.Ranks.{verdicts}
 use Rattle.totals.specs.Totals.{firstLine, verdictLines, lastLine, totalsText}
 use Rattle.totals.proofs.totals.Statement.{statement}
 use Rattle.totals.proofs.totals.Tie as tie
@@ -32,7 +33,7 @@ returns c =
     let a = p15 .args in
     let r = a .ranks .now in
     let x = firstLine (a .given) r in
-    let y = verdictLines 21 r in
+    let y = verdictLines verdicts r in
     told (totalsText (a .given) r) (a .room .now) _ _
     (put-as
     (put-more (x ++ y) (lastLine (a .given) (p3 .all-fine .result))
