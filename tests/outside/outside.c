@@ -1,10 +1,15 @@
-/* Reads requests 'HEX AT BITS' from standard input, one a line, and prints the check bits of each as a number. */
+/*
+ * Reads requests 'HEX AT BITS' from standard input, one a line, and prints the check bits of each as a number; of a request
+ * 'HEX AT BITS GENERATOR DEGREE START' the remainder by that generator, behind that start.
+ */
 #include <stdint.h>
 #include <stdio.h>
 #include <stdlib.h>
 #include <string.h>
 
 uint32_t trial_check_bits(const uint8_t *octets, size_t len, size_t at, uint32_t bits);
+uint32_t trial_from_start(uint32_t generator, uint32_t degree, uint32_t start, const uint8_t *octets, size_t len, size_t at,
+                          uint32_t bits);
 
 static char line[1 << 16];
 static uint8_t octets[sizeof line / 2];
@@ -21,8 +26,12 @@ int main(void)
             octets[i] = (uint8_t)strtoul(two, NULL, 16);
         }
         size_t at = strtoull(rest, &rest, 10);
-        uint32_t bits = (uint32_t)strtoul(rest, NULL, 10);
-        printf("%u\n", (unsigned)trial_check_bits(octets, len, at, bits));
+        uint32_t bits = (uint32_t)strtoul(rest, &rest, 10);
+        unsigned generator, degree, start;
+        if (sscanf(rest, "%u %u %u", &generator, &degree, &start) == 3)
+            printf("%u\n", (unsigned)trial_from_start(generator, degree, start, octets, len, at, bits));
+        else
+            printf("%u\n", (unsigned)trial_check_bits(octets, len, at, bits));
     }
     return 0;
 }

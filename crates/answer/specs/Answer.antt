@@ -1,4 +1,4 @@
--- What comes back (SCOPE): a number from 0 to 8. Checks run in the order of these numbers, and the first that applies is answered.
+-- What comes back (SCOPE): a number of the table (Table.antt). Checks run in the order of these numbers, and the first that applies is answered.
 -- With any but 0 every other number returned is 0, a state comes back equal, and all lent memory holds what it held.
 use mathlib.Core.Bool.{Bool, true, cond, not, _&&_}
 use mathlib.Core.List.{List, [], _∷_}

@@ -1,5 +1,6 @@
 // For tests only: what tests/outside compares with numbers from outside and no card's host calls.
-ghost use Rattle.remainder.specs.Promises.{CheckBits};
+ghost use Rattle.answer.specs.Answer.{answer};
+ghost use Rattle.remainder.specs.Promises.{CheckBits, startRefusals, FromStart};
 
 // The check bits of any range of bits.
 #[no_mangle]
@@ -7,4 +8,21 @@ pub extern "C" fn trial_check_bits(s: &[u8], at: usize, n: u32) -> u32
     ensures { λ r. ⌜ CheckBits (now (s .entry)) at n r ⌝ }
 {
     remainder::check_bits(s, at, n)
+}
+
+// The remainder of any range of bits by any generator, behind any start; 0 where one is refused.
+#[no_mangle]
+pub extern "C" fn trial_from_start(
+    generator: u32,
+    degree: u32,
+    start: u32,
+    s: &[u8],
+    at: usize,
+    n: u32,
+) -> u32
+    ensures { λ r. ⌜ FromStart generator degree start (now (s .entry)) at n
+        (record { answer = answer (startRefusals generator degree start); remainder = r }) ⌝ }
+{
+    let left = remainder::from_start(generator, degree, start, s, at, n);
+    left.remainder
 }

@@ -129,6 +129,11 @@ digits-zero zero i = refl
 digits-zero (suc n) zero = refl
 digits-zero (suc n) (suc i) = digits-zero n i
 
+pub zeros-digits : (n : ℕ) → digitsOf n 0 ≡ replicate n 0
+unfolding digitsOf
+zeros-digits zero = refl
+zeros-digits (suc n) = ap (λ (l : List ℕ). 0 ∷ l) (zeros-digits n)
+
 -- ---- values
 
 pub value-digits : (w v : ℕ) → valueOf (digitsOf w v) ≡ v % 2 ^ w

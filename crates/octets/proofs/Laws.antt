@@ -13,9 +13,9 @@ use lib.Dec.{ltb}
 use lib.Pow.{pow-pos, shl-exact}
 use lib.Bits.{bitAnd, bitXor, differ, and-mask, xor-lt}
 use lib.ListN.{length, getD, take, drop, set, length-append, List·getD-append, List·getD-eq-default, length-set, length-take, length-drop, take-append-drop, drop-of-length-le}
-use lib.Seq.{getD-append-add, set-append-left, set-out, getD-set-other, getD-drop, getD-take, length-take-le, sets, length-sets, sets-eq, take-at, drop-at, take-suc, take-all}
+use lib.Seq.{getD-append-add, set-append-left, set-out, getD-set-other, getD-drop, getD-take, length-take-le, sets, length-sets, sets-eq, take-at, drop-at, take-suc, take-all, take-add, drop-drop}
 use Rattle.octets.specs.Bits.{digitsOf, valueOf, bitsOf, octetsOf, bitOf, part, laid}
-use Rattle.octets.proofs.Digits.{Bits, append-bits, take-bits, drop-bits, digits-length, digits-bits, digits-at, flip, digits-value, value-digits, value-part, value-next, value-grows}
+use Rattle.octets.proofs.Digits.{Bits, append-bits, take-bits, drop-bits, digits-length, digits-bits, digits-at, flip, digits-value, value-digits, value-part, value-append, value-grows}
 
 -- every element of s is an octet
 abbrev pub Octets : List ℕ → Type 0
@@ -287,21 +287,39 @@ module _ (source : List ℕ) (from n : ℕ) where
   pub part-past : (k : ℕ) → 8 * length source ≤ from + k → take k given ≡ given
   part-past k h = take-all k given (omega (arith, given-length))
 
--- ---- what a loop that looks for a 1 has seen: bits of value 0
+-- what is past the end is left out
+pub part-clipped : (s : List ℕ) (at n : ℕ) → part at (min n (8 * length s - at)) (bitsOf s) ≡ part at n (bitsOf s)
+part-clipped s at n =
+    let L = drop at (bitsOf s) in
+    let e : length L ≡ 8 * length s - at = length-drop at (bitsOf s) ∙ ap (λ (k : ℕ). k - at) (bits-length s) in
+    ap (λ (k : ℕ). take (min n k) L) (sym e) ∙ clip n L
+  where
+    clip : (n : ℕ) (l : List ℕ) → take (min n (length l)) l ≡ take n l
+    clip n l = pick (decLt (length l) n)
+      where
+        pick : Dec (length l < n) → take (min n (length l)) l ≡ take n l
+        pick (yes h) = take-all (min n (length l)) l (omega arith) ∙ sym (take-all n l (omega arith))
+        pick (no h) = let e : min n (length l) ≡ n = omega arith in ap (λ (k : ℕ). take k l) e
 
-module _ (s : List ℕ) (at : ℕ) where
-  pub clear-next : (k : ℕ) → valueOf (part at k (bitsOf s)) ≡ 0 → bitOf s (at + k) ≡ 0 → valueOf (part at (k + 1) (bitsOf s)) ≡ 0
-  clear-next k e z =
-      ap (λ (n : ℕ). valueOf (part at n (bitsOf s))) (add-one k)
-      ∙ value-next (drop at (bitsOf s)) k
-      ∙ ap₂ (λ (x y : ℕ). x * 2 ^ k + y) (getD-drop at (bitsOf s) k 0 ∙ z) e
-      ∙ omega arith
+-- ---- what a loop that looks for a 1 has seen: bits of value 0. The first k of n bits, and m more behind them
 
-  pub clear-not : (n k : ℕ) → k < n → (bitOf s (at + k) ≡ 0 → ⊥) → valueOf (part at n (bitsOf s)) ≡ 0 → ⊥
-  clear-not n k h z e =
+module _ (s : List ℕ) (at k m : ℕ) where
+  abbrev seen : List ℕ
+  seen = part at k (bitsOf s)
+
+  joined : valueOf (part at (k + m) (bitsOf s)) ≡ valueOf (part (at + k) m (bitsOf s)) * 2 ^ length seen + valueOf seen
+  joined =
+      ap valueOf (take-add k m (drop at (bitsOf s)) ∙ ap (λ (l : List ℕ). seen ++ take m l) (drop-drop k at (bitsOf s)))
+      ∙ value-append seen (part (at + k) m (bitsOf s))
+
+  pub clear-next : valueOf seen ≡ 0 → valueOf (part (at + k) m (bitsOf s)) ≡ 0 → valueOf (part at (k + m) (bitsOf s)) ≡ 0
+  clear-next e z = joined ∙ ap₂ (λ (x y : ℕ). x * 2 ^ length seen + y) z e ∙ omega arith
+
+  pub clear-not : (n : ℕ) → k + m ≤ n → (valueOf (part (at + k) m (bitsOf s)) ≡ 0 → ⊥) → valueOf (part at n (bitsOf s)) ≡ 0 → ⊥
+  clear-not n h z e =
       let L = drop at (bitsOf s) in
-      let g : valueOf (take (suc k) L) ≤ valueOf (take n L) = value-grows L (suc k) n h in
-      z (sym (getD-drop at (bitsOf s) k 0) ∙ none (getD L k 0) (2 ^ k) (valueOf (take k L)) (pow-pos k) (omega (arith, value-next L k)))
+      let g : valueOf (take (k + m) L) ≤ valueOf (take n L) = value-grows L (k + m) n h in
+      z (none (valueOf (part (at + k) m (bitsOf s))) (2 ^ length seen) (valueOf seen) (pow-pos (length seen)) (omega (arith, joined)))
     where
       none : (b p v : ℕ) → 0 < p → b * p + v ≡ 0 → b ≡ 0
       none zero p v h e = refl

@@ -226,18 +226,33 @@ pub fn put_bits(s: &mut [u8], at: usize, k: u32, n: u32, v: u64)
     put_word(s, i, y);
 }
 
+// How many of the n bits from place `from` on are there.
+fn there(s: &[u8], from: usize, n: u32) -> u32
+    ensures { λ r. ⌜ r ≡ min n (8 * length (now (s .entry)) - from) ⌝ }
+{
+    if n == 0 {
+        return 0;
+    }
+    if has(s, from, n - 1) {
+        return n;
+    }
+    if s.len() <= from / 8 {
+        return 0;
+    }
+    ((s.len() - from / 8) * 8 - from % 8) as u32
+}
+
 // The n bits from place `at` on become those of the source from place `from` on; past the source's end they stay.
 pub fn copy(s: &mut [u8], at: usize, source: &[u8], from: usize, n: u32)
     ensures { λ r. ⌜ Copied (now (s .entry)) at (now (source .entry)) from n (now (s .exit)) ⌝ }
 {
+    let all = there(source, from, n);
     let mut k: u32 = 0;
-    while k < n {
-        if !has(source, from, k) {
-            return;
-        }
-        let b = bit(source, from, k);
-        put_bit(s, at, k, b);
-        k += 1;
+    while k < all {
+        let m = taken(all - k);
+        let v = bits(source, from, k, m);
+        put_bits(s, at, k, m, v);
+        k += m;
     }
 }
 
@@ -247,8 +262,9 @@ pub fn clear(s: &mut [u8], at: usize, n: u32)
 {
     let mut k: u32 = 0;
     while k < n {
-        put_bit(s, at, k, 0);
-        k += 1;
+        let m = taken(n - k);
+        put_bits(s, at, k, m, 0);
+        k += m;
     }
 }
 
@@ -258,10 +274,11 @@ pub fn is_clear(s: &[u8], at: usize, n: u32) -> bool
 {
     let mut k: u32 = 0;
     while k < n {
-        if bit(s, at, k) != 0 {
+        let m = taken(n - k);
+        if bits(s, at, k, m) != 0 {
             return false;
         }
-        k += 1;
+        k += m;
     }
     true
 }

@@ -44,7 +44,8 @@ fn fourth(x: u64) -> u64
 // The word that stands for x 64 bits further on: what reaches over the word is left of it by the generator's fourth power, so by the
 // generator too.
 fn folded(x: u64) -> u64
-    ensures { λ r. ⌜ ((w : ℕ) → w < 2 ^ 64 → registerOf 16 generator 0 (digitsOf 64 x ++ digitsOf 64 w) ≡ registerOf 16 generator 0 (digitsOf 64 (bitXor r w))) ⌝ }
+    ensures { λ r. ⌜ ((w : ℕ) → w < 2 ^ 64
+        → registerOf 16 generator 0 (digitsOf 64 x ++ digitsOf 64 w) ≡ registerOf 16 generator 0 (digitsOf 64 (bitXor r w))) ⌝ }
 {
     let q = fourth(x);
     ((q >> 48) ^ (q >> 20)) ^ q

@@ -1,12 +1,12 @@
--- `octets::clear` meets its contract. After k turns k zeros are laid.
+-- `octets::clear` meets its contract. The first k bits are zero.
 use borrow.Author.Needs.{needs}
 use mathlib.Core.Path.{_≡_, ap, _∙_}
-use Prim.Native.Nat.{ℕ, _-_, _≤_}
+use Prim.Native.Nat.{ℕ, _+_, _-_, _≤_, min}
 use native.Mathlib.Omega.{arith}
 use lib.ListN.{length, replicate, length-replicate, replicate-append-replicate}
-use Rattle.octets.specs.Bits.{laid}
-use Rattle.octets.proofs.Digits.{zeros-bits}
-use Rattle.octets.proofs.Laws.{laid-none, laid-more, laid-length}
+use Rattle.octets.specs.Bits.{digitsOf, laid}
+use Rattle.octets.proofs.Digits.{zeros-bits, zeros-digits}
+use Rattle.octets.proofs.Laws.{laid-none, laid-next, laid-length}
 use Rattle.octets.proofs.clear.Statement.{statement}
 use Rattle.octets.proofs.clear.Tie as tie
 
@@ -19,22 +19,33 @@ abbrev μ-loop : tie.MeasureT-loop
 loop-holds : tie.Need-loop-holds Inv-loop μ-loop
 loop-holds c = let a = c .before .args in (omega arith, laid-none (a .s .now) (a .at) (λ i. omega (arith, c .slice-known .given i)))
 
-put-bit-requires : tie.Need-put-bit-requires Inv-loop μ-loop
-put-bit-requires c κs = search needs
+sub-taken : tie.Need-sub-taken Inv-loop μ-loop
+sub-taken c = omega arith
+
+taken-requires : tie.Need-taken-requires Inv-loop μ-loop
+taken-requires c κs = search needs
+
+put-bits-requires : tie.Need-put-bits-requires Inv-loop μ-loop
+put-bits-requires c κs = search needs
 
 add-k : tie.Need-add-k Inv-loop μ-loop
-add-k c = omega arith
+add-k c = omega (arith, c .before .before .before .before .taken .ensures)
 
 loop-less : tie.Need-loop-less Inv-loop μ-loop
-loop-less c = omega arith
+loop-less c = omega (arith, c .before .before .before .before .taken .ensures)
 
 loop-again : tie.Need-loop-again Inv-loop μ-loop
 loop-again c =
-    let a = c .before .before .before .before .before .before .before .args in
-    let l = c .before .before .before .before .before .loop in (
-      omega arith,
-      laid-more (a .s .now) (a .at) (replicate (l .k) 0) (l .k) 0 (zeros-bits (l .k)) (length-replicate (l .k) 0) (l .inv .1) (c .before .before .put-bit .ensures)
-          ∙ ap (laid (a .s .now) (a .at)) (replicate-append-replicate (l .k) 1 0),
+    let t = c .before .before .before .before in
+    let m = t .taken in
+    let l = t .before .before .loop in
+    let a = t .before .before .before .before .args in
+    let few : min (m .result) 56 ≡ m .result = omega (arith, m .ensures) in (
+      omega (arith, m .ensures),
+      laid-next (a .s .now) (a .at) (replicate (l .k) 0) (replicate (m .result) 0) (a .at + l .k) (zeros-bits (l .k))
+          (ap (λ (j : ℕ). a .at + j) (length-replicate (l .k) 0)) (l .inv .1)
+          (c .before .before .put-bits .ensures ∙ ap (laid (l .s) (a .at + l .k)) (ap (λ (j : ℕ). digitsOf j 0) few ∙ zeros-digits (m .result)))
+          ∙ ap (laid (a .s .now) (a .at)) (replicate-append-replicate (l .k) (m .result) 0),
     )
 
 same-length : tie.Need-same-length Inv-loop μ-loop
@@ -54,7 +65,9 @@ clear-spec =
     Inv-loop
     μ-loop
     loop-holds
-    put-bit-requires
+    sub-taken
+    taken-requires
+    put-bits-requires
     add-k
     loop-less
     loop-again
