@@ -18,7 +18,8 @@ use Rattle.ascii.specs.Plain.{textLength}
 use Rattle.ascii.proofs.Numbers.{decimal-length}
 use Rattle.ascii.proofs.Plainly.{text-within}
 use Rattle.ascii.proofs.Room.{told-whole}
-use Rattle.listing.specs.Words.{frameOctets, lengthWords, reasonWords, refusalWords, vendorWords, worded, wordsOf, Worded}
+use Rattle.layout.specs.Places.{frameLength}
+use Rattle.listing.specs.Words.{lengthWords, reasonWords, refusalWords, vendorWords, worded, wordsOf, Worded}
 
 either-length : (b : Bool) (x y : List ℕ) (n : ℕ) → length x ≤ n → length y ≤ n → length (cond b x y) ≤ n
 either-length true x y n h l = h
@@ -26,9 +27,9 @@ either-length false x y n h l = l
 
 length-words : (n : ℕ) → length (lengthWords n) ≤ 200
 unfolding lengthWords
-length-words n = go (ltb frameOctets n) refl
+length-words n = go (ltb frameLength n) refl
   where
-    go : (b : Bool) → ltb frameOctets n ≡ b
+    go : (b : Bool) → ltb frameLength n ≡ b
         → length (cond b (text "the file has more than 529 octets, a frame has 529: a file holds one frame; capture it again")
         (cond (eqb n 1) (text "the file has 1 octet, a frame has 529: it is cut short; capture it again")
         (text "the file has " ++ decimal n ++ text " octets, a frame has 529: it is cut short; capture it again")))
@@ -36,7 +37,7 @@ length-words n = go (ltb frameOctets n) refl
     go true q = lit≤ tt
     go false q =
         either-length (eqb n 1) _ _ 200 (lit≤ tt)
-        (simp length-append (omega (arith, decimal-length 2 n (omega (arith, ltb-false frameOctets n q)))))
+        (simp length-append (omega (arith, decimal-length 2 n (omega (arith, ltb-false frameLength n q)))))
 
 reason-words : (n : ℕ) → length (reasonWords n) ≤ 200
 unfolding reasonWords

@@ -13,14 +13,10 @@ use Rattle.ascii.specs.Text.{text, decimal}
 use Rattle.ascii.specs.Plain.{textLength}
 use Rattle.ascii.specs.Promises.{Told}
 
--- the octets of a frame
-abbrev pub frameOctets : ℕ
-frameOctets = 529
-
 -- a file of so many octets
 unfoldable pub lengthWords : ℕ → List ℕ
 lengthWords n =
-    cond (ltb frameOctets n) (text "the file has more than 529 octets, a frame has 529: a file holds one frame; capture it again")
+    cond (ltb frameLength n) (text "the file has more than 529 octets, a frame has 529: a file holds one frame; capture it again")
     (cond (eqb n 1) (text "the file has 1 octet, a frame has 529: it is cut short; capture it again")
     (text "the file has " ++ decimal n ++ text " octets, a frame has 529: it is cut short; capture it again"))
 

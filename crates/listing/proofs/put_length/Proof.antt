@@ -2,7 +2,8 @@
 use borrow.Author.Needs.{needs}
 use borrow.Author.Tests.{eq-eqb, ne-eqb, lt-ltb, le-ltb}
 use Rattle.forms.specs.Forms.{formed, formedBy, firstOf}
-use Rattle.listing.specs.Words.{frameOctets, lengthWords}
+use Rattle.layout.specs.Places.{frameLength}
+use Rattle.listing.specs.Words.{lengthWords}
 use Rattle.listing.proofs.put_length.Statement.{statement}
 use Rattle.listing.proofs.put_length.Tie as tie
 
@@ -20,7 +21,7 @@ unfolding lengthWords
 returns c =
     let b5 = c .before .before .before .before .before in
     let b7 = b5 .before .before in
-    simp (lt-ltb frameOctets (b7 .args .octets) (b5 .if1 .taken)) (c .before .before .put-word .ensures)
+    simp (lt-ltb frameLength (b7 .args .octets) (b5 .if1 .taken)) (c .before .before .put-word .ensures)
 
 slice-aggregate-put-word-2 : tie.Need-slice-aggregate-put-word-2
 slice-aggregate-put-word-2 c = search needs
@@ -38,7 +39,7 @@ returns-2 c =
     let b6 = b5 .before in
     let b8 = b6 .before .before in
     let n = b8 .args .octets in
-    simp (le-ltb frameOctets n (b6 .if1 .left), eq-eqb n 1 (b5 .if2 .taken)) (c .before .before .put-word2 .ensures)
+    simp (le-ltb frameLength n (b6 .if1 .left), eq-eqb n 1 (b5 .if2 .taken)) (c .before .before .put-word2 .ensures)
 
 slice-aggregate-put-form : tie.Need-slice-aggregate-put-form
 slice-aggregate-put-form c = search needs
@@ -62,7 +63,7 @@ returns-3 c =
     let b7 = b6 .before in
     let b9 = b7 .before .before in
     let n = b9 .args .octets in
-    simp (le-ltb frameOctets n (b7 .if1 .left), ne-eqb n 1 (b6 .if2 .left)) (c .before .before .put-form .ensures)
+    simp (le-ltb frameLength n (b7 .if1 .left), ne-eqb n 1 (b6 .if2 .left)) (c .before .before .put-form .ensures)
 
 pub put-length-spec : {M : Type 1} → statement M
 put-length-spec =
