@@ -7,6 +7,7 @@ use lib.Dec.{eqb, ltb}
 use lib.ListN.{length, take}
 use Rattle.answer.specs.Answer.{answer}
 use Rattle.octets.specs.Bits.{bitsOf}
+use Rattle.layout.specs.Places.{frameLength}
 use Rattle.layout.specs.Refusals.{checkRefusals}
 use Rattle.reader.specs.Promises.{vendorOctets}
 use Rattle.ascii.specs.Text.{text, decimal}
