@@ -43,7 +43,7 @@
 extern "C" {
 #endif
 
-#define SDSL_STACK_OCTETS 2048 /* the stack that a call takes, at most */
+#define SDSL_STACK_OCTETS 3072 /* the stack that a call takes, at most */
 
 /* What comes back. */
 enum sdsl_answer {

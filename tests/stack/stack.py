@@ -1,7 +1,7 @@
 """How much stack each exported function takes at most, read off the machine code of an archive.
 
-    stack.py OBJDUMP ARCHIVE           a line 'NAME OCTETS' for each global function
-    stack.py OBJDUMP ARCHIVE --table   the same as the rows of docs/PERFORMANCE.md
+    stack.py OBJDUMP ARCHIVE              a line 'NAME OCTETS' for each global function
+    stack.py OBJDUMP ARCHIVE --write PAGE  puts them into the table of docs/PERFORMANCE.md
 
 A function is walked from its first instruction along every jump, with the number of octets that lie between its caller's stack and the
 stack pointer; the return address counts. Wherever two ways meet, that number has to be the same. What a call takes is added to the depth
@@ -10,6 +10,7 @@ otherwise than by a constant, a call or jump whose target is not known, recursio
 
 Named and not counted: the C library's memcpy, memmove and memset (their return address is counted).
 """
+import pathlib
 import re
 import subprocess
 import sys
@@ -195,11 +196,15 @@ def main():
     if not reader.exported:
         sys.exit("stack.py: no function is exported")
     try:
-        for name in sorted(reader.exported):
-            taken = reader.stack(name)
-            print(f"| `{name}` | {taken} |" if sys.argv[3:] == ["--table"] else f"{name} {taken}")
+        taken = [(name, reader.stack(name)) for name in sorted(reader.exported)]
     except NotUnderstood as why:
         sys.exit(f"stack.py: {why}")
+    if len(sys.argv) == 5 and sys.argv[3] == "--write":
+        page = pathlib.Path(sys.argv[4])
+        rows = "".join(f"| `{name}` | {octets} |\n" for name, octets in taken)
+        page.write_text(re.sub(r"(?:^\| `sdsl_\w+` \| \d+ \|\n)+", rows, page.read_text(), flags=re.M))
+    else:
+        print("\n".join(f"{name} {octets}" for name, octets in taken))
 
 
 main()
