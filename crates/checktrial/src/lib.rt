@@ -12,7 +12,14 @@ pub extern "C" fn trial_check_bits(s: &[u8], at: usize, n: u32) -> u32
 
 // The remainder of any range of bits by any generator, behind any start; 0 where one is refused.
 #[no_mangle]
-pub extern "C" fn trial_from_start(generator: u32, degree: u32, start: u32, s: &[u8], at: usize, n: u32) -> u32
+pub extern "C" fn trial_from_start(
+    generator: u32,
+    degree: u32,
+    start: u32,
+    s: &[u8],
+    at: usize,
+    n: u32,
+) -> u32
     ensures { λ r. ⌜ FromStart generator degree start (now (s .entry)) at n
         (record { answer = answer (startRefusals generator degree start); remainder = r }) ⌝ }
 {
