@@ -1,6 +1,6 @@
 -- What each function of the crate promises: of its arguments, its result r and what lent octets hold at exit.
 use mathlib.Core.Path.{_≡_}
-use mathlib.Core.List.{List, reverse}
+use mathlib.Core.List.{List, _++_, reverse}
 use Prim.Native.Nat.{ℕ, _+_, _-_, _^_, min}
 use lib.IntN.{ℤ}
 use Rattle.octets.specs.Bits.{digitsOf, valueOf, bitsOf, part, laid}
@@ -21,6 +21,10 @@ SignedRead s at w r = r ≡ signedOf (min w 32) (valueOf (part at (min w 32) (bi
 -- put_signed_field
 abbrev pub SignedPut : List ℕ → ℕ → ℕ → ℤ → List ℕ → Type 0
 SignedPut s at w v exit = exit ≡ laid s at (digitsOf (min w 32) (twosOf (min w 32) v))
+
+-- put_signed_pair: two fields of w bits each, no more than 28, one behind the other
+abbrev pub SignedPairPut : List ℕ → ℕ → ℕ → ℤ → ℤ → List ℕ → Type 0
+SignedPairPut s at w a b exit = exit ≡ laid s at (digitsOf (min w 28) (twosOf (min w 28) a) ++ digitsOf (min w 28) (twosOf (min w 28) b))
 
 -- turned: the w low digits of v, the other end first
 abbrev pub Turned : ℕ → ℕ → ℕ → Type 0

@@ -3,7 +3,7 @@
 ghost use mathlib.Core.Path.{_≡_};
 ghost use Prim.Native.Nat.{_^_, _<_, _≤_, min};
 ghost use Rattle.octets.specs.Signed.{signedOf, twosOf};
-ghost use Rattle.bitfields.specs.Promises.{FieldRead, FieldPut, SignedRead, SignedPut, Turned, Behind};
+ghost use Rattle.bitfields.specs.Promises.{FieldRead, FieldPut, SignedRead, SignedPut, SignedPairPut, Turned, Behind};
 
 // The widest field.
 const WIDEST: u32 = 32;
@@ -70,6 +70,26 @@ pub fn put_signed_field(s: &mut [u8], at: usize, w: u32, v: i32)
     ensures { λ r. ⌜ SignedPut (now (s .entry)) at w v (now (s .exit)) ⌝ }
 {
     put_field(s, at, w, twos(v));
+}
+
+// The widest of two fields that are put at once.
+const NARROW: u32 = 28;
+
+// The width of each of two fields as it counts.
+fn narrow(w: u32) -> u32
+    ensures { λ r. ⌜ r ≡ min w 28 ⌝ }
+{
+    if w < NARROW { w } else { NARROW }
+}
+
+// Two fields of w bits each, one behind the other from place `at` on, in two's complement, at once: one load and one store for both.
+pub fn put_signed_pair(s: &mut [u8], at: usize, w: u32, first: i32, second: i32)
+    ensures { λ r. ⌜ SignedPairPut (now (s .entry)) at w first second (now (s .exit)) ⌝ }
+{
+    let n = narrow(w);
+    let low = (twos(first) as u64) % (1u64 << n);
+    let high = (twos(second) as u64) << n;
+    octets::put_bits(s, at, 0, n + n, high | low);
 }
 
 // The w low digits of v, the other end first.
