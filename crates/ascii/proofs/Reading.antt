@@ -93,7 +93,8 @@ decimal-is = by-tenths (λ n. Decimal n (decimal n)) small more
           some = omega arith;
           low = each-more (λ c. 48 ≤ c) [] (48 + n) (λ i l. absurd (omega arith)) (omega arith);
           high = each-more (λ c. c ≤ 57) [] (48 + n) (λ i l. absurd (omega arith)) (omega arith);
-          reads = reading-more 10 0 [] (48 + n) ∙ ap (λ (d : ℕ). reading 10 0 [] * 10 + digitOf d) (sym e) ∙ ap₂ (λ (x y : ℕ). x * 10 + y) reads-none (digit-back n (omega arith)) ∙ omega arith;
+          reads = reading-more 10 0 [] (48 + n) ∙ ap (λ (d : ℕ). reading 10 0 [] * 10 + digitOf d) (sym e) ∙ ap₂ (λ (x y : ℕ). x * 10 + y) reads-none
+              (digit-back n (omega arith)) ∙ omega arith;
           first = λ l. absurd (omega arith);
         })
 
@@ -207,5 +208,6 @@ unfolding hex reading
 hex-four c h =
     ap₂ (λ (x y : ℕ). ((x * 16 + y) * 16 + digitOf (digit (c % 256 / 16))) * 16 + digitOf (digit (c % 256 % 16)))
     (ap (λ (x : ℕ). 0 * 16 + x) (digit-back (c / 256 / 16) (omega arith))) (digit-back (c / 256 % 16) (omega arith))
-    ∙ ap₂ (λ (x y : ℕ). (((0 * 16 + c / 256 / 16) * 16 + c / 256 % 16) * 16 + x) * 16 + y) (digit-back (c % 256 / 16) (omega arith)) (digit-back (c % 256 % 16) (omega arith))
+    ∙ ap₂ (λ (x y : ℕ). (((0 * 16 + c / 256 / 16) * 16 + c / 256 % 16) * 16 + x) * 16 + y) (digit-back (c % 256 / 16) (omega arith))
+    (digit-back (c % 256 % 16) (omega arith))
     ∙ omega arith

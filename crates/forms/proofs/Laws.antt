@@ -30,7 +30,12 @@ at-first whole room at = record { done = []; put = put-none room at; is = refl }
 pub further : {whole room exit exit′ rest rest′ : List ℕ} {at next next′ : ℕ} (xs : List ℕ) → Sofar whole room at rest next exit → Put exit next xs next′ exit′
     → rest ≡ xs ++ rest′ → Sofar whole room at rest′ next′ exit′
 further {whole} {room} {exit} {exit′} {rest} {rest′} xs s p e =
-    record { done = s .done ++ xs; put = put-more (s .done) xs (s .put) p; is = append-assoc (s .done) xs rest′ ∙ ap (λ (l : List ℕ). s .done ++ l) (sym e) ∙ s .is }
+    record {
+      done = s .done ++ xs;
+      put = put-more (s .done) xs (s .put) p;
+      is = append-assoc (s .done) xs rest′ ∙ ap (λ (l : List ℕ). s .done ++ l)
+          (sym e) ∙ s .is;
+    }
 
 pub passed : {whole room exit rest rest′ : List ℕ} {at next : ℕ} → Sofar whole room at rest next exit → rest ≡ rest′ → Sofar whole room at rest′ next exit
 passed s e = record { done = s .done; put = s .put; is = ap (λ (l : List ℕ). s .done ++ l) (sym e) ∙ s .is }

@@ -75,7 +75,9 @@ put-decimal-returns : (t : ℕ) → put-decimal-lts.Need-returns (
   put-decimal-below t,
   put-decimal.Post,
 ) (put-decimal-at t) put-decimal.Post
-put-decimal-returns t c = put-as (c .before .before .put .ensures) (decimal-one (c .before .before .before .before .before .before .before .args .n) (c .before .before .before .digit .result) (c .before .before .before .before .before .if1 .taken) (c .before .before .before .digit .ensures))
+put-decimal-returns t c = put-as (c .before .before .put .ensures)
+    (decimal-one (c .before .before .before .before .before .before .before .args .n) (c .before .before .before .digit .result)
+    (c .before .before .before .before .before .if1 .taken) (c .before .before .before .digit .ensures))
 
 put-decimal-put-decimal-requires : (t : ℕ) → put-decimal-lts.Need-put-decimal-requires (
   digit-reads.Asked,
@@ -138,7 +140,9 @@ put-decimal-returns-2 : (t : ℕ) → put-decimal-lts.Need-returns-2 (
 put-decimal-returns-2 t c =
     let n = c .before .before .before .before .before .before .before .before .before .before .before .args .n in
     let d = c .before .before .before .digit2 in
-    put-as (put-more (decimal (n / 10)) (d .result ∷ []) (c .before .before .before .before .before .before .before .put-decimal .ensures) (c .before .before .put2 .ensures)) (decimal-last n (d .result) (c .before .before .before .before .before .before .before .before .before .if1 .left) (d .ensures))
+    put-as (put-more (decimal (n / 10)) (d .result ∷ []) (c .before .before .before .before .before .before .before .put-decimal .ensures)
+    (c .before .before .put2 .ensures)) (decimal-last n (d .result)
+    (c .before .before .before .before .before .before .before .before .before .if1 .left) (d .ensures))
 
 pub +put-decimal-spec : {M : Type 1} → statement M
 +put-decimal-spec = close μ-put-decimal λ t. put-decimal-lts.spec (

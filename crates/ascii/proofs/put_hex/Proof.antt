@@ -26,8 +26,11 @@ same-length c = search needs
 returns : tie.Need-returns
 unfolding hex
 returns c =
-    put-as (put-more (c .before .before .before .before .before .before .before .before .digit .result ∷ []) (c .before .before .before .digit2 .result ∷ []) (c .before .before .before .before .before .before .before .put .ensures) (c .before .before .put2 .ensures))
-    (ap₂ (λ (x y : ℕ). x ∷ y ∷ []) (c .before .before .before .before .before .before .before .before .digit .ensures) (c .before .before .before .digit2 .ensures))
+    let b3 = c .before .before .before in
+    let b7 = b3 .before .before .before .before in
+    let b8 = b7 .before in
+    put-as (put-more (b8 .digit .result ∷ []) (b3 .digit2 .result ∷ []) (b7 .put .ensures) (c .before .before .put2 .ensures))
+    (ap₂ (λ (x y : ℕ). x ∷ y ∷ []) (b8 .digit .ensures) (b3 .digit2 .ensures))
 
 pub put-hex-spec : {M : Type 1} → statement M
 put-hex-spec =

@@ -35,9 +35,15 @@ loop-less c = omega arith
 
 loop-again : tie.Need-loop-again Inv-loop μ-loop
 loop-again c =
-    let os = c .before .before .before .before .before .before .before .before .before .args .octets .now in
-    let l = c .before .before .before .before .before .before .loop in
-    (omega arith, put-as (put-more (hexes (take (l .k) os)) (hex (getD os (l .k) 0)) (l .inv .1) (c .before .before .put-hex .ensures)) (hexes-next os (l .k) (c .before .before .before .before .before .loop-test .taken)))
+    let b5 = c .before .before .before .before .before in
+    let b6 = b5 .before in
+    let b9 = b6 .before .before .before in
+    let os = b9 .args .octets .now in
+    let l = b6 .loop in (
+      omega arith,
+      put-as (put-more (hexes (take (l .k) os)) (hex (getD os (l .k) 0)) (l .inv .1) (c .before .before .put-hex .ensures))
+          (hexes-next os (l .k) (b5 .loop-test .taken)),
+    )
 
 same-length : tie.Need-same-length Inv-loop μ-loop
 same-length c = put-length (hexes (take (c .before .loop .k) (c .before .before .before .before .args .octets .now))) (c .before .loop .inv .1)

@@ -34,9 +34,12 @@ loop-less c = omega arith
 
 loop-again : tie.Need-loop-again Inv-loop μ-loop
 loop-again c =
-    let w = c .before .before .before .before .before .before .before .before .before .args .word .now in
-    let l = c .before .before .before .before .before .before .loop in
-    (omega arith, put-as (put-more (take (l .k) w) (_ ∷ []) (l .inv .1) (c .before .before .put .ensures)) (word-next w (l .k) (c .before .before .before .before .before .loop-test .taken)))
+    let b5 = c .before .before .before .before .before in
+    let b6 = b5 .before in
+    let b9 = b6 .before .before .before in
+    let w = b9 .args .word .now in
+    let l = b6 .loop in
+    (omega arith, put-as (put-more (take (l .k) w) (_ ∷ []) (l .inv .1) (c .before .before .put .ensures)) (word-next w (l .k) (b5 .loop-test .taken)))
 
 same-length : tie.Need-same-length Inv-loop μ-loop
 same-length c = put-length (take (c .before .loop .k) (c .before .before .before .before .args .word .now)) (c .before .loop .inv .1)

@@ -40,8 +40,10 @@ loop-less c = omega arith
 
 loop-again : tie.Need-loop-again Inv-loop μ-loop
 loop-again c =
-    let l = c .before .before .before .loop in
-    (omega arith, highest-below (c .before .before .before .before .args .cs .now) (l .n) (omega arith) (omega arith) (zero-is _ (c .before .if12 .given) (c .if1 .left)) ∙ l .inv .1)
+    let b3 = c .before .before .before in
+    let b4 = b3 .before in
+    let l = b3 .loop in
+    (omega arith, highest-below (b4 .args .cs .now) (l .n) (omega arith) (omega arith) (zero-is _ (c .before .if12 .given) (c .if1 .left)) ∙ l .inv .1)
 
 returns-2 : tie.Need-returns-2 Inv-loop μ-loop
 returns-2 c =

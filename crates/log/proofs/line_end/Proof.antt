@@ -21,7 +21,10 @@ shared-slice-read-if1 : tie.Need-shared-slice-read-if1 Inv-loop μ-loop
 shared-slice-read-if1 c = omega arith
 
 returns : tie.Need-returns Inv-loop μ-loop
-returns c = sym (end-here (c .before .before .before .before .args .log .now) (c .before .before .before .loop .k) (c .before .before .loop-test .taken) (c .if1 .taken)) ∙ c .before .before .before .loop .inv
+returns c =
+    let b3 = c .before .before .before in
+    let b4 = b3 .before in
+    sym (end-here (b4 .args .log .now) (b3 .loop .k) (c .before .before .loop-test .taken) (c .if1 .taken)) ∙ b3 .loop .inv
 
 add-k : tie.Need-add-k Inv-loop μ-loop
 add-k c = omega arith
@@ -30,7 +33,10 @@ loop-less : tie.Need-loop-less Inv-loop μ-loop
 loop-less c = omega arith
 
 loop-again : tie.Need-loop-again Inv-loop μ-loop
-loop-again c = end-next (c .before .before .before .before .args .log .now) (c .before .before .before .loop .k) (c .before .before .loop-test .taken) (c .if1 .left) ∙ c .before .before .before .loop .inv
+loop-again c =
+    let b3 = c .before .before .before in
+    let b4 = b3 .before in
+    end-next (b4 .args .log .now) (b3 .loop .k) (c .before .before .loop-test .taken) (c .if1 .left) ∙ b3 .loop .inv
 
 returns-2 : tie.Need-returns-2 Inv-loop μ-loop
 returns-2 c = sym (end-last (c .before .before .args .log .now) (c .before .loop .k) (c .loop-test .left)) ∙ c .before .loop .inv

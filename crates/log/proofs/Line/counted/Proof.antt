@@ -24,13 +24,21 @@ with-requires : tie.Need-with-requires Inv-loop μ-loop
 with-requires c κs = search needs
 
 returns : tie.Need-returns Inv-loop μ-loop
-returns c = c .with .ensures ∙ below (c .before .before .before .before .before .before .args .digits .now) (c .before .before .before .before .loop .k) (c .before .before .before .loop-test .taken) (c .before .if1 .taken)
+returns c =
+    let b3 = c .before .before .before in
+    let b4 = b3 .before in
+    let b6 = b4 .before .before in
+    c .with .ensures ∙ below (b6 .args .digits .now) (b4 .loop .k) (b3 .loop-test .taken) (c .before .if1 .taken)
 
 with-requires-2 : tie.Need-with-requires-2 Inv-loop μ-loop
 with-requires-2 c κs = search needs
 
 returns-2 : tie.Need-returns-2 Inv-loop μ-loop
-returns-2 c = c .with2 .ensures ∙ above (c .before .before .before .before .before .before .before .args .digits .now) (c .before .before .before .before .before .loop .k) (c .before .before .before .before .loop-test .taken) (c .before .if2 .taken)
+returns-2 c =
+    let b4 = c .before .before .before .before in
+    let b5 = b4 .before in
+    let b7 = b5 .before .before in
+    c .with2 .ensures ∙ above (b7 .args .digits .now) (b5 .loop .k) (b4 .loop-test .taken) (c .before .if2 .taken)
 
 more-requires : tie.Need-more-requires Inv-loop μ-loop
 more-requires c κs = search needs
@@ -42,13 +50,22 @@ loop-less : tie.Need-loop-less Inv-loop μ-loop
 loop-less c = omega arith
 
 loop-again : tie.Need-loop-again Inv-loop μ-loop
-loop-again c = let l = c .before .before .before .before .before .loop in read-more (c .before .before .before .before .before .before .before .args .digits .now) (l .ticks) (l .k) (c .more .result) (l .inv) (c .before .before .before .before .loop-test .taken) (c .before .before .if1 .left) (c .before .if2 .left) (c .more .ensures)
+loop-again c =
+    let b4 = c .before .before .before .before in
+    let b5 = b4 .before in
+    let b7 = b5 .before .before in
+    let l = b5 .loop in read-more (b7 .args .digits .now) (l .ticks) (l .k) (c .more .result) (l .inv) (b4 .loop-test .taken)
+    (c .before .before .if1 .left) (c .before .if2 .left) (c .more .ensures)
 
 with-requires-3 : tie.Need-with-requires-3 Inv-loop μ-loop
 with-requires-3 c κs = search needs
 
 returns-3 : tie.Need-returns-3 Inv-loop μ-loop
-returns-3 c = let l = c .before .before .before .loop in c .with3 .ensures ∙ none-counted (c .before .before .before .before .before .args .digits .now) (l .ticks) (l .k) (l .inv) (c .before .before .loop-test .left) (c .before .if3 .taken)
+returns-3 c =
+    let b3 = c .before .before .before in
+    let b5 = b3 .before .before in
+    let l = b3 .loop in c .with3 .ensures ∙ none-counted (b5 .args .digits .now) (l .ticks) (l .k) (l .inv) (c .before .before .loop-test .left)
+    (c .before .if3 .taken)
 
 cast-if4 : tie.Need-cast-if4 Inv-loop μ-loop
 cast-if4 c = search needs
@@ -57,7 +74,11 @@ with-requires-4 : tie.Need-with-requires-4 Inv-loop μ-loop
 with-requires-4 c κs = search needs
 
 returns-4 : tie.Need-returns-4 Inv-loop μ-loop
-returns-4 c = let l = c .before .before .before .before .loop in c .with4 .ensures ∙ many-counted (c .before .before .before .before .before .before .args .digits .now) (l .ticks) (l .k) (l .inv) (c .before .before .before .loop-test .left) (c .before .if4 .taken)
+returns-4 c =
+    let b3 = c .before .before .before in
+    let b4 = b3 .before in
+    let b6 = b4 .before .before in
+    let l = b4 .loop in c .with4 .ensures ∙ many-counted (b6 .args .digits .now) (l .ticks) (l .k) (l .inv) (b3 .loop-test .left) (c .before .if4 .taken)
 
 cast-with : tie.Need-cast-with Inv-loop μ-loop
 cast-with c = omega arith
@@ -66,7 +87,12 @@ with-requires-5 : tie.Need-with-requires-5 Inv-loop μ-loop
 with-requires-5 c κs = search needs
 
 returns-5 : tie.Need-returns-5 Inv-loop μ-loop
-returns-5 c = let l = c .before .before .before .before .loop in c .with5 .ensures ∙ some-counted (c .before .before .before .before .before .before .args .digits .now) (l .ticks) (l .k) (l .inv) (c .before .before .before .loop-test .left) (c .before .before .if3 .left) (c .before .if4 .left)
+returns-5 c =
+    let b3 = c .before .before .before in
+    let b4 = b3 .before in
+    let b6 = b4 .before .before in
+    let l = b4 .loop in c .with5 .ensures ∙ some-counted (b6 .args .digits .now) (l .ticks) (l .k) (l .inv) (b3 .loop-test .left)
+    (c .before .before .if3 .left) (c .before .if4 .left)
 
 pub counted-spec : {M : Type 1} → statement M
 counted-spec =

@@ -14,7 +14,9 @@ with-requires-2 : tie.Need-with-requires-2
 with-requires-2 c κs = search needs
 
 returns-2 : tie.Need-returns-2
-returns-2 c = let o = c .before .before .before .args .octet in simp (le-leb 48 o (c .before .before .if1 .left), lt-leb o 56 (c .before .if2 .taken)) (c .with2 .ensures)
+returns-2 c =
+    let b3 = c .before .before .before in
+    let o = b3 .args .octet in simp (le-leb 48 o (c .before .before .if1 .left), lt-leb o 56 (c .before .if2 .taken)) (c .with2 .ensures)
 
 cast-with : tie.Need-cast-with
 cast-with c = search needs
@@ -23,7 +25,9 @@ with-requires-3 : tie.Need-with-requires-3
 with-requires-3 c κs = search needs
 
 returns-3 : tie.Need-returns-3
-returns-3 c = let o = c .before .before .before .args .octet in simp (le-leb 48 o (c .before .before .if1 .left), le-leb o 56 (c .before .if2 .left)) (c .with3 .ensures)
+returns-3 c =
+    let b3 = c .before .before .before in
+    let o = b3 .args .octet in simp (le-leb 48 o (c .before .before .if1 .left), le-leb o 56 (c .before .if2 .left)) (c .with3 .ensures)
 
 pub one-spec : {M : Type 1} → statement M
 one-spec =

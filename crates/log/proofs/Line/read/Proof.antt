@@ -32,10 +32,14 @@ said-requires-2 : tie.Need-said-requires-2
 said-requires-2 c κs = search needs
 
 returns-2 : tie.Need-returns-2
-returns-2 c = let l = c .before .before .before .before .before .before .args .line .now in simp (eq-eqb (getD l (length l - 1) 0) 13 (c .before .before .if2 .taken)) (c .said .ensures)
+returns-2 c =
+    let b6 = c .before .before .before .before .before .before in
+    let l = b6 .args .line .now in simp (eq-eqb (getD l (length l - 1) 0) 13 (c .before .before .if2 .taken)) (c .said .ensures)
 
 returns-3 : tie.Need-returns-3
-returns-3 c = let l = c .before .before .before .before .before .args .line .now in simp (ne-eqb (getD l (length l - 1) 0) 13 (c .before .if2 .left)) (c .said2 .ensures)
+returns-3 c =
+    let b5 = c .before .before .before .before .before in
+    let l = b5 .args .line .now in simp (ne-eqb (getD l (length l - 1) 0) 13 (c .before .if2 .left)) (c .said2 .ensures)
 
 pub read-spec : {M : Type 1} → statement M
 read-spec =

@@ -25,7 +25,10 @@ with-requires-2 c κs = search needs
 
 returns-2 : tie.Need-returns-2
 unfolding said
-returns-2 c = let l = c .before .before .before .before .before .args .line .now in simp (ne-eqb (length l) 0 (c .before .before .before .if1 .left), eq-eqb (getD l 0 0) 35 (c .before .if2 .taken)) (c .with2 .ensures)
+returns-2 c =
+    let b3 = c .before .before .before in
+    let b5 = b3 .before .before in
+    let l = b5 .args .line .now in simp (ne-eqb (length l) 0 (b3 .if1 .left), eq-eqb (getD l 0 0) 35 (c .before .if2 .taken)) (c .with2 .ensures)
 
 shared-slice-read-one : tie.Need-shared-slice-read-one
 shared-slice-read-one c = search needs
@@ -35,7 +38,16 @@ one-requires c κs = search needs
 
 returns-3 : tie.Need-returns-3
 unfolding said
-returns-3 c = let l = c .before .before .before .before .before .before .before .args .line .now in simp (ne-eqb (length l) 0 (c .before .before .before .before .before .if1 .left), ne-eqb (getD l 0 0) 35 (c .before .before .before .if2 .left), eq-eqb (length l) 1 (c .before .before .if3 .taken)) (c .one .ensures)
+returns-3 c =
+    let b3 = c .before .before .before in
+    let b5 = b3 .before .before in
+    let b7 = b5 .before .before in
+    let l = b7 .args .line .now in simp (
+      ne-eqb (length l) 0 (b5 .if1 .left),
+      ne-eqb (getD l 0 0) 35 (b3 .if2 .left),
+      eq-eqb (length l) 1
+          (c .before .before .if3 .taken),
+    ) (c .one .ensures)
 
 shared-slice-read-if4 : tie.Need-shared-slice-read-if4
 shared-slice-read-if4 c = search needs
@@ -45,7 +57,18 @@ with-requires-3 c κs = search needs
 
 returns-4 : tie.Need-returns-4
 unfolding said
-returns-4 c = let l = c .before .before .before .before .before .before .before .before .args .line .now in simp (ne-eqb (length l) 0 (c .before .before .before .before .before .before .if1 .left), ne-eqb (getD l 0 0) 35 (c .before .before .before .before .if2 .left), ne-eqb (length l) 1 (c .before .before .before .if3 .left), ne-eqb (getD l 0 0) 48 (c .before .if4 .taken)) (c .with3 .ensures)
+returns-4 c =
+    let b3 = c .before .before .before in
+    let b4 = b3 .before in
+    let b6 = b4 .before .before in
+    let b8 = b6 .before .before in
+    let l = b8 .args .line .now in simp (
+      ne-eqb (length l) 0 (b6 .if1 .left),
+      ne-eqb (getD l 0 0) 35 (b4 .if2 .left),
+      ne-eqb (length l) 1
+          (b3 .if3 .left),
+      ne-eqb (getD l 0 0) 48 (c .before .if4 .taken),
+    ) (c .with3 .ensures)
 
 shared-slice-read-if5 : tie.Need-shared-slice-read-if5
 shared-slice-read-if5 c = search needs
@@ -55,7 +78,20 @@ with-requires-4 c κs = search needs
 
 returns-5 : tie.Need-returns-5
 unfolding said
-returns-5 c = let l = c .before .before .before .before .before .before .before .before .before .before .args .line .now in simp (ne-eqb (length l) 0 (c .before .before .before .before .before .before .before .before .if1 .left), ne-eqb (getD l 0 0) 35 (c .before .before .before .before .before .before .if2 .left), ne-eqb (length l) 1 (c .before .before .before .before .before .if3 .left), eq-eqb (getD l 0 0) 48 (c .before .before .before .if4 .left), ne-eqb (getD l 1 0) 42 (c .before .if5 .taken)) (c .with4 .ensures)
+returns-5 c =
+    let b3 = c .before .before .before in
+    let b5 = b3 .before .before in
+    let b6 = b5 .before in
+    let b8 = b6 .before .before in
+    let b10 = b8 .before .before in
+    let l = b10 .args .line .now in simp (
+      ne-eqb (length l) 0 (b8 .if1 .left),
+      ne-eqb (getD l 0 0) 35 (b6 .if2 .left),
+      ne-eqb (length l) 1
+          (b5 .if3 .left),
+      eq-eqb (getD l 0 0) 48 (b3 .if4 .left),
+      ne-eqb (getD l 1 0) 42 (c .before .if5 .taken),
+    ) (c .with4 .ensures)
 
 sub-counted : tie.Need-sub-counted
 sub-counted c = search needs
@@ -71,7 +107,21 @@ counted-requires c κs = search needs
 
 returns-6 : tie.Need-returns-6
 unfolding said
-returns-6 c = let l = c .before .before .before .before .before .before .before .before .before .before .before .args .line .now in simp (ne-eqb (length l) 0 (c .before .before .before .before .before .before .before .before .before .if1 .left), ne-eqb (getD l 0 0) 35 (c .before .before .before .before .before .before .before .if2 .left), ne-eqb (length l) 1 (c .before .before .before .before .before .before .if3 .left), eq-eqb (getD l 0 0) 48 (c .before .before .before .before .if4 .left), eq-eqb (getD l 1 0) 42 (c .before .before .if5 .left)) (c .counted .ensures ∙ ap counted (take-all (length l - 2) (drop 2 l) (omega (arith, length-drop 2 l))))
+returns-6 c =
+    let b4 = c .before .before .before .before in
+    let b6 = b4 .before .before in
+    let b7 = b6 .before in
+    let b9 = b7 .before .before in
+    let b11 = b9 .before .before in
+    let l = b11 .args .line .now in simp (
+      ne-eqb (length l) 0 (b9 .if1 .left),
+      ne-eqb (getD l 0 0) 35 (b7 .if2 .left),
+      ne-eqb (length l) 1
+          (b6 .if3 .left),
+      eq-eqb (getD l 0 0) 48 (b4 .if4 .left),
+      eq-eqb (getD l 1 0) 42 (c .before .before .if5 .left),
+    )
+    (c .counted .ensures ∙ ap counted (take-all (length l - 2) (drop 2 l) (omega (arith, length-drop 2 l))))
 
 pub said-spec : {M : Type 1} → statement M
 said-spec =
