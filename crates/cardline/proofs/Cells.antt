@@ -18,7 +18,8 @@ use Rattle.forms.specs.Forms.{firstOf, formedBy, formed, rowBy, rowOf}
 use Rattle.verdict.specs.declared.Customer.{Customer}
 use Rattle.verdict.specs.declared.Verdict.{Verdict}
 use Rattle.verdict.specs.Ranks.{unreadable}
-use Rattle.verdict.specs.Verdict.{frameOctets, octetsOf, likeOf, lastFirst, absent, refusedVerdict, trainingVerdict, finalVerdict, judged, verdictOf}
+use Rattle.layout.specs.Places.{frameLength}
+use Rattle.verdict.specs.Verdict.{octetsOf, likeOf, lastFirst, absent, refusedVerdict, trainingVerdict, finalVerdict, judged, verdictOf}
 use Rattle.cardline.specs.Words.{rowOfRank, refusedRow, names, todos, reasons, refusal, nameOf, todo, lengthWords, verdictWords}
 use Rattle.cardline.specs.Line.{shownOctet, shown, vendorText, vendorCells, trainingCells, finalCells, noCells, readCells, cells, likeCell}
 use Rattle.cardline.specs.Line.{findings, cardLine, heading}
@@ -169,8 +170,8 @@ module _ (x : ℕ) (control : x < 32) (free : (n : ℕ) → (times x (rowOf name
   length-none : (n : ℕ) → times x (lengthWords n) ≡ 0
   unfolding lengthWords
   length-none n =
-      cond-none x (ltb frameOctets n) _ _ (times-formed x control _ (frameOctets ∷ []) ∙ more)
-      (cond-none x (eqb n 1) _ _ (times-formed x control _ (frameOctets ∷ []) ∙ one) (times-formed x control _ (n ∷ frameOctets ∷ []) ∙ some))
+      cond-none x (ltb frameLength n) _ _ (times-formed x control _ (frameLength ∷ []) ∙ more)
+      (cond-none x (eqb n 1) _ _ (times-formed x control _ (frameLength ∷ []) ∙ one) (times-formed x control _ (n ∷ frameLength ∷ []) ∙ some))
 
   findings-tabs : (n octets : ℕ) → times x (findings n octets) ≡ times x (text "\t") + times x (text "\t")
   unfolding findings verdictWords todo

@@ -56,7 +56,8 @@ ending-story n s (l ∷ ls) z = go (eqb (followed s (lineOf l) .answer) 0) refl 
         → cond b (endingFrom (suc n) (y .story) ls) (ending (y .answer) n (y .story)) .story ≡ storyOf s (xs ++ codesOf ls)
     go true q rest z =
         rest z
-        ∙ ap (λ (x : Story). storyOf x (codesOf ls)) (repeated-story (lineOf l .code) (lineOf l .times) (refusedWith s (lineOf l .answer)) (eqb-true (y .answer) 0 q))
+        ∙ ap (λ (x : Story). storyOf x (codesOf ls))
+        (repeated-story (lineOf l .code) (lineOf l .times) (refusedWith s (lineOf l .answer)) (eqb-true (y .answer) 0 q))
         ∙ sym (story-append s xs (codesOf ls))
     go false q rest z = absurd (eqb-false (y .answer) 0 q z)
 
@@ -80,7 +81,8 @@ line-low l =
     (either-low (eqb (length l) 1) (oneCode (getD l 0 0)) _ (one-low (getD l 0 0))
     (either-low (eqb (getD l 0 0) 48 && eqb (getD l 1 0) 42) (counted (drop 2 l)) (line 2 0 0)
     (either-low (digits (drop 2 l)) _ (line 2 0 0)
-    (either-low (leb 1 (reading 10 0 (drop 2 l)) && leb (reading 10 0 (drop 2 l)) mostTicks) (line 0 0 (reading 10 0 (drop 2 l))) (line 4 0 0) (lit≤ tt) (lit≤ tt)) (lit≤ tt))
+    (either-low (leb 1 (reading 10 0 (drop 2 l)) && leb (reading 10 0 (drop 2 l)) mostTicks) (line 0 0 (reading 10 0 (drop 2 l))) (line 4 0 0)
+    (lit≤ tt) (lit≤ tt)) (lit≤ tt))
     (lit≤ tt)))
 
 -- each of these is a code

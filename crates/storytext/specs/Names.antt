@@ -12,7 +12,8 @@ use Rattle.storytext.specs.Texts.{seconds, codeName}
 -- the phases' names, by number
 abbrev pub names : List String
 names =
-    "Ready" ∷ "Gap" ∷ "Await" ∷ "C_r" ∷ "Hearing" ∷ "Quiet" ∷ "S_c" ∷ "S_r" ∷ "T_c" ∷ "T_r" ∷ "F_c" ∷ "Settling" ∷ "Valid" ∷ "Exception" ∷ []
+    "Ready" ∷ "Gap" ∷ "Await" ∷ "C_r" ∷ "Hearing" ∷ "Quiet" ∷ "S_c" ∷ "S_r" ∷ "T_c" ∷ "T_r" ∷ "F_c"
+    ∷ "Settling" ∷ "Valid" ∷ "Exception" ∷ []
 
 -- the reports that a phase waits for; where there is none, only an 8 ends it
 unfoldable pub awaitsText : List ℕ → List ℕ

@@ -12,7 +12,12 @@ turned-requires : tie.Need-turned-requires
 turned-requires c κs = search needs
 
 returns : tie.Need-returns
-returns c = (check-small (c .before .field .result) (c .turned .result) (c .turned .ensures), λ l. check-number (c .before .before .before .args .frame .now) (c .before .field .result) (c .turned .result) l (c .before .field .ensures) (c .turned .ensures))
+returns c =
+    let b3 = c .before .before .before in (
+      check-small (c .before .field .result) (c .turned .result) (c .turned .ensures),
+      λ l. check-number (b3 .args .frame .now)
+          (c .before .field .result) (c .turned .result) l (c .before .field .ensures) (c .turned .ensures),
+    )
 
 pub check-of-spec : {M : Type 1} → statement M
 check-of-spec = tie.close (tie.spec field-requires turned-requires returns)

@@ -24,7 +24,14 @@ same-length : tie.Need-same-length
 same-length c = search needs
 
 returns : tie.Need-returns
-returns c = told (listing (c .before .before .before .before .before .before .before .before .before .before .before .before .before .args .frame .now)) (c .before .before .before .before .before .before .before .before .before .before .before .before .before .args .room .now) _ _ (put-as (c .before .before .put-refused .ensures) (refused-text (c .before .before .before .before .before .before .before .before .before .before .before .before .before .args .frame .now) _ _ refl refl (c .before .before .before .before .before .before .before .before .read .result) (c .before .before .before .before .before .before .before .before .read .last .1 .0) (c .before .before .before .before .before .before .before .before .read .last .1 .1 .0) (c .before .before .before .before .before .before .before .before .read .ensures) (c .before .before .before .before .if1 .taken)))
+returns c =
+    let b4 = c .before .before .before .before in
+    let b8 = b4 .before .before .before .before in
+    let b13 = b8 .before .before .before .before .before in
+    told (listing (b13 .args .frame .now)) (b13 .args .room .now) _ _
+    (put-as (c .before .before .put-refused .ensures)
+    (refused-text (b13 .args .frame .now) _ _ refl refl (b8 .read .result) (b8 .read .last .1 .0) (b8 .read .last .1 .1 .0) (b8 .read .ensures)
+    (b4 .if1 .taken)))
 
 check-of-requires : tie.Need-check-of-requires
 check-of-requires c κs = search needs
@@ -48,13 +55,35 @@ same-length-2 : tie.Need-same-length-2
 same-length-2 c = search needs
 
 returns-2 : tie.Need-returns-2
-returns-2 c = told (listing (c .before .before .before .before .before .before .before .before .before .before .before .before .before .before .before .before .before .before .args .frame .now)) (c .before .before .before .before .before .before .before .before .before .before .before .before .before .before .before .before .before .before .args .room .now) _ _ (put-as (c .before .before .put-training .ensures) (training-text (c .before .before .before .before .before .before .before .before .before .before .before .before .before .before .before .before .before .before .args .frame .now) _ _ refl refl (c .before .before .before .before .before .before .before .before .before .before .before .before .before .read .result) (c .before .before .before .before .before .before .before .before .before .before .before .before .before .read .last .1 .0) (c .before .before .before .before .before .before .before .before .before .before .before .before .before .read .last .1 .1 .0) (c .before .before .before .before .before .before .before .before .before .before .before .before .before .read .ensures) (c .before .before .before .before .before .before .before .before .before .if1 .left) (c .before .before .before .before .before .before .before .before .check-of .result) (c .before .before .before .before .before .before .before .before .check-of .ensures .1 (read-length (c .before .before .before .before .before .before .before .before .before .before .before .before .before .before .before .before .before .before .args .frame .now) _ _ refl refl (c .before .before .before .before .before .before .before .before .before .before .before .before .before .read .result) (c .before .before .before .before .before .before .before .before .before .before .before .before .before .read .last .1 .0) (c .before .before .before .before .before .before .before .before .before .before .before .before .before .read .last .1 .1 .0) (c .before .before .before .before .before .before .before .before .before .before .before .before .before .read .ensures) (c .before .before .before .before .before .before .before .before .before .if1 .left))) (c .before .before .before .before .before .before .if2 .taken)))
+returns-2 c =
+    let b6 = c .before .before .before .before .before .before in
+    let b8 = b6 .before .before in
+    let b9 = b8 .before in
+    let b13 = b9 .before .before .before .before in
+    let b18 = b13 .before .before .before .before .before in
+    told (listing (b18 .args .frame .now)) (b18 .args .room .now) _ _
+    (put-as (c .before .before .put-training .ensures)
+    (training-text (b18 .args .frame .now) _ _ refl refl (b13 .read .result) (b13 .read .last .1 .0) (b13 .read .last .1 .1 .0) (b13 .read .ensures)
+    (b9 .if1 .left) (b8 .check-of .result) (b8 .check-of .ensures .1
+    (read-length (b18 .args .frame .now) _ _ refl refl (b13 .read .result) (b13 .read .last .1 .0) (b13 .read .last .1 .1 .0) (b13 .read .ensures)
+    (b9 .if1 .left))) (b6 .if2 .taken)))
 
 same-length-3 : tie.Need-same-length-3
 same-length-3 c = search needs
 
 returns-3 : tie.Need-returns-3
-returns-3 c = told (listing (c .before .before .before .before .before .before .before .before .before .before .before .before .before .before .before .before .before .args .frame .now)) (c .before .before .before .before .before .before .before .before .before .before .before .before .before .before .before .before .before .args .room .now) _ _ (put-as (c .before .before .put-final .ensures) (final-text (c .before .before .before .before .before .before .before .before .before .before .before .before .before .before .before .before .before .args .frame .now) _ _ refl refl (c .before .before .before .before .before .before .before .before .before .before .before .before .read .result) (c .before .before .before .before .before .before .before .before .before .before .before .before .read .last .1 .0) (c .before .before .before .before .before .before .before .before .before .before .before .before .read .last .1 .1 .0) (c .before .before .before .before .before .before .before .before .before .before .before .before .read .ensures) (c .before .before .before .before .before .before .before .before .if1 .left) (c .before .before .before .before .before .before .before .check-of .result) (c .before .before .before .before .before .before .before .check-of .ensures .1 (read-length (c .before .before .before .before .before .before .before .before .before .before .before .before .before .before .before .before .before .args .frame .now) _ _ refl refl (c .before .before .before .before .before .before .before .before .before .before .before .before .read .result) (c .before .before .before .before .before .before .before .before .before .before .before .before .read .last .1 .0) (c .before .before .before .before .before .before .before .before .before .before .before .before .read .last .1 .1 .0) (c .before .before .before .before .before .before .before .before .before .before .before .before .read .ensures) (c .before .before .before .before .before .before .before .before .if1 .left))) (c .before .before .before .before .before .if2 .left)))
+returns-3 c =
+    let b5 = c .before .before .before .before .before in
+    let b7 = b5 .before .before in
+    let b8 = b7 .before in
+    let b12 = b8 .before .before .before .before in
+    let b17 = b12 .before .before .before .before .before in
+    told (listing (b17 .args .frame .now)) (b17 .args .room .now) _ _
+    (put-as (c .before .before .put-final .ensures)
+    (final-text (b17 .args .frame .now) _ _ refl refl (b12 .read .result) (b12 .read .last .1 .0) (b12 .read .last .1 .1 .0) (b12 .read .ensures)
+    (b8 .if1 .left) (b7 .check-of .result) (b7 .check-of .ensures .1
+    (read-length (b17 .args .frame .now) _ _ refl refl (b12 .read .result) (b12 .read .last .1 .0) (b12 .read .last .1 .1 .0) (b12 .read .ensures)
+    (b8 .if1 .left))) (b5 .if2 .left)))
 
 pub list-spec : {M : Type 1} → statement M
 list-spec =

@@ -31,9 +31,13 @@ same-length c = search needs
 returns : tie.Need-returns
 unfolding coefficientLine
 returns c =
-    let a = c .before .before .before .before .before .before .before .before .before .before .before .before .before .before .before .args in
+    let b6 = c .before .before .before .before .before .before in
+    let b10 = b6 .before .before .before .before in
+    let b15 = b10 .before .before .before .before .before in
+    let a = b15 .args in
     let w = formed (text "c # ") (a .k ∷ []) in
-    put-as (put-more (w ++ signed (a .c)) (text "\n") (put-more w (signed (a .c)) (c .before .before .before .before .before .before .before .before .before .before .put-form .ensures) (rw (toZ-ofZ (c .before .before .before .before .before .before .before .before .before .before .before .before .before .before .before .fits .c)) at (c .before .before .before .before .before .before .put-signed .ensures))) (c .before .before .put .ensures))
+    put-as (put-more (w ++ signed (a .c)) (text "\n")
+    (put-more w (signed (a .c)) (b10 .put-form .ensures) (rw (toZ-ofZ (b15 .fits .c)) at (b6 .put-signed .ensures))) (c .before .before .put .ensures))
     (coefficient-form (a .k) (signed (a .c)))
 
 pub put-coefficient-line-spec : {M : Type 1} → statement M

@@ -45,9 +45,16 @@ loop-less c = omega arith
 
 loop-again : tie.Need-loop-again Inv-loop μ-loop
 loop-again c =
-    let cs = c .before .before .before .before .before .before .before .before .args .cs .now in
-    let l = c .before .before .before .before .before .before .loop in
-    (omega arith, put-as (put-more (coefficientLines 1 (take (l .k) cs)) (coefficientLine (l .k + 1) (getD cs (l .k) (pos 0))) (l .inv .1) (rw (read-i32 (getD cs (l .k) (pos 0)) (c .before .before .before .put-coefficient-line-arg2 .given)) at (c .before .before .put-coefficient-line .ensures))) (lines-next cs (l .k) (omega arith)))
+    let b3 = c .before .before .before in
+    let b6 = b3 .before .before .before in
+    let b8 = b6 .before .before in
+    let cs = b8 .args .cs .now in
+    let l = b6 .loop in (
+      omega arith,
+      put-as (put-more (coefficientLines 1 (take (l .k) cs)) (coefficientLine (l .k + 1) (getD cs (l .k) (pos 0))) (l .inv .1)
+          (rw (read-i32 (getD cs (l .k) (pos 0)) (b3 .put-coefficient-line-arg2 .given)) at (c .before .before .put-coefficient-line .ensures)))
+          (lines-next cs (l .k) (omega arith)),
+    )
 
 same-length : tie.Need-same-length Inv-loop μ-loop
 same-length c = put-length (coefficientLines 1 (take (c .before .loop .k) (c .before .before .before .args .cs .now))) (c .before .loop .inv .1)

@@ -23,10 +23,13 @@ same-length c = search needs
 returns : tie.Need-returns
 unfolding finalText
 returns c =
-    let a = c .before .before .before .before .before .before .before .before .before .before .before .args in
+    let b6 = c .before .before .before .before .before .before in
+    let b11 = b6 .before .before .before .before .before in
+    let a = b11 .args in
     let v = vendorLine (a .vendor .now) in
     let b = checkLine (a .check) in
-    put-as (put-more (text "kind final\n") (v ++ b) (c .before .before .before .before .before .before .put-word .ensures) (c .before .before .put-tail .ensures)) (sym (append-assoc (text "kind final\n") v b))
+    put-as (put-more (text "kind final\n") (v ++ b) (b6 .put-word .ensures) (c .before .before .put-tail .ensures))
+    (sym (append-assoc (text "kind final\n") v b))
 
 pub put-final-spec : {M : Type 1} → statement M
 put-final-spec =

@@ -19,7 +19,12 @@ same-length : tie.Need-same-length
 same-length c = search needs
 
 returns : tie.Need-returns
-returns c = let a = c .before .before .before .before .before .before .before .before .before .before .before .before .before .before .before .args in put-more (a .name .now ++ hexes (a .octets .now)) (10 ∷ []) (put-more (a .name .now) (hexes (a .octets .now)) (c .before .before .before .before .before .before .before .before .before .before .put-word .ensures) (c .before .before .before .before .before .before .put-hexes .ensures)) (c .before .before .put .ensures)
+returns c =
+    let b6 = c .before .before .before .before .before .before in
+    let b10 = b6 .before .before .before .before in
+    let b15 = b10 .before .before .before .before .before in
+    let a = b15 .args in put-more (a .name .now ++ hexes (a .octets .now)) (10 ∷ [])
+    (put-more (a .name .now) (hexes (a .octets .now)) (b10 .put-word .ensures) (b6 .put-hexes .ensures)) (c .before .before .put .ensures)
 
 pub put-hex-line-spec : {M : Type 1} → statement M
 put-hex-line-spec =

@@ -32,7 +32,10 @@ same-length c = search needs
 
 returns : tie.Need-returns
 unfolding vendorLine checkLine hexes hex
-returns c = let a = c .before .before .before .before .before .before .before .before .before .before .before .before .before .args in put-more (vendorLine (a .vendor .now)) (checkLine (a .check)) (c .before .before .before .before .before .before .before .before .put-hex-line .ensures) (c .before .before .put-hex-line2 .ensures)
+returns c =
+    let b8 = c .before .before .before .before .before .before .before .before in
+    let b13 = b8 .before .before .before .before .before in
+    let a = b13 .args in put-more (vendorLine (a .vendor .now)) (checkLine (a .check)) (b8 .put-hex-line .ensures) (c .before .before .put-hex-line2 .ensures)
 
 pub put-tail-spec : {M : Type 1} → statement M
 put-tail-spec =

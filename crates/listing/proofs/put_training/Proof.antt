@@ -29,7 +29,10 @@ put-form-requires : tie.Need-put-form-requires
 put-form-requires c κs = search needs
 
 put-coefficient-lines-requires : tie.Need-put-coefficient-lines-requires
-put-coefficient-lines-requires c κs = omega (arith, c .before .before .before .before .before .before .before .highest .ensures, highest-within (c .before .before .before .before .before .before .before .before .before .before .args .cs .now), c .before .before .before .before .before .before .before .before .before .before .pre .0)
+put-coefficient-lines-requires c κs =
+    let b7 = c .before .before .before .before .before .before .before in
+    let b10 = b7 .before .before .before in
+    omega (arith, b7 .highest .ensures, highest-within (b10 .args .cs .now), b10 .pre .0)
 
 slice-aggregate-put-form-3 : tie.Need-slice-aggregate-put-form-3
 slice-aggregate-put-form-3 c = search needs
@@ -41,7 +44,9 @@ put-form-requires-2 : tie.Need-put-form-requires-2
 put-form-requires-2 c κs = search needs
 
 put-tail-requires : tie.Need-put-tail-requires
-put-tail-requires c κs = c .before .before .before .before .before .before .before .before .before .before .before .before .before .before .before .before .before .before .before .before .pre .1
+put-tail-requires c κs =
+    let b10 = c .before .before .before .before .before .before .before .before .before .before in
+    b10 .before .before .before .before .before .before .before .before .before .before .pre .1
 
 same-length : tie.Need-same-length
 same-length c = search needs
@@ -49,8 +54,13 @@ same-length c = search needs
 returns : tie.Need-returns
 unfolding trainingText
 returns c =
-    let a = c .before .before .before .before .before .before .before .before .before .before .before .before .before .before .before .before .before .before .before .before .before .before .before .args in
-    let n = c .before .before .before .before .before .before .before .before .before .before .before .before .before .before .before .before .before .before .before .before .highest in
+    let b6 = c .before .before .before .before .before .before in
+    let b12 = b6 .before .before .before .before .before .before in
+    let b16 = b12 .before .before .before .before in
+    let b20 = b16 .before .before .before .before in
+    let b23 = b20 .before .before .before in
+    let a = b23 .args in
+    let n = b20 .highest in
     let k = text "kind training\n" ++ numberLine "coefficients " (n .result) in
     let cs = coefficientLines 1 (take (n .result) (a .cs .now)) in
     let wa = numberLine "A " (a .a) in
@@ -59,8 +69,8 @@ returns c =
     let b = checkLine (a .check) in
     put-as
     (put-more (k ++ cs ++ (wa ++ wb)) (v ++ b)
-    (put-more (k ++ cs) (wa ++ wb) (put-more k cs (put-as (c .before .before .before .before .before .before .before .before .before .before .before .before .before .before .before .before .put-form .ensures) (kind-form (n .result))) (c .before .before .before .before .before .before .before .before .before .before .before .before .put-coefficient-lines .ensures))
-    (put-as (c .before .before .before .before .before .before .put-form2 .ensures) (words-form (a .a) (a .b))))
+    (put-more (k ++ cs) (wa ++ wb) (put-more k cs (put-as (b16 .put-form .ensures) (kind-form (n .result))) (b12 .put-coefficient-lines .ensures))
+    (put-as (b6 .put-form2 .ensures) (words-form (a .a) (a .b))))
     (c .before .before .put-tail .ensures))
     (sym (append-assoc (k ++ cs ++ (wa ++ wb)) v b) ∙ ap (λ l. l ++ v ++ b) (sym (append-assoc (k ++ cs) wa wb))
     ∙ ap (λ (m : ℕ). text "kind training\n" ++ numberLine "coefficients " m ++ coefficientLines 1 (take m (a .cs .now)) ++ wa ++ wb ++ v ++ b) (n .ensures))

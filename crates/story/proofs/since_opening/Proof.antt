@@ -15,10 +15,15 @@ one-requires : tie.Need-one-requires
 one-requires c κs = search needs
 
 add-result : tie.Need-add-result
-add-result c = omega (arith, one-small (eqb (c .before .before .before .before .args .code) 0) (c .before .one .result) (c .before .one .ensures), c .before .before .before .before .pre)
+add-result c =
+    let b4 = c .before .before .before .before in
+    omega (arith, one-small (eqb (b4 .args .code) 0) (c .before .one .result) (c .before .one .ensures), b4 .pre)
 
 returns : tie.Need-returns
-returns c = simp (sym (c .before .before .before .in-attempt .ensures) ∙ c .before .before .if1 .taken) (ap (λ (n : ℕ). c .before .before .before .before .args .state .attempt + n) (c .before .one .ensures))
+returns c =
+    let b3 = c .before .before .before in
+    let b4 = b3 .before in
+    simp (sym (b3 .in-attempt .ensures) ∙ c .before .before .if1 .taken) (ap (λ (n : ℕ). b4 .args .state .attempt + n) (c .before .one .ensures))
 
 returns-2 : tie.Need-returns-2
 returns-2 c = simp (sym (c .before .in-attempt .ensures) ∙ c .if1 .left)
