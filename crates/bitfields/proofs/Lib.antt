@@ -1,2 +1,2 @@
 pub mod One
-pub mod Pair
+pub mod Holding

@@ -4,7 +4,7 @@ use mathlib.Core.List.{List}
 use Prim.Native.Nat.{ℕ}
 use lib.IntN.{ℤ}
 use Rattle.octets.proofs.One.{both}
-use Rattle.bitfields.specs.Promises.{FieldRead, FieldPut, SignedRead, SignedPut, SignedPairPut, Turned, Behind}
+use Rattle.bitfields.specs.Promises.{FieldRead, FieldPut, SignedRead, SignedPut, SignedFieldsPut, Turned, Behind}
 
 pub field-one : (s : List ℕ) (at w r r′ : ℕ) → FieldRead s at w r → FieldRead s at w r′ → r ≡ r′
 field-one s at w r r′ p q = both p q
@@ -18,8 +18,8 @@ signed-field-one s at w r r′ p q = both p q
 pub put-signed-field-one : (s : List ℕ) (at w : ℕ) (v : ℤ) (t t′ : List ℕ) → SignedPut s at w v t → SignedPut s at w v t′ → t ≡ t′
 put-signed-field-one s at w v t t′ p q = both p q
 
-pub put-signed-pair-one : (s : List ℕ) (at w : ℕ) (a b : ℤ) (t t′ : List ℕ) → SignedPairPut s at w a b t → SignedPairPut s at w a b t′ → t ≡ t′
-put-signed-pair-one s at w a b t t′ p q = both p q
+pub put-signed-fields-one : (s : List ℕ) (at w : ℕ) (zs : List ℤ) (n : ℕ) (t t′ : List ℕ) → SignedFieldsPut s at w zs n t → SignedFieldsPut s at w zs n t′ → t ≡ t′
+put-signed-fields-one s at w zs n t t′ p q = both p q
 
 pub turned-one : (w v r r′ : ℕ) → Turned w v r → Turned w v r′ → r ≡ r′
 turned-one w v r r′ p q = both p q

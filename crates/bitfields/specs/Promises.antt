@@ -2,9 +2,10 @@
 use mathlib.Core.Path.{_≡_}
 use mathlib.Core.List.{List, _++_, reverse}
 use Prim.Native.Nat.{ℕ, _+_, _-_, _^_, min}
-use lib.IntN.{ℤ}
+use lib.IntN.{ℤ, pos}
+use lib.ListN.{length, take, replicate}
 use Rattle.octets.specs.Bits.{digitsOf, valueOf, bitsOf, part, laid}
-use Rattle.octets.specs.Signed.{signedOf, twosOf}
+use Rattle.octets.specs.Signed.{signedOf, twosOf, numberBits}
 
 -- field
 abbrev pub FieldRead : List ℕ → ℕ → ℕ → ℕ → Type 0
@@ -22,9 +23,13 @@ SignedRead s at w r = r ≡ signedOf (min w 32) (valueOf (part at (min w 32) (bi
 abbrev pub SignedPut : List ℕ → ℕ → ℕ → ℤ → List ℕ → Type 0
 SignedPut s at w v exit = exit ≡ laid s at (digitsOf (min w 32) (twosOf (min w 32) v))
 
--- put_signed_pair: two fields of w bits each, no more than 28, one behind the other
-abbrev pub SignedPairPut : List ℕ → ℕ → ℕ → ℤ → ℤ → List ℕ → Type 0
-SignedPairPut s at w a b exit = exit ≡ laid s at (digitsOf (min w 28) (twosOf (min w 28) a) ++ digitsOf (min w 28) (twosOf (min w 28) b))
+-- the first n numbers, and zero where there are fewer
+abbrev pub firstOf : ℕ → List ℤ → List ℤ
+firstOf n zs = take n zs ++ replicate (n - length zs) (pos 0)
+
+-- put_signed_fields: the fields of n numbers, one behind the other
+abbrev pub SignedFieldsPut : List ℕ → ℕ → ℕ → List ℤ → ℕ → List ℕ → Type 0
+SignedFieldsPut s at w zs n exit = exit ≡ laid s at (numberBits (min w 32) (firstOf n zs))
 
 -- turned: the w low digits of v, the other end first
 abbrev pub Turned : ℕ → ℕ → ℕ → Type 0

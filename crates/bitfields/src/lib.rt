@@ -1,9 +1,13 @@
 // Fields of bits in octets, read and put by the word (SCOPE, "The activation frame"): the first bit lowest. Every function takes
 // every input: what lies past the end reads 0 and is not written, and a field's width over 32 counts as 32.
 ghost use mathlib.Core.Path.{_≡_};
-ghost use Prim.Native.Nat.{_^_, _<_, _≤_, min};
+ghost use Prim.Native.Nat.{_*_, _/_, _%_, _^_, _<_, _≤_, min};
+ghost use lib.IntN.{pos};
+ghost use lib.ListN.{getD};
+ghost use Rattle.octets.specs.Bits.{digitsOf, valueOf, bitsOf, part, laid};
 ghost use Rattle.octets.specs.Signed.{signedOf, twosOf};
-ghost use Rattle.bitfields.specs.Promises.{FieldRead, FieldPut, SignedRead, SignedPut, SignedPairPut, Turned, Behind};
+ghost use Rattle.bitfields.specs.Fields.{Pushed};
+ghost use Rattle.bitfields.specs.Promises.{FieldRead, FieldPut, SignedRead, SignedPut, SignedFieldsPut, Turned, Behind};
 
 // The widest field.
 const WIDEST: u32 = 32;
@@ -72,24 +76,81 @@ pub fn put_signed_field(s: &mut [u8], at: usize, w: u32, v: i32)
     put_field(s, at, w, twos(v));
 }
 
-// The widest of two fields that are put at once.
-const NARROW: u32 = 28;
-
-// The width of each of two fields as it counts.
-fn narrow(w: u32) -> u32
-    ensures { λ r. ⌜ r ≡ min w 28 ⌝ }
-{
-    if w < NARROW { w } else { NARROW }
+// Bits that are not in memory yet, the first lowest: so many of them, and the octet that they begin at.
+pub struct Window {
+    pub octet: usize,
+    pub held: u64,
+    pub count: u32,
 }
 
-// Two fields of w bits each, one behind the other from place `at` on, in two's complement, at once: one load and one store for both.
-pub fn put_signed_pair(s: &mut [u8], at: usize, w: u32, first: i32, second: i32)
-    ensures { λ r. ⌜ SignedPairPut (now (s .entry)) at w first second (now (s .exit)) ⌝ }
+// One field more behind those that a window holds; where there are 64 bits then, they go to memory as eight octets.
+fn pushed(s: &mut [u8], window: Window, w: u32, v: u32) -> Window
+    requires { ⌜ (window .count < 64) × (window .held < 2 ^ window .count) × (window .octet < 2 ^ 63) × (w ≤ 32) ⌝ }
+    ensures { λ r. ⌜ Pushed (now (s .entry)) window w v (now (s .exit)) r ⌝ }
 {
-    let n = narrow(w);
-    let low = (twos(first) as u64) % (1u64 << n);
-    let high = (twos(second) as u64) << n;
-    octets::put_bits(s, at, 0, n + n, high | low);
+    let octet = window.octet;
+    let count = window.count;
+    let field = (v as u64) % (1u64 << w);
+    let all = (field << count) | window.held;
+    if count + w < 64 {
+        return Window {
+            octet,
+            held: all,
+            count: count + w,
+        };
+    }
+    octets::put_word(s, octet, all);
+    Window {
+        octet: octet + 8,
+        held: field >> (64 - count),
+        count: count + w - 64,
+    }
+}
+
+// What a window still holds goes to memory; the bits behind stay.
+fn finished(s: &mut [u8], window: Window)
+    requires { ⌜ (window .count < 64) × (window .held < 2 ^ window .count) ⌝ }
+    ensures { λ r. ⌜ now (s .exit) ≡ laid (now (s .entry)) (8 * window .octet) (digitsOf (window .count) (window .held)) ⌝ }
+{
+    let octet = window.octet;
+    let count = window.count;
+    let behind = octets::word(s, octet) >> count;
+    octets::put_word(s, octet, (behind << count) | window.held);
+}
+
+// The number at an index; past the end 0.
+fn number(numbers: &[i32], k: usize) -> i32
+    ensures { λ r. ⌜ r ≡ getD (now (numbers .entry)) k (pos 0) ⌝ }
+{
+    if k < numbers.len() { numbers[k] } else { 0 }
+}
+
+// The window that fields from place `at` on begin with: the bits of its octet that lie before it.
+fn opened(s: &[u8], at: usize) -> Window
+    ensures { λ r. ⌜ r ≡ record { octet = at / 8; held = valueOf (part (8 * (at / 8)) (at % 8) (bitsOf (now (s .entry)))); count = at % 8 } ⌝ }
+{
+    let count = (at % 8) as u32;
+    Window {
+        octet: at / 8,
+        held: octets::word(s, at / 8) % (1u64 << count),
+        count,
+    }
+}
+
+// The fields of n numbers, w bits each, one behind the other from place `at` on, in two's complement: the numbers given, and zero where there are
+// fewer. They go through a window of 64 bits, so that no octet is read back.
+pub fn put_signed_fields(s: &mut [u8], at: usize, w: u32, numbers: &[i32], n: u32)
+    ensures { λ r. ⌜ SignedFieldsPut (now (s .entry)) at w (now (numbers .entry)) n (now (s .exit)) ⌝ }
+{
+    let width = width(w);
+    let mut window = opened(s, at);
+    let mut k: u32 = 0;
+    while k < n {
+        let v = twos(number(numbers, k as usize));
+        window = pushed(s, window, width, v);
+        k += 1;
+    }
+    finished(s, window);
 }
 
 // The w low digits of v, the other end first.

@@ -43,6 +43,14 @@ module _ (w : ℕ) where
   unfolding numberBits
   number-one z = append-nil (digitsOf w (twosOf w z))
 
+  -- one number more
+  pub number-more : (zs : List ℤ) (k : ℕ) → k < length zs
+      → numberBits w (take (k + 1) zs) ≡ numberBits w (take k zs) ++ digitsOf w (twosOf w (getD zs k (pos 0)))
+  number-more zs k h =
+      let z = getD zs k (pos 0) in
+      sym (ap (λ (l : List ℕ). numberBits w (take k zs) ++ l) (sym (number-one z)) ∙ sym (number-append (take k zs) (z ∷ []))
+      ∙ ap (numberBits w) (sym (take-suc zs k (pos 0) h) ∙ ap (λ (i : ℕ). take i zs) (sym (add-one k))))
+
   -- one number more, laid behind the first k of zs
   pub number-next : (s₀ : List ℕ) (at : ℕ) (zs : List ℤ) (k p : ℕ) {s t : List ℕ} → k < length zs → at + w * k ≡ p → s ≡ laid s₀ at (numberBits w (take k zs))
       → t ≡ laid s p (digitsOf w (twosOf w (getD zs k (pos 0)))) → t ≡ laid s₀ at (numberBits w (take (k + 1) zs))
@@ -50,11 +58,7 @@ module _ (w : ℕ) where
       let z = getD zs k (pos 0) in
       let L = numberBits w (take k zs) in
       let n : at + length L ≡ p = ap (λ (i : ℕ). at + i) (number-length (take k zs) ∙ ap (λ (i : ℕ). w * i) (length-take-le k zs (omega arith))) ∙ m in
-      laid-next s₀ at L (digitsOf w (twosOf w z)) p (number-bits (take k zs)) n e g
-      ∙ ap (laid s₀ at)
-      (ap (λ (l : List ℕ). L ++ l) (sym (number-one z))
-      ∙ sym (number-append (take k zs) (z ∷ []))
-      ∙ ap (numberBits w) (sym (take-suc zs k (pos 0) h) ∙ ap (λ (i : ℕ). take i zs) (sym (add-one k))))
+      laid-next s₀ at L (digitsOf w (twosOf w z)) p (number-bits (take k zs)) n e g ∙ ap (laid s₀ at) (sym (number-more zs k h))
 
   pub numbers-length : (n : ℕ) (bits : List ℕ) → length (numbersIn w n bits) ≡ n
   unfolding numbersIn

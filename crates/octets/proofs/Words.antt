@@ -278,6 +278,19 @@ unfolding laid
 bits-laid s i r n at v y e h f =
     ap (octetsOf (length s)) (ap (sets (bitsOf s) (8 * i)) f ∙ bits-put (bitsOf s) (bits-bits s) (8 * i) r n at e h v)
 
+-- bits that are there already
+pub laid-own : (s : List ℕ) (p n : ℕ) → Octets s → laid s p (digitsOf n (valueOf (part p n (bitsOf s)))) ≡ s
+unfolding laid
+laid-own s p n o =
+    let B = bitsOf s in
+    let P = part p n B in
+    let x = valueOf P in
+    ap (octetsOf (length s))
+    (sets-own B p (digitsOf n x)
+    (λ i a b. let l : i < n = omega (arith, digits-length n x) in
+    digits-at n x i l ∙ value-at P i (take-bits n (drop p B) (drop-bits p B (bits-bits s))) ∙ getD-take n (drop p B) i 0 l ∙ getD-drop p B i 0))
+    ∙ octets-bits s o
+
 -- ---- octets one by one: past the end an octet reads 0 and is not written
 
 part-none : (s : List ℕ) (at n : ℕ) → 8 * length s ≤ at → part at n (bitsOf s) ≡ []

@@ -1,0 +1,23 @@
+-- `bitfields::number` meets its contract.
+use borrow.Author.Needs.{needs}
+use mathlib.Core.Path.{sym}
+use native.Mathlib.Omega.{arith}
+use lib.IntN.{pos}
+use lib.ListN.{List·getD-eq-default}
+use Rattle.bitfields.proofs.number.Statement.{statement}
+use Rattle.bitfields.proofs.number.Tie as tie
+
+mul-result : tie.Need-mul-result
+mul-result c = search needs
+
+shared-slice-copy-out-result : tie.Need-shared-slice-copy-out-result
+shared-slice-copy-out-result c = search needs
+
+returns : tie.Need-returns
+returns c = search needs
+
+returns-2 : tie.Need-returns-2
+returns-2 c = sym (List·getD-eq-default (c .before .args .numbers .now) (pos 0) (c .if1 .left))
+
+pub number-spec : {M : Type 1} → statement M
+number-spec = tie.close (tie.spec mul-result shared-slice-copy-out-result returns returns-2)
