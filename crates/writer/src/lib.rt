@@ -1,39 +1,26 @@
 // Writing an activation frame (SCOPE, "The activation frame").
 ghost use mathlib.Core.Path.{_≡_};
 ghost use mathlib.Core.List.{_++_};
-ghost use Prim.Native.Nat.{_<_, _≤_};
-ghost use lib.IntN.{pos};
-ghost use lib.ListN.{length, getD, replicate};
+ghost use Prim.Native.Nat.{_≤_};
+ghost use lib.ListN.{length, replicate};
 ghost use Rattle.octets.specs.Bits.{digitsOf, bitsOf, octetsOf, laid};
 ghost use Rattle.ranges.specs.Ranges.{coefficientCount, wordWidth};
 ghost use Rattle.layout.specs.Places.{reservedWidth, vendorLength, frameLength, placeOf, syncField, coefficientsField};
 ghost use Rattle.layout.specs.Frame.{coefficientBits, used, behind, frameBits, trainingBits, finalBits, fieldOf};
 ghost use Rattle.writer.specs.Promises.{Written};
 
-// The coefficient at index k as it is written: zero behind the first `count`.
-fn coefficient(coefficients: &[i32], count: usize, k: usize) -> i32
-    requires { ⌜ (length (now coefficients) ≡ coefficientCount) × (count ≤ coefficientCount) × (k < coefficientCount) ⌝ }
-    ensures { λ r. ⌜ r ≡ getD (used count (now (coefficients .entry))) k (pos 0) ⌝ }
-{
-    if k < count { coefficients[k] } else { 0 }
-}
-
-// All coefficients' fields, behind sync.
+// All coefficients' fields, behind sync: those behind the first `count` are zero.
 fn put_coefficients(frame: &mut [u8], coefficients: &[i32], count: usize)
     requires { ⌜ (length (now coefficients) ≡ coefficientCount) × (count ≤ coefficientCount) ⌝ }
     ensures { λ r. ⌜ now (frame .exit) ≡ laid (now (frame .entry)) (placeOf coefficientsField) (coefficientBits (used count (now (coefficients .entry)))) ⌝ }
 {
-    let mut k = 0;
-    while k < layout::COEFFICIENTS {
-        let c = coefficient(coefficients, count, k);
-        bitfields::put_signed_field(
-            frame,
-            layout::COEFFICIENTS_AT + layout::COEFFICIENT_STEP * k,
-            layout::COEFFICIENT_BITS,
-            c,
-        );
-        k += 1;
-    }
+    bitfields::put_signed_fields(
+        frame,
+        layout::COEFFICIENTS_AT,
+        layout::COEFFICIENT_BITS,
+        &coefficients[0..count],
+        layout::COEFFICIENTS as u32,
+    );
 }
 
 // A or B: its first bit, a0 or b0, stands first and weighs least.
