@@ -1,39 +1,23 @@
 -- Each field of a frame stands at its place. Assumes nothing.
-use mathlib.Core.Path.{_≡_, refl, sym, ap, ap₂, _∙_}
+use mathlib.Core.Path.{_≡_, sym, ap, _∙_}
 use mathlib.Core.List.{List, [], _∷_, _++_, append-assoc, append-nil}
-use Prim.Native.Nat.{ℕ, zero, suc, _*_}
+use Prim.Native.Nat.{ℕ, _*_}
 use lib.IntN.{ℤ}
-use lib.ListN.{length, getD, take, replicate}
-use lib.Seq.{take-at}
-use Rattle.octets.specs.Bits.{digitsOf, bitsOf, part}
+use lib.ListN.{length, getD, replicate}
+use Rattle.octets.specs.Bits.{digitsOf, bitsOf}
 use Rattle.octets.proofs.Digits.{digits-length}
 use Rattle.octets.proofs.Laws.{bits-length}
-use Rattle.octets.proofs.Fields.{part-behind}
 use Rattle.octets.proofs.Numbers.{number-length}
+use Rattle.places.specs.Places.{fieldIn, joined, widthsOf}
+use Rattle.places.proofs.Fields.{laid-back}
 use Rattle.remainder.specs.Division.{checkBits}
-use Rattle.layout.specs.Places.{widths, total, syncField, coefficientsField, aField, bField, vendorField, reservedField, checkField, padField}
+use Rattle.layout.specs.Places.{widths, syncField, coefficientsField, aField, bField, vendorField, reservedField, checkField, padField}
 use Rattle.layout.specs.Frame.{coefficientBits, message, checkOf, frameBits, fieldOf, messageOf}
 use Rattle.layout.proofs.Laws.{check-length}
 
--- pieces one behind the other, and their lengths
-abbrev joined : List (List ℕ) → List ℕ
-joined [] = []
-joined (p ∷ ps) = p ++ joined ps
-
-abbrev lengths : List (List ℕ) → List ℕ
-lengths [] = []
-lengths (p ∷ ps) = length p ∷ lengths ps
-
--- piece k stands behind those before it
-piece : (ps : List (List ℕ)) (k : ℕ) → part (total (take k (lengths ps))) (getD (lengths ps) k 0) (joined ps) ≡ getD ps k []
-piece [] zero = refl
-piece [] (suc k) = refl
-piece (p ∷ ps) zero = take-at p (joined ps) (length p) refl
-piece (p ∷ ps) (suc k) = part-behind p (joined ps) (total (take k (lengths ps))) (getD (lengths ps) k 0) _ refl ∙ piece ps k
-
--- the same where bits and widths are known to be those of the pieces
-piece-of : (ws bits : List ℕ) (ps : List (List ℕ)) → ws ≡ lengths ps → bits ≡ joined ps → (k : ℕ) → part (total (take k ws)) (getD ws k 0) bits ≡ getD ps k []
-piece-of ws bits ps e f k = ap₂ (λ (v b : List ℕ). part (total (take k v)) (getD v k 0) b) e f ∙ piece ps k
+-- bits that are fields one behind the other, where the widths are known to be theirs
+piece : (ws bits : List ℕ) (ps : List (List ℕ)) → ws ≡ widthsOf ps → bits ≡ joined ps → (k : ℕ) → fieldIn ws k bits ≡ getD ps k []
+piece ws bits ps e f k = ap (fieldIn ws k) f ∙ laid-back ws ps e k
 
 module _ (word m : List ℕ) (s : length word ≡ 14) (l : length m ≡ 4197) where
   abbrev F : List ℕ
@@ -43,10 +27,10 @@ module _ (word m : List ℕ) (s : length word ≡ 14) (l : length m ≡ 4197) wh
   c = checkBits 16 (checkOf m)
 
   -- sync, the message, its check bits and the pad
-  quarter : (k : ℕ) → part (total (take k (14 ∷ 4197 ∷ 16 ∷ 5 ∷ []))) (getD (14 ∷ 4197 ∷ 16 ∷ 5 ∷ []) k 0) F ≡ getD (word ∷ m ∷ c ∷ replicate 5 0 ∷ []) k []
+  quarter : (k : ℕ) → fieldIn (14 ∷ 4197 ∷ 16 ∷ 5 ∷ []) k F ≡ getD (word ∷ m ∷ c ∷ replicate 5 0 ∷ []) k []
   unfolding frameBits
   quarter =
-      piece-of (14 ∷ 4197 ∷ 16 ∷ 5 ∷ []) F (word ∷ m ∷ c ∷ replicate 5 0 ∷ []) (rw (s, l, check-length 16 (checkOf m)))
+      piece (14 ∷ 4197 ∷ 16 ∷ 5 ∷ []) F (word ∷ m ∷ c ∷ replicate 5 0 ∷ []) (rw (s, l, check-length 16 (checkOf m)))
       (ap (λ (e : List ℕ). word ++ (m ++ (c ++ e))) (sym (append-nil (replicate 5 0))))
 
   pub sync-field : fieldOf syncField F ≡ word
@@ -69,7 +53,7 @@ module _ (cs : List ℤ) (a b : ℕ) (given rest : List ℕ) (l : length cs ≡ 
     abbrev pieces : List (List ℕ)
     pieces = word ∷ coefficientBits cs ∷ digitsOf 21 a ∷ digitsOf 21 b ∷ bitsOf given ∷ rest ∷ checkBits 16 (checkOf m) ∷ replicate 5 0 ∷ []
 
-    their-lengths : widths ≡ lengths pieces
+    their-lengths : widths ≡ widthsOf pieces
     their-lengths =
         rw (
           s,
@@ -84,7 +68,7 @@ module _ (cs : List ℤ) (a b : ℕ) (given rest : List ℕ) (l : length cs ≡ 
     -- every field is its piece
     pub field : (k : ℕ) → fieldOf k (frameBits word m) ≡ getD pieces k []
     unfolding frameBits message
-    field = piece-of widths (frameBits word m) pieces their-lengths (simp (append-assoc, append-nil))
+    field = piece widths (frameBits word m) pieces their-lengths (simp (append-assoc, append-nil))
 
     pub coefficients-field : fieldOf coefficientsField (frameBits word m) ≡ coefficientBits cs
     coefficients-field = field coefficientsField

@@ -10,7 +10,7 @@ use borrow.Author.Tests.{eq-eqb, eqb-true, not-false}
 use lib.Dec.{eqb, lit≤}
 use lib.IntN.{ℤ, pos}
 use lib.ListN.{length, getD, take, drop, replicate, length-drop, length-replicate, length-reverse}
-use lib.Seq.{take-all, take-add, length-take-le}
+use lib.Seq.{take-all, length-take-le}
 use lib.Signed.{mag}
 use Rattle.answer.specs.Answer.{answer, refuse}
 use Rattle.answer.proofs.Laws.{none}
@@ -19,10 +19,11 @@ use Rattle.octets.specs.Signed.{numbersIn}
 use Rattle.octets.proofs.Digits.{Bits, digits-value, value-digits, value-one, take-bits, drop-bits, zeros-bits, zeros-value, reverse-bits}
 use Rattle.octets.proofs.Laws.{Octets, bits-octets, octets-bits}
 use Rattle.octets.proofs.Numbers.{numbers-length, numbers-back, numbers-again}
+use Rattle.places.proofs.Fields.{span-split, span-fields, span-all}
 use Rattle.remainder.specs.Division.{polynomial, checkBits, generator}
 use Rattle.remainder.proofs.Division.{exists}
 use Rattle.remainder.proofs.Errors.{check-value, generator-degree}
-use Rattle.layout.specs.Places.{syncField, coefficientsField, aField, bField, vendorField, reservedField, checkField, padField}
+use Rattle.layout.specs.Places.{widths, syncField, coefficientsField, aField, bField, vendorField, reservedField, checkField, padField}
 use Rattle.layout.specs.Frame.{trainingSync, finalSync, coefficientBits, used, message, checkOf, frameBits, trainingBits, finalBits, fieldOf}
 use Rattle.layout.specs.Frame.{messageOf, coefficientsOf}
 use Rattle.ranges.specs.Ranges.{isCoefficient, every}
@@ -208,23 +209,15 @@ module _ (B : List ℕ) (l : length B ≡ 4232) (h : Bits B) where
   -- the frame is its parts, one behind the other
   parts : B ≡ fieldOf syncField B ++ (messageOf B ++ (fieldOf checkField B ++ fieldOf padField B))
   parts =
-      sym (take-all 4232 B (omega arith)) ∙ take-add 14 4218 B
-      ∙ ap (λ (x : List ℕ). take 14 B ++ x)
-      (take-add 4197 21 (drop 14 B)
-      ∙ ap (λ (x : List ℕ). messageOf B ++ x)
-      (ap (take 21) (lib.Seq.drop-drop 4197 14 B) ∙ take-add 16 5 (drop 4211 B)
-      ∙ ap (λ (x : List ℕ). fieldOf checkField B ++ take 5 x) (lib.Seq.drop-drop 16 4211 B)))
+      sym (span-all widths B l) ∙ span-split widths B 0 1 8 (lit≤ tt) (lit≤ tt)
+      ∙ ap (λ (x : List ℕ). fieldOf syncField B ++ x)
+      (span-split widths B 1 6 8 (lit≤ tt) (lit≤ tt) ∙ ap (λ (x : List ℕ). messageOf B ++ x) (span-split widths B 6 7 8 (lit≤ tt) (lit≤ tt)))
 
   message-parts : messageOf B ≡ fieldOf coefficientsField B ++ (fieldOf aField B ++ (fieldOf bField B ++ (fieldOf vendorField B ++ fieldOf reservedField B)))
   message-parts =
-      take-add 3960 237 (drop 14 B)
-      ∙ ap (λ (x : List ℕ). fieldOf coefficientsField B ++ x)
-      (ap (take 237) (lib.Seq.drop-drop 3960 14 B) ∙ take-add 21 216 (drop 3974 B)
-      ∙ ap (λ (x : List ℕ). fieldOf aField B ++ x)
-      (ap (take 216) (lib.Seq.drop-drop 21 3974 B) ∙ take-add 21 195 (drop 3995 B)
-      ∙ ap (λ (x : List ℕ). fieldOf bField B ++ x)
-      (ap (take 195) (lib.Seq.drop-drop 21 3995 B) ∙ take-add 128 67 (drop 4016 B)
-      ∙ ap (λ (x : List ℕ). fieldOf vendorField B ++ take 67 x) (lib.Seq.drop-drop 128 4016 B))))
+      span-fields widths B 5 1
+      ∙ ap (λ (x : List ℕ). fieldOf coefficientsField B ++ (fieldOf aField B ++ (fieldOf bField B ++ (fieldOf vendorField B ++ x))))
+      (mathlib.Core.List.append-nil (fieldOf reservedField B))
 
   -- a field is the digits of its value
   field-digits : (at n : ℕ) → at + n ≤ 4232 → digitsOf n (valueOf (part at n B)) ≡ part at n B

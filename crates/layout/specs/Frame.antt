@@ -2,13 +2,14 @@
 use mathlib.Core.List.{List, [], _∷_, _++_}
 use Prim.Native.Nat.{ℕ, _-_}
 use lib.IntN.{ℤ, pos}
-use lib.ListN.{getD, take, replicate}
-use Rattle.octets.specs.Bits.{digitsOf, bitsOf, part}
+use lib.ListN.{take, replicate}
+use Rattle.octets.specs.Bits.{digitsOf, bitsOf}
 use Rattle.octets.specs.Signed.{numberBits, numbersIn}
+use Rattle.places.specs.Places.{fieldIn, spanIn}
 use Rattle.remainder.specs.Division.{checkBits, generator}
 use Rattle.remainder.specs.Register.{registerOf}
 use Rattle.ranges.specs.Ranges.{coefficientCount, coefficientWidth, wordWidth}
-use Rattle.layout.specs.Places.{reservedWidth, checkWidth, padWidth, widths, placeOf, coefficientsField, checkField}
+use Rattle.layout.specs.Places.{reservedWidth, checkWidth, padWidth, widths, coefficientsField, checkField}
 
 -- sync is 11111001101011 in a training frame, left bit first
 unfoldable pub trainingSync : List ℕ
@@ -52,11 +53,11 @@ finalBits vendor = frameBits finalSync (message (replicate coefficientCount (pos
 
 -- field number k of a frame's bits
 abbrev pub fieldOf : ℕ → List ℕ → List ℕ
-fieldOf k bits = part (placeOf k) (getD widths k 0) bits
+fieldOf k bits = fieldIn widths k bits
 
 -- bits 15 to 4211 of a frame's bits
 abbrev pub messageOf : List ℕ → List ℕ
-messageOf bits = part (placeOf coefficientsField) (placeOf checkField - placeOf coefficientsField) bits
+messageOf bits = spanIn widths coefficientsField checkField bits
 
 -- the coefficients of a frame's bits
 abbrev pub coefficientsOf : List ℕ → List ℤ

@@ -1,7 +1,7 @@
--- Where the fields of an activation frame stand (000, clause 4.1.3): each behind those before it.
+-- Where the fields of an activation frame stand (000, clause 4.1.3): each behind those before it, as crate `places` has it for any widths.
 use mathlib.Core.List.{List, [], _∷_}
-use Prim.Native.Nat.{ℕ, _+_, _*_, _/_}
-use lib.ListN.{take}
+use Prim.Native.Nat.{ℕ, _*_, _/_}
+use Rattle.places.specs.Places.{total, placeIn}
 use Rattle.ranges.specs.Ranges.{coefficientCount, coefficientWidth, wordWidth}
 
 -- the bits of sync, of the reserved field, of the check bits and of the pad
@@ -26,18 +26,13 @@ abbrev pub widths : List ℕ
 widths =
     syncWidth ∷ coefficientCount * coefficientWidth ∷ wordWidth ∷ wordWidth ∷ 8 * vendorLength ∷ reservedWidth ∷ checkWidth ∷ padWidth ∷ []
 
--- widths added up
-abbrev pub total : List ℕ → ℕ
-total [] = 0
-total (w ∷ ws) = w + total ws
-
 -- in memory a frame is so many octets: 529
 abbrev pub frameLength : ℕ
 frameLength = total widths / 8
 
 -- the place of field number k, from 0: the widths before it. Bit n of the paper stands at place n - 1
 abbrev pub placeOf : ℕ → ℕ
-placeOf k = total (take k widths)
+placeOf k = placeIn widths k
 
 -- the fields' numbers, in their order. Bits 1 to 14: sync
 abbrev pub syncField : ℕ
