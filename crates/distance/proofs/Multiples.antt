@@ -1,10 +1,8 @@
--- Multiples of a polynomial: times a power of D, and of a multiple. Assumes nothing.
+-- Multiples of a polynomial: 0, twice one, and a multiple of one. Assumes nothing.
 use mathlib.Core.Path.{refl, sym, ap, _∙_, subst}
 use mathlib.Core.Bool.{Bool, true, false}
 use mathlib.Core.List.{List, [], _∷_}
-use Prim.Native.Nat.{ℕ, zero, suc, _*_, _^_}
-use native.Mathlib.Nat.{mul-assoc, pow-suc}
-use native.Mathlib.Omega.{arith}
+use Prim.Native.Nat.{ℕ, _*_}
 use lib.Bits.{xor-zero-r}
 use Rattle.remainder.specs.Division.{scale, times, Multiple}
 use Rattle.remainder.proofs.Errors.{sum-multiple}
@@ -17,11 +15,6 @@ pub twice : (g n : ℕ) → Multiple g n → Multiple g (n * 2)
 unfolding times
 twice g n m =
     record { quotient = false ∷ m .quotient; product = ap (λ (x : ℕ). x * 2) (m .product) ∙ sym (xor-zero-r (times (m .quotient) g * 2)) }
-
-pub shifted : (g n i : ℕ) → Multiple g n → Multiple g (n * 2 ^ i)
-shifted g n zero m = subst (Multiple g) (omega arith) m
-shifted g n (suc i) m =
-    subst (Multiple g) (mul-assoc n (2 ^ i) 2 ∙ ap (λ (p : ℕ). n * p) (sym (pow-suc 2 i))) (twice g (n * 2 ^ i) (shifted g n i m))
 
 -- a multiple of b is one of a, where b is
 pub through : (a b n : ℕ) → Multiple a b → Multiple b n → Multiple a n

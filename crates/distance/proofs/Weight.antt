@@ -132,15 +132,15 @@ even-ones e h m =
     let d : Degree 3 1 = record { reached = lit≤ tt; within = lit< tt } in
     q .product ∙ small-multiple 1 3 d (q .quotient) (subst (λ (n : ℕ). n < 2) (q .product) (bit (ones e)))
 
--- the generator is (D + 1) (D^15 + D^14 + D^13 + D^12 + D^4 + D^3 + D^2 + D + 1)
-generator-even : Multiple 3 generator
+-- so where D + 1 divides a generator, its multiples have an even number of ones
+pub multiple-even : (g : ℕ) → Multiple 3 g → (e : List ℕ) → Bits e → Multiple g (polynomial e) → ones e % 2 ≡ 0
+multiple-even g v e h m = even-ones e h (through 3 g (polynomial e) v m)
+
+-- the generator of SCOPE is (D + 1) (D^15 + D^14 + D^13 + D^12 + D^4 + D^3 + D^2 + D + 1)
+pub generator-even : Multiple 3 generator
 unfolding times
 generator-even =
     record {
       quotient = true ∷ true ∷ true ∷ true ∷ true ∷ false ∷ false ∷ false ∷ false ∷ false ∷ false ∷ false ∷ true ∷ true ∷ true ∷ true ∷ [];
       product = refl;
     }
-
--- so its multiples have an even number of ones
-pub multiple-even : (e : List ℕ) → Bits e → Multiple generator (polynomial e) → ones e % 2 ≡ 0
-multiple-even e h m = even-ones e h (through 3 generator (polynomial e) generator-even m)
