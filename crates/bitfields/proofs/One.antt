@@ -4,7 +4,7 @@ use mathlib.Core.List.{List}
 use Prim.Native.Nat.{ℕ}
 use lib.IntN.{ℤ}
 use Rattle.octets.proofs.One.{both}
-use Rattle.bitfields.specs.Promises.{FieldRead, FieldPut, SignedRead, SignedPut, SignedFieldsPut, Turned, Behind}
+use Rattle.bitfields.specs.Promises.{FieldRead, FieldPut, SignedRead, SignedFieldsPut, Turned, Behind}
 
 pub field-one : (s : List ℕ) (at w r r′ : ℕ) → FieldRead s at w r → FieldRead s at w r′ → r ≡ r′
 field-one s at w r r′ p q = both p q
@@ -14,9 +14,6 @@ put-field-one s at w v t t′ p q = both p q
 
 pub signed-field-one : (s : List ℕ) (at w : ℕ) (r r′ : ℤ) → SignedRead s at w r → SignedRead s at w r′ → r ≡ r′
 signed-field-one s at w r r′ p q = both p q
-
-pub put-signed-field-one : (s : List ℕ) (at w : ℕ) (v : ℤ) (t t′ : List ℕ) → SignedPut s at w v t → SignedPut s at w v t′ → t ≡ t′
-put-signed-field-one s at w v t t′ p q = both p q
 
 pub put-signed-fields-one : (s : List ℕ) (at w : ℕ) (zs : List ℤ) (n : ℕ) (t t′ : List ℕ) → SignedFieldsPut s at w zs n t → SignedFieldsPut s at w zs n t′ → t ≡ t′
 put-signed-fields-one s at w zs n t t′ p q = both p q

@@ -19,10 +19,6 @@ FieldPut s at w v exit = exit ≡ laid s at (digitsOf (min w 32) v)
 abbrev pub SignedRead : List ℕ → ℕ → ℕ → ℤ → Type 0
 SignedRead s at w r = r ≡ signedOf (min w 32) (valueOf (part at (min w 32) (bitsOf s)))
 
--- put_signed_field
-abbrev pub SignedPut : List ℕ → ℕ → ℕ → ℤ → List ℕ → Type 0
-SignedPut s at w v exit = exit ≡ laid s at (digitsOf (min w 32) (twosOf (min w 32) v))
-
 -- the first n numbers, and zero where there are fewer
 abbrev pub firstOf : ℕ → List ℤ → List ℤ
 firstOf n zs = take n zs ++ replicate (n - length zs) (pos 0)

@@ -7,7 +7,7 @@ ghost use lib.ListN.{getD};
 ghost use Rattle.octets.specs.Bits.{digitsOf, valueOf, bitsOf, part, laid};
 ghost use Rattle.octets.specs.Signed.{signedOf, twosOf};
 ghost use Rattle.bitfields.specs.Fields.{Pushed};
-ghost use Rattle.bitfields.specs.Promises.{FieldRead, FieldPut, SignedRead, SignedPut, SignedFieldsPut, Turned, Behind};
+ghost use Rattle.bitfields.specs.Promises.{FieldRead, FieldPut, SignedRead, SignedFieldsPut, Turned, Behind};
 
 // The widest field.
 const WIDEST: u32 = 32;
@@ -67,13 +67,6 @@ pub fn signed_field(s: &[u8], at: usize, w: u32) -> i32
     ensures { λ r. ⌜ SignedRead (now (s .entry)) at w r ⌝ }
 {
     signed(width(w), field(s, at, w))
-}
-
-// The field of w bits from place `at` on becomes the w low digits of v in two's complement.
-pub fn put_signed_field(s: &mut [u8], at: usize, w: u32, v: i32)
-    ensures { λ r. ⌜ SignedPut (now (s .entry)) at w v (now (s .exit)) ⌝ }
-{
-    put_field(s, at, w, twos(v));
 }
 
 // Bits that are not in memory yet, the first lowest: so many of them, and the octet that they begin at.

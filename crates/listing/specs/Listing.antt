@@ -51,7 +51,8 @@ unfoldable pub listed : ℕ → List ℕ → List ℕ
 listed (suc n) bits = numberLine "refused " (suc n)
 listed zero bits =
     cond (hasSync trainingSync bits)
-    (trainingText (coefficientsOf bits) (valueOf (fieldOf aField bits)) (valueOf (fieldOf bField bits)) (vendorOctets bits) (polynomial (fieldOf checkField bits)))
+    (trainingText (coefficientsOf bits) (valueOf (fieldOf aField bits)) (valueOf (fieldOf bField bits)) (vendorOctets bits)
+    (polynomial (fieldOf checkField bits)))
     (finalText (vendorOctets bits) (polynomial (fieldOf checkField bits)))
 
 -- what the lister prints for the octets that it reads: fewer or more than 529 octets is "refused 1", as a frame's check answers

@@ -3,7 +3,7 @@ use mathlib.Core.Path.{_≡_, sym, _∙_}
 use mathlib.Core.Bool.{Bool}
 use mathlib.Core.List.{List}
 use Prim.Native.Nat.{ℕ}
-use Rattle.octets.specs.Promises.{BitRead, BitPut, HasBit, WordRead, WordPut, BitsRead, BitsPut, Copied, Cleared, IsClear}
+use Rattle.octets.specs.Promises.{BitRead, HasBit, WordRead, WordPut, BitsRead, BitsPut, Copied, Cleared, IsClear}
 
 -- two that are equal to a third
 pub both : {A : Type 0} {x y z : A} → x ≡ z → y ≡ z → x ≡ y
@@ -11,9 +11,6 @@ both p q = p ∙ sym q
 
 pub bit-one : (s : List ℕ) (at k r r′ : ℕ) → BitRead s at k r → BitRead s at k r′ → r ≡ r′
 bit-one s at k r r′ p q = both p q
-
-pub put-bit-one : (s : List ℕ) (at k b : ℕ) (t t′ : List ℕ) → BitPut s at k b t → BitPut s at k b t′ → t ≡ t′
-put-bit-one s at k b t t′ p q = both p q
 
 pub has-one : (s : List ℕ) (at k : ℕ) (r r′ : Bool) → HasBit s at k r → HasBit s at k r′ → r ≡ r′
 has-one s at k r r′ p q = both p q

@@ -11,10 +11,6 @@ use Rattle.octets.specs.Bits.{digitsOf, valueOf, bitsOf, bitOf, part, la
 abbrev pub BitRead : List ℕ → ℕ → ℕ → ℕ → Type 0
 BitRead s at k r = r ≡ bitOf s (at + k)
 
--- put_bit
-abbrev pub BitPut : List ℕ → ℕ → ℕ → ℕ → List ℕ → Type 0
-BitPut s at k b exit = exit ≡ laid s (at + k) (b % 2 ∷ [])
-
 -- has
 abbrev pub HasBit : List ℕ → ℕ → ℕ → Bool → Type 0
 HasBit s at k r = r ≡ ltb (at + k) (length (bitsOf s))

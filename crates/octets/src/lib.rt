@@ -7,7 +7,7 @@ ghost use lib.Dec.{ltb};
 ghost use lib.ListN.{length, getD, take, drop};
 ghost use lib.Seq.{sets};
 ghost use Rattle.octets.specs.Bits.{digitsOf, bitsOf, octetsOf, part, laid};
-ghost use Rattle.octets.specs.Promises.{BitRead, BitPut, HasBit, WordRead, WordPut, BitsRead, BitsPut, Copied, Cleared, IsClear};
+ghost use Rattle.octets.specs.Promises.{BitRead, HasBit, WordRead, WordPut, BitsRead, BitsPut, Copied, Cleared, IsClear};
 
 // Whether there is a bit k places behind place `at`.
 pub fn has(s: &[u8], at: usize, k: u32) -> bool
@@ -25,18 +25,6 @@ pub fn bit(s: &[u8], at: usize, k: u32) -> u8
         (s[at / 8 + j / 8] >> (j % 8)) & 1
     } else {
         0
-    }
-}
-
-// The bit k places behind place `at` becomes the lowest digit of b.
-pub fn put_bit(s: &mut [u8], at: usize, k: u32, b: u8)
-    ensures { λ r. ⌜ BitPut (now (s .entry)) at k b (now (s .exit)) ⌝ }
-{
-    if has(s, at, k) {
-        let j = at % 8 + (k as usize);
-        let octet = at / 8 + j / 8;
-        let o = s[octet];
-        s[octet] = o ^ ((((o >> (j % 8)) & 1) ^ (b % 2)) << (j % 8));
     }
 }
 
