@@ -2,8 +2,7 @@
 that its `ensures` cites, with the same arguments in the same order, every number of the struct that it returns, and all memory that it may write;
 and `fromC` tests each argument by its type. So nothing is asked of a library that the compiled one does not promise, and nothing is left out.
 
-A line "-- outside: NAME, NAME" in Contracts.antt names exported functions that no demand speaks of. At the end an error of each kind is planted,
-and has to be found.
+At the end an error of each kind is planted, and has to be found.
 """
 import pathlib
 import re
@@ -12,6 +11,8 @@ import sys
 ROOT = pathlib.Path(__file__).resolve().parents[2]
 # an argument's type, and the test that `fromC` makes of it
 TESTS = {"u32": "u32", "usize": "usize", "i32": "i32", "&[u8]": "buffer", "&mut [u8]": "buffer", "Supervisor": "supervisor"}
+# the fields of a returned struct that are a state to go on with
+STATES = ("state", "register")
 
 
 def split(text, opening="([{", closing=")]}"):
@@ -55,8 +56,7 @@ def kept(text):
 def check(sources, contracts, from_c):
     wrong = []
     code = {name: rest for name, *rest in exported(sources)}
-    outside = re.findall(r"sdsl_\w+", (re.search(r"^-- outside: (.*)$", contracts, re.M) or [""])[0])
-    seen = set(outside)
+    seen = set()
     for functions, aliases, field, asked in kept(contracts):
         m = re.match(r"(\(way : Way\) )?\((\w+) : \S+(?: \S+)?\) → calls \.([\w-]+) (\w+) ≡ true → (.*)$", asked)
         if not m:
@@ -110,11 +110,10 @@ def check(sources, contracts, from_c):
                         wrong.append(f"{name}: returns {', '.join(ask)}, and {field} asks for {', '.join(got)}")
                     for k, v in got.items():
                         g = aliases.get(k, k).replace("_", "-")
-                        one = sum(f != "answer" for f in ask) == 1
                         right = [f"{result} .answer"] if k == "answer" else [f"{result} .numbers .{g}", f"{result} .memory .{g}"]
-                        if one and k != "answer":
+                        if [f for f in ask if f not in ("answer", *STATES)] == [k]:
                             right.append(f"{result} .numbers")
-                        if k in ("state", "register"):
+                        if k in STATES:
                             right.append(f"{result} .memory")
                         if v not in right:
                             wrong.append(f"{name}: its {k} is taken from {v}")
@@ -126,7 +125,7 @@ def check(sources, contracts, from_c):
                 wrong.append(f"{name}: fromC tests {said and said[1]}, not {tests}")
     for name in sorted(set(code) - seen):
         wrong.append(f"{name} is exported, and KeepsFor says nothing of it")
-    return wrong, len(seen - set(outside))
+    return wrong, len(seen)
 
 
 sources = [f.read_text() for f in sorted((ROOT / "crates/host/src").glob("*.rt"))]
@@ -143,6 +142,8 @@ planted = [
     ("attempt = x .step c .numbers .attempt;", "attempt = x .step c .numbers .phase;", contracts),
     ("(x .read c .memory .coefficients) (x .read c .memory .vendor)", "(x .read c .memory .coefficients) (x .read c .memory .coefficients)", contracts),
     ("→ DecodesRun ", "→ PrecodesRun ", contracts),
+    ("bit = x .bit way c .numbers;", "bit = x .bit way c .memory;", contracts),
+    ("(x .history-start history .memory)", "history", contracts),
     ("«ended_at» = x .run-codes c .numbers .ended-at;\n        ", "", contracts),
     ("usize (c .bits)", "u32 (c .bits)", from_c),
     ("  -- sdsl_shaper(y)\n", "", contracts),

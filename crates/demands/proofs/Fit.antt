@@ -2,11 +2,11 @@
 use mathlib.Core.Path.{_≡_, refl, sym, ap, _∙_}
 use mathlib.Core.Bool.{Bool, true, false, not, _&&_, _||_, true≢false}
 use mathlib.Core.Logic.{_⊎_, inl, inr}
-use mathlib.Core.List.{List}
-use Prim.Native.Nat.{ℕ, zero, suc, _/_, _≤_}
+use mathlib.Core.List.{List, []}
+use Prim.Native.Nat.{ℕ, zero, suc, _/_, _^_, _≤_, _<_}
 use native.Mathlib.Omega.{arith}
 use borrow.Author.Tests.{eq-eqb, eqb-true, leb-true, ltb-false, not-false}
-use lib.Dec.{eqb, ltb}
+use lib.Dec.{eqb, ltb, leb}
 use lib.ListN.{length, drop, take}
 use Rattle.answer.specs.Answer.{answer}
 use Rattle.answer.proofs.Laws.{none, passed}
@@ -17,8 +17,8 @@ use Rattle.ranges.proofs.Laws.{both}
 use Rattle.numbers.specs.Promises.{numbersOf}
 use Rattle.numbers.proofs.Laws.{numbers-many}
 use Rattle.host.specs.Frames.{frameReadRefusals}
-use Rattle.demands.specs.Library.{WriteCall, ReadCall}
-use Rattle.demands.specs.One.{writeChecks, readChecks}
+use Rattle.demands.specs.Library.{WriteCall, ReadCall, BitCall}
+use Rattle.demands.specs.One.{writeChecks, readChecks, bitChecks}
 use Rattle.demands.specs.Two.{Right}
 
 neither : (s t : Bool) → (s || t) ≡ false → (s ≡ false) × (t ≡ false)
@@ -99,3 +99,12 @@ pub read-right : (c : ReadCall) → length (c .coefficients) ≡ 720 → length 
 read-right c l m n z =
     let L = frameReadRefusals (c .frame) (c .coefficients) (c .vendor) in
     passed 1 (drop 1 L) (ap not (eq-eqb _ _ l)) ∙ passed 1 (drop 2 L) (ap not (eq-eqb _ _ m)) ∙ passed 1 (drop 3 L) (ap not (eq-eqb _ _ n)) ∙ z
+
+-- a bit to scramble or to descramble
+pub bit-fit : (c : BitCall) → Right (bitChecks c) → (ltb 1 (c .end) ≡ false) × (leb (2 ^ 23) (c .state) ≡ false) × (c .bit < 2)
+bit-fit c h =
+    let R = bitChecks c in
+    let two = none 1 (ltb 1 (c .end)) (drop 1 R) h in
+    let four = none 3 (leb (2 ^ 23) (c .state)) (drop 2 R) (two .1) in
+    let bit = none 3 (ltb 1 (c .bit)) [] (four .1) in
+    (two .0, four .0, omega (arith, ltb-false 1 (c .bit) (bit .0)))

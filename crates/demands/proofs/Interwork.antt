@@ -8,12 +8,12 @@ use native.Mathlib.Omega.{arith}
 use borrow.Author.Tests.{eq-eqb, eqb-true, ltb-false, le-ltb, lt-leb, not-false}
 use lib.Dec.{eqb, ltb, leb, lit≤}
 use lib.IntN.{ℤ}
-use lib.ListN.{length, drop}
+use lib.ListN.{length, getD, drop}
 use lib.Seq.{sets-eq, take-at, length-take-le}
 use Rattle.answer.specs.Answer.{answer}
 use Rattle.answer.proofs.Laws.{none as none-applies, passed, given as held-given}
 use Rattle.octets.specs.Bits.{valueOf, bitsOf, octetsOf, part, laid}
-use Rattle.octets.proofs.Digits.{Bits, take-bits, drop-bits, value-part}
+use Rattle.octets.proofs.Digits.{Bits, nil-bits, cons-bits, take-bits, drop-bits, value-part}
 use Rattle.octets.proofs.Laws.{bits-bits, bits-length, octets-length, laid-length, laid-bits}
 use Rattle.layout.specs.Places.{aField, bField, vendorField, padField}
 use Rattle.layout.specs.Frame.{used, trainingBits, finalBits, fieldOf, coefficientsOf}
@@ -34,10 +34,10 @@ use Rattle.precoder.proofs.Recipe.{outputsOf, inputsOf}
 use Rattle.precoder.proofs.Back.{outputs-sent, sent-unique, inputs-are, outputs-length, run-done, runs, run-back as run-back-of}
 use Rattle.precoder.proofs.Turns.{lengths-are}
 use Rattle.numbers.proofs.Laws.{octets-many, octets-kept}
-use Rattle.demands.specs.Library.{Outcome, None, none, WriteCall, ReadCall, RunCall, FrameCall, Line, PrecodeCall, Signal, Library}
-use Rattle.demands.specs.One.{writeChecks, readChecks, runChecks, frameChecks, precodeChecks}
+use Rattle.demands.specs.Library.{Outcome, None, none, WriteCall, ReadCall, BitCall, RunCall, FrameCall, Line, PrecodeCall, Signal, Library}
+use Rattle.demands.specs.One.{writeChecks, readChecks, bitChecks, runChecks, frameChecks, precodeChecks}
 use Rattle.demands.specs.Two.{Right, Octets, done, overTheLine, Frames, Scrambling, Precoding, Exact, Back}
-use Rattle.demands.proofs.Fit.{many, lengths-fit, training-fit, kind-fit, read-right}
+use Rattle.demands.proofs.Fit.{many, lengths-fit, training-fit, kind-fit, read-right, bit-fit}
 
 -- ---- frames
 
@@ -104,6 +104,28 @@ run-right c input output h l m =
     )
 
 module _ (x y : Library) (ex : Scrambling x) (ey : Scrambling y) where
+  bit-back : (c : BitCall) → Right (bitChecks c)
+      → y .bit descramble (record { end = c .end; state = c .state; bit = x .bit scramble c .numbers }) ≡ done (c .bit) (x .bit scramble c .memory)
+  bit-back c h =
+      let tap = tapOf (c .end) in
+      let t = tap-range (c .end) in
+      let fit = bit-fit c h in
+      let w = ex .bit-scrambled c h in
+      let s = w .0 in
+      let call : ℕ → BitCall = λ b. record { end = c .end; state = c .state; bit = b } in
+      let is : s ∷ [] ≡ runOf scramble tap (c .state) (c .bit ∷ []) = scrambles-run tap (t .0) (t .1) (c .state) (c .bit ∷ []) (s ∷ []) (w .1) in
+      let S : Bits (s ∷ []) = subst Bits (sym is) (run-bits scramble tap (c .state) (c .bit ∷ [])) in
+      let lt : s < 2 = S 0 in
+      let R = bitChecks (call s) in
+      let r : Right R = passed 2 (drop 1 R) (fit .0) ∙ passed 4 (drop 2 R) (fit .1) ∙ passed 4 [] (le-ltb 1 s (omega arith)) in
+      let v = ey .bit-descrambled (call s) r in
+      let f : v .0 ∷ [] ≡ c .bit ∷ [] =
+      descrambles-run tap (t .0) (t .1) (c .state) (s ∷ []) (v .0 ∷ []) S (v .1)
+      ∙ ap (runOf descramble tap (c .state)) is ∙ comes-back tap (c .state) (c .bit ∷ []) (cons-bits (c .bit) [] (fit .2) nil-bits) .0 in
+      ap (λ (m : Outcome ℕ ℕ). y .bit descramble (call (m .numbers))) (w .2) ∙ v .2
+      ∙ ap (λ (l : List ℕ). done (getD l 0 0) (newest (c .state) (s ∷ []))) f
+      ∙ ap (λ (m : Outcome ℕ ℕ). done (c .bit) (m .memory)) (sym (w .2))
+
   run-back : (c : RunCall) (room : List ℕ) → Right (runChecks c) → length room ≡ length (c .output)
       → y .run descramble (record { end = c .end; state = c .state; input = x .run scramble c .memory .output; bits = c .bits; output = room })
       ≡ done none (record { state = x .run scramble c .memory .state; output = laid room 0 (given (c .input) (c .bits)) })
@@ -253,6 +275,7 @@ interwork x y ex ey =
     record {
       training = λ c room v e h o l m. training-back x y (ex .frames) (ey .frames) c room v h o l m e;
       final = λ c room v e h o l m. final-back x y (ex .frames) (ey .frames) c room v h o l m e;
+      bit = bit-back x y (ex .scrambling) (ey .scrambling);
       run = run-back x y (ex .scrambling) (ey .scrambling);
       frame = frame-comes-back x y (ex .scrambling) (ey .scrambling);
       whole = whole-way x y ex ey;

@@ -14,9 +14,10 @@ use Rattle.layout.specs.Frame.{trainingSync, fieldOf}
 use Rattle.layout.specs.Refusals.{hasSync}
 use Rattle.layout.proofs.Order.{check-order}
 use Rattle.recurrence.specs.Run.{Way, scramble}
-use Rattle.scrambler.proofs.One.{run-order as scrambler-order, frame-order}
+use Rattle.scrambler.proofs.One.{step-order as bit-order, run-order as scrambler-order, frame-order}
 use Rattle.symbol.specs.declared.Encoder.{Encoder}
-use Rattle.symbol.proofs.Order.{activation-order, data-order, back-order, step-order, run-order}
+use Rattle.symbol.specs.Encoder.{registerOf}
+use Rattle.symbol.proofs.Order.{activation-order, data-order, back-order, start-order, step-order, run-order}
 use Rattle.samples.specs.Shaper.{Exactly}
 use Rattle.samples.proofs.Order.{shaper-order}
 use Rattle.samples.proofs.Exact.{exact-zero, exact-unique}
@@ -30,15 +31,17 @@ use Rattle.reader.specs.declared.Found.{Found}
 use Rattle.reader.specs.Promises.{foundOf}
 use Rattle.host.specs.declared.frames.FrameFields.{FrameFields}
 use Rattle.host.specs.declared.scrambling.Scrambled.{Scrambled}
+use Rattle.host.specs.declared.scrambling.ScrambledBit.{ScrambledBit}
 use Rattle.host.specs.declared.supervising.Stepped.{Stepped}
 use Rattle.host.specs.declared.supervising.Run.{Run}
 use Rattle.host.specs.Supervising.{stateIn, stateOf, runFieldsOf}
 use Rattle.host.specs.Frames.{fieldsOf}
+use Rattle.host.specs.Scrambling.{crossing, bitCrossing}
 use Rattle.host.specs.Symbols.{encoder}
-use Rattle.host.proofs.One.{frame-write-order, frame-read-order}
+use Rattle.host.proofs.One.{frame-write-order, frame-read-order, history-start-order}
 use Rattle.demands.specs.Library.{Outcome, None, none, Library}
 use Rattle.demands.specs.Contracts.{Keeps}
-use Rattle.demands.specs.One.{Answers, Ordered, One, readChecks, runChecks, frameChecks}
+use Rattle.demands.specs.One.{Answers, InTheirOrder, Ordered, One, readChecks, scramblerStartChecks, bitChecks, runChecks, frameChecks}
 
 pub answers : {C N M : Type 0} {f : C → Outcome N M} {checks : C → List Refusal} {before : C → M} {nothing : N}
     → ((c : C) → inOrder 1 (checks c) ≡ true) → ((c : C) → f c .answer ≡ answer (checks c))
@@ -52,19 +55,27 @@ answers {checks = checks} o e n m =
       unchanged = m;
     }
 
+scrambler-start-order : InTheirOrder scramblerStartChecks
+unfolding inOrder
+scrambler-start-order end = refl
+
 -- the checks run in their order
 pub ordered : Ordered
 ordered = record {
   write = λ c. frame-write-order (c .kind) (c .count) (c .coefficients) (c .a) (c .b) (c .vendor) (c .frame);
   check = check-order;
   read = λ c. frame-read-order (c .frame) (c .coefficients) (c .vendor);
+  scrambler-start = scrambler-start-order;
+  bit = λ c. bit-order (record { end = c .end; state = c .state }) (c .bit);
   run = λ c. scrambler-order scramble (record { end = c .end; state = c .state }) (c .input) (c .bits) (c .output);
   frame = λ c. frame-order scramble (record { end = c .end; state = c .state }) (c .frame) (c .output);
   activation = activation-order;
   level = data-order;
   code = back-order;
+  encoder-start = λ c. start-order (c .a) (c .b);
   encode = λ c. step-order (encoder (c .a) (c .b) (c .register)) (c .symbol);
   encode-run = λ c. run-order (encoder (c .a) (c .b) (c .register)) (c .symbols) (c .codes);
+  history-start = history-start-order;
   precode = λ c. precoder-order (c .coefficients) (c .history) (c .symbols) (c .room);
   shape = shaper-order;
   start = λ c. start-in-order (c .end) (c .silence);
@@ -78,6 +89,11 @@ other e h z = h (e ∙ z)
 
 pub only : (x : None) → x ≡ none
 only none = refl
+
+-- an encoder that has sent nothing
+pub nothing-sent : registerOf [] ≡ 0
+unfolding valueOf
+nothing-sent = refl
 
 -- what is found tells the answer
 pub found-answer : (n : ℕ) (bits : List ℕ) → foundOf n bits .answer ≡ n
@@ -113,6 +129,16 @@ held-run (suc n) s l = refl
 module _ (x : Library) (k : Keeps x) where
   read-answer : (c : _) → x .read c .answer ≡ answer (readChecks c)
   read-answer c = ap (λ (f : FrameFields). f .answer) (k .read c refl .found) ∙ found-answer (answer (readChecks c)) _
+
+  bit-is : (way : Way) → Answers (x .bit way) bitChecks (λ c. c .state) 0
+  bit-is way =
+      answers (ordered .bit) (λ c. ap (λ (r : ScrambledBit). r .answer) (k .bit way c refl .crossed ∙ ap bitCrossing (k .bit way c refl .promise)))
+      (λ c h.
+      let e = k .bit way c refl .crossed ∙ ap bitCrossing (k .bit way c refl .promise) in
+      ap (λ (r : ScrambledBit). r .bit) e ∙ kept _ _ _ (other (ap (λ (r : ScrambledBit). r .answer) e) h))
+      (λ c h.
+      let e = k .bit way c refl .crossed ∙ ap bitCrossing (k .bit way c refl .promise) in
+      ap (λ (r : ScrambledBit). r .state) e ∙ kept _ _ _ (other (ap (λ (r : ScrambledBit). r .answer) e) h))
 
   run-is : (way : Way) → Answers (x .run way) runChecks (λ c. record { state = c .state; output = c .output }) none
   run-is way =
@@ -155,11 +181,17 @@ module _ (x : Library) (k : Keeps x) where
         let m = k .read c refl .coefficients-left ∙ kept (answer (readChecks c)) _ _ z in
         let v = k .read c refl .vendor-left ∙ kept (answer (readChecks c)) _ _ z in
         λ i. record { coefficients = m i; vendor = v i });
+    scrambler-start = answers (ordered .scrambler-start)
+        (λ e. ap (λ (r : Scrambled). r .answer) (k .scrambler-start e refl .crossed ∙ ap crossing (k .scrambler-start e refl .promise))) (λ e h. only _)
+        (λ e h. ap (λ (r : Scrambled). r .state) (k .scrambler-start e refl .crossed ∙ ap crossing (k .scrambler-start e refl .promise)));
+    bit = bit-is;
     run = run-is;
     frame = frame-is;
     activation = answers (ordered .activation) (λ c. k .activation c refl .answered) (λ c h. k .activation c refl .level ∙ kept _ _ _ h) (λ c h. only _);
     level = answers (ordered .level) (λ c. k .level c refl .answered) (λ c h. k .level c refl .level ∙ kept _ _ _ h) (λ c h. only _);
     code = answers (ordered .code) (λ c. k .code c refl .answered) (λ c h. k .code c refl .code ∙ kept _ _ _ h) (λ c h. only _);
+    encoder-start = answers (ordered .encoder-start) (λ c. k .encoder-start c refl .answered) (λ c h. only _)
+        (λ c h. ap (λ (e : Encoder). e .register) (k .encoder-start c refl .next) ∙ nothing-sent);
     encode = answers (ordered .encode) (λ c. k .encode c refl .answered)
         (λ c h.
         let y = k .encode c refl .code ∙ kept _ _ _ h in
@@ -171,6 +203,8 @@ module _ (x : Library) (k : Keeps x) where
         let n = k .encode-run c refl .next ∙ kept _ _ _ h in
         let w = k .encode-run c refl .written ∙ kept _ _ _ h in
         λ i. record { register = n i .register; codes = w i });
+    history-start = answers (ordered .history-start) (λ s. k .history-start s refl .answered) (λ s h. only _)
+        (λ s h. k .history-start s refl .left ∙ kept _ _ _ h);
     precode = answers (ordered .precode) (λ c. k .precode c refl .answered) (λ c h. only _)
         (λ c h.
         let p = k .precode c refl .past ∙ kept _ _ _ h in

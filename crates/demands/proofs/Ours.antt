@@ -17,10 +17,10 @@ use Rattle.reader.specs.Promises.{foundOf, vendorOctets}
 use Rattle.host.proofs.FrameLaws.{frame-written}
 use Rattle.scrambler.specs.Ends.{tapOf}
 use Rattle.scrambler.specs.Promises.{given, clocked, around}
-use Rattle.recurrence.specs.Run.{runOf, afterOf}
+use Rattle.recurrence.specs.Run.{outOf, nextOf, runOf, afterOf}
 use Rattle.symbol.specs.Levels.{activationLevels, dataLevels, levelAt, placeIn, activationTests, dataTests, backTests}
 use Rattle.symbol.specs.Encoder.{codeOf, codesOf, x1, sentAfter, heldIn, registerOf, withRegister}
-use Rattle.samples.specs.Samples.{isSignal}
+use Rattle.samples.specs.Samples.{isSignal, atStart}
 use Rattle.samples.specs.Shaper.{Exactly, shaperTests}
 use Rattle.samples.proofs.Exact.{signal-abs, exact, exact-zero}
 use Rattle.precoder.specs.Runs.{pastAfterAll}
@@ -33,7 +33,8 @@ use Rattle.host.specs.Symbols.{encoder}
 use Rattle.host.specs.Supervising.{stateIn, stateOf, runFieldsOf}
 use Rattle.demands.specs.Library.{none, Library}
 use Rattle.demands.specs.Contracts.{Keeps}
-use Rattle.demands.specs.One.{One, writeChecks, readChecks, runChecks, frameChecks, encodeChecks, encodeRunChecks, precodeChecks}
+use Rattle.demands.specs.One.{One, writeChecks, readChecks, scramblerStartChecks, bitChecks, runChecks, frameChecks, encoderStartChecks, encodeChecks}
+use Rattle.demands.specs.One.{encodeRunChecks, historyStartChecks, precodeChecks}
 use Rattle.demands.specs.Two.{Two}
 use Rattle.demands.specs.Three.{Three, supervisor}
 use Rattle.demands.proofs.One.{one}
@@ -71,6 +72,14 @@ ours = record {
               (vendorOctets (bitsOf (c .frame)));
         };
       };
+  scrambler-start = λ end. record { answer = answer (scramblerStartChecks end); numbers = none; memory = 0 };
+  bit = λ way c.
+      let n = answer (bitChecks c) in
+      record {
+        answer = n;
+        numbers = held n 0 (outOf (tapOf (c .end)) (c .state) (c .bit));
+        memory = held n (c .state) (nextOf way (tapOf (c .end)) (c .state) (c .bit));
+      };
   run = λ way c.
       let n = answer (runChecks c) in
       record {
@@ -94,6 +103,7 @@ ours = record {
   activation = λ b. record { answer = answer (activationTests b); numbers = held (answer (activationTests b)) (pos 0) (levelAt activationLevels b); memory = none };
   level = λ b. record { answer = answer (dataTests b); numbers = held (answer (dataTests b)) (pos 0) (levelAt dataLevels b); memory = none };
   code = λ l. record { answer = answer (backTests l); numbers = held (answer (backTests l)) 0 (placeIn dataLevels l); memory = none };
+  encoder-start = λ c. record { answer = answer (encoderStartChecks c); numbers = none; memory = registerOf [] };
   encode = λ c.
       let n = answer (encodeChecks c) in
       let y = codeOf (c .a) (c .b) (heldIn (c .register)) (c .symbol) in
@@ -112,6 +122,7 @@ ours = record {
           codes = held n (c .codes) (codesOf (c .a) (c .b) (heldIn (c .register)) (c .symbols));
         };
       };
+  history-start = λ s. let n = answer (historyStartChecks s) in record { answer = n; numbers = none; memory = held n s (numberOctets atStart) };
   precode = λ c.
       let n = answer (precodeChecks c) in
       let ys = outputsOf (numbersOf (c .coefficients)) (numbersOf (c .history)) (numbersOf (c .symbols)) in
@@ -155,6 +166,20 @@ ours-keep = record {
   write = λ c h. frame-written refl refl;
   check = λ f h. checked refl;
   read = λ c h. record { found = refl; coefficients-left = refl; vendor-left = refl };
+  scrambler-start = λ end h. record {
+    ran = record { answer = ours .scrambler-start end .answer; next = record { end = end; state = 0 } };
+    crossed = refl;
+    promise = refl;
+  };
+  bit = λ way c h. record {
+    step = record {
+      answer = ours .bit way c .answer;
+      bit = ours .bit way c .numbers;
+      next = record { end = c .end; state = ours .bit way c .memory };
+    };
+    crossed = refl;
+    promise = refl;
+  };
   run = λ way c h. record {
     ran = record { answer = ours .run way c .answer; next = record { end = c .end; state = ours .run way c .memory .state } };
     crossed = refl;
@@ -168,8 +193,10 @@ ours-keep = record {
   activation = λ b h. record { answered = refl; level = refl };
   level = λ b h. record { answered = refl; level = refl };
   code = λ l h. record { answered = refl; code = refl };
+  encoder-start = λ c h. record { answered = refl; next = refl };
   encode = λ c h. record { answered = refl; code = refl; level = refl; next = either-register (answer (encodeChecks c)) _ _ _ _ };
   encode-run = λ c h. record { answered = refl; written = refl; next = either-register (answer (encodeRunChecks c)) _ _ _ _ };
+  history-start = λ s h. record { answered = refl; left = refl };
   precode = λ c h. runs false (c .coefficients) (c .history) (c .symbols) (c .room);
   decode = λ c h. runs true (c .coefficients) (c .history) (c .symbols) (c .room);
   shape = λ y h. record { answered = refl; value = samples y };

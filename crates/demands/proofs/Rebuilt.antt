@@ -10,7 +10,8 @@ use Rattle.host.specs.declared.supervising.Supervisor.{Supervisor}
 use Rattle.host.specs.Supervising.{stateIn, stateOf}
 use Rattle.demands.specs.Library.{Outcome, None, none, WriteCall, ReadCall, Fields, Rooms, RunCall, FrameCall, Line, EncodeRunCall, Codes}
 use Rattle.demands.specs.Library.{PrecodeCall, Signal, StepCall, Shown, Library}
-use Rattle.demands.specs.One.{Answers, One, writeChecks, readChecks, runChecks, frameChecks, encodeRunChecks, precodeChecks, stepChecks}
+use Rattle.demands.specs.One.{Answers, One, writeChecks, readChecks, runChecks, frameChecks, encodeRunChecks, historyStartChecks, precodeChecks}
+use Rattle.demands.specs.One.{stepChecks}
 use Rattle.demands.proofs.One.{answers, ordered, one}
 use Rattle.demands.proofs.Ours.{ours, ours-keep}
 
@@ -25,6 +26,7 @@ pub record Parts : Type 0 where
   pub run : Way → RunCall → Outcome None Line
   pub frame : Way → FrameCall → Outcome None Line
   pub encode-run : EncodeRunCall → Outcome None Codes
+  pub history-start : List ℕ → Outcome None (List ℕ)
   pub precode : PrecodeCall → Outcome None Signal
   pub decode : PrecodeCall → Outcome None Signal
   pub step : StepCall → Outcome Shown Supervisor
@@ -34,13 +36,17 @@ rebuilt p = record {
   write = p .write;
   check = ours .check;
   read = p .read;
+  scrambler-start = ours .scrambler-start;
+  bit = ours .bit;
   run = p .run;
   frame = p .frame;
   activation = ours .activation;
   level = ours .level;
   code = ours .code;
+  encoder-start = ours .encoder-start;
   encode = ours .encode;
   encode-run = p .encode-run;
+  history-start = p .history-start;
   precode = p .precode;
   decode = p .decode;
   shape = ours .shape;
@@ -56,6 +62,7 @@ pub record PartsAnswer (p : Parts) : Type 0 where
   pub run : (way : Way) → Answers (p .run way) runChecks (λ c. record { state = c .state; output = c .output }) none
   pub frame : (way : Way) → Answers (p .frame way) frameChecks (λ c. record { state = c .state; output = c .output }) none
   pub encode-run : Answers (p .encode-run) encodeRunChecks (λ c. record { register = c .register; codes = c .codes }) none
+  pub history-start : Answers (p .history-start) historyStartChecks (λ c. c) none
   pub precode : Answers (p .precode) precodeChecks (λ c. record { history = c .history; room = c .room }) none
   pub decode : Answers (p .decode) precodeChecks (λ c. record { history = c .history; room = c .room }) none
   pub step : Answers (p .step) stepChecks (λ c. c .state) (record { phase = 0; attempt = 0 })
@@ -65,13 +72,17 @@ rebuilt-one p a = record {
   write = a .write;
   check = ours-one .check;
   read = a .read;
+  scrambler-start = ours-one .scrambler-start;
+  bit = ours-one .bit;
   run = a .run;
   frame = a .frame;
   activation = ours-one .activation;
   level = ours-one .level;
   code = ours-one .code;
+  encoder-start = ours-one .encoder-start;
   encode = ours-one .encode;
   encode-run = a .encode-run;
+  history-start = a .history-start;
   precode = a .precode;
   decode = a .decode;
   shape = ours-one .shape;
@@ -89,6 +100,7 @@ usual = record {
   run = ours .run;
   frame = ours .frame;
   encode-run = ours .encode-run;
+  history-start = ours .history-start;
   precode = ours .precode;
   decode = ours .decode;
   step = ours .step;
@@ -101,6 +113,7 @@ usual-answer = record {
   run = ours-one .run;
   frame = ours-one .frame;
   encode-run = ours-one .encode-run;
+  history-start = ours-one .history-start;
   precode = ours-one .precode;
   decode = ours-one .decode;
   step = ours-one .step;
@@ -113,6 +126,7 @@ withStep f = record {
   run = usual .run;
   frame = usual .frame;
   encode-run = usual .encode-run;
+  history-start = usual .history-start;
   precode = usual .precode;
   decode = usual .decode;
   step = f;
@@ -133,6 +147,7 @@ stepping-one f t = rebuilt-one (withStep (stepping f t)) (record {
   run = usual-answer .run;
   frame = usual-answer .frame;
   encode-run = usual-answer .encode-run;
+  history-start = usual-answer .history-start;
   precode = usual-answer .precode;
   decode = usual-answer .decode;
   step = answers (ordered .step) (λ c. refl)

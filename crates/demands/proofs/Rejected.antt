@@ -27,16 +27,17 @@ use Rattle.recurrence.proofs.Exactly.{scrambles-run, descrambles-run}
 use Rattle.ranges.specs.Ranges.{every}
 use Rattle.symbol.specs.Levels.{placeIn}
 use Rattle.symbol.specs.Encoder.{symbolsIn, onesLeft, sentAfter, codesOf}
+use Rattle.samples.specs.Samples.{atStart}
 use Rattle.precoder.specs.Precoder.{exactSum}
 use Rattle.precoder.proofs.Recipe.{turnedOf, outputsOf}
 use Rattle.precoder.proofs.Back.{sent-unique, outputs-sent}
-use Rattle.demands.specs.Library.{Outcome, None, none, WriteCall, ReadCall, Fields, Rooms, RunCall, FrameCall, Line, EncodeCall, EncodeRunCall, Symbol}
-use Rattle.demands.specs.Library.{Codes, PrecodeCall, Signal, Library}
+use Rattle.demands.specs.Library.{Outcome, None, none, WriteCall, ReadCall, Fields, Rooms, BitCall, RunCall, FrameCall, Line, WordsCall, EncodeCall}
+use Rattle.demands.specs.Library.{EncodeRunCall, Symbol, Codes, PrecodeCall, Signal, Library}
 use Rattle.demands.specs.One.{writeChecks, frameChecks, encodeRunChecks, precodeChecks}
 use Rattle.demands.specs.Two.{Right, Octets, done, Two}
 use Rattle.demands.proofs.Fit.{many}
 use Rattle.demands.specs.WrongLibraries.{OneFrame, FrameUnwritten, CoefficientsUnwritten, VendorUnwritten, RunUnwritten, WholeUnwritten, CodesUnwritten}
-use Rattle.demands.specs.WrongLibraries.{PrecodedUnwritten, DecodedUnwritten, CopiesTheRest, TurnsA, TurnsB, RejectedByTwo}
+use Rattle.demands.specs.WrongLibraries.{HistoryUnwritten, PrecodedUnwritten, DecodedUnwritten, CopiesTheRest, TurnsA, TurnsB, RejectedByTwo}
 
 -- ---- calls to which no check applies
 
@@ -77,7 +78,11 @@ training-right : Right (writeChecks training)
 unfolding numbersOf numbersIn signedOf bitsOf digitsOf valueOf every
 training-right = refl
 
--- six ones from the LTU's starting state
+-- a one from the LTU's starting state
+abbrev bit-one : BitCall
+bit-one = record { end = 0; state = 0; bit = 1 }
+
+-- six ones from there
 abbrev six-ones : RunCall
 six-ones = record { end = 0; state = 0; input = 255 ∷ []; bits = 6; output = 0 ∷ [] }
 
@@ -201,6 +206,10 @@ module _ (x : Library) (two : Two x) where
         λ w. omega (arith, sym (ap (λ (o : Outcome Fields Rooms). o .numbers .b) t) ∙ w c r k ∙ ap (λ (l : List ℕ). valueOf (reverse l)) (words-are .1)),
       )
 
+  bit-taken : (way : Way) → x .bit way bit-one .answer ≡ 0
+  bit-taken scramble = ap (λ (r : Outcome ℕ ℕ). r .answer) (two .exact .scrambling .bit-scrambled bit-one refl .2)
+  bit-taken descramble = ap (λ (r : Outcome ℕ ℕ). r .answer) (two .exact .scrambling .bit-descrambled bit-one refl .2)
+
   -- five ones and a zero come out, scrambled and descrambled
   scrambled : (way : Way) → (x .run way six-ones .answer ≡ 0) × (x .run way six-ones .memory .output ≡ 31 ∷ [])
   unfolding laid octetsOf bitsOf digitsOf valueOf runOf
@@ -237,6 +246,17 @@ module _ (x : Library) (two : Two x) where
   whole-refuted : (way : Way) → WholeUnwritten way x → ⊥
   whole-refuted way w = omega (arith, sym (ap (λ (l : List ℕ). getD l 0 0) (w over-one (framed way .0))) ∙ framed way .1)
 
+  -- a history that began with a one begins with a zero
+  zero-first : getD (numberOctets atStart) 0 0 ≡ 0
+  unfolding digitsOf valueOf numberOctets numberBits twosOf octetsOf
+  zero-first = refl
+
+  history-refuted : HistoryUnwritten x → ⊥
+  history-refuted w =
+      let e = two .exact .precoding .started (1 ∷ zeros 719) refl in
+      let u = sym (w (1 ∷ zeros 719) (ap (λ (r : Outcome None (List ℕ)). r .answer) e)) ∙ ap (λ (r : Outcome None (List ℕ)). r .memory) e in
+      omega (arith, ap (λ (l : List ℕ). getD l 0 0) u ∙ zero-first)
+
   encoded : x .encode-run one-code ≡ done none (record { register = 0; codes = 8 ∷ [] })
   unfolding codesOf sentAfter onesLeft digitsOf valueOf
   encoded = two .exact .symbols .encode-run one-code one-code-right
@@ -272,14 +292,19 @@ module _ (x : Library) (two : Two x) where
     refuses-writing = λ w. w (final (zeros 16) (zeros 529)) (written (zeros 16) (zeros 529) refl refl .0);
     refuses-checking = λ w. w frame-written (ap (λ (o : Outcome None None). o .answer) (two .exact .frames .checked frame-written check-right));
     refuses-reading = λ w. w _ (final-read (zeros 16) (zeros 529) (zeros 720) (zeros 16) refl refl (zeros-small 16) refl refl .0);
+    refuses-scrambler-starts = λ w. w 0 (ap (λ (o : Outcome None ℕ). o .answer) (two .exact .scrambling .started 0 refl));
+    refuses-bits = λ way w. w bit-one (bit-taken way);
     refuses-runs = λ way w. w six-ones (scrambled way .0);
     refuses-frames = λ way w. w over-one (framed way .0);
     refuses-activation = λ w. w 0 (ap (λ (o : Outcome ℤ None). o .answer) (two .exact .symbols .activation 0 refl));
     refuses-levels = λ w. w 0 (ap (λ (o : Outcome ℤ None). o .answer) (two .exact .symbols .level 0 refl));
     refuses-codes = λ w. w _ (ap (λ (o : Outcome ℕ None). o .answer) (two .exact .symbols .code 0 (lit≤ tt)));
+    refuses-encoder-starts = λ w. let c : WordsCall = record { a = 0; b = 0 } in
+        w c (ap (λ (o : Outcome None ℕ). o .answer) (two .exact .symbols .started c refl));
     refuses-encoding = λ w. let c : EncodeCall = record { a = 0; b = 0; register = 0; symbol = 0 } in
         w c (ap (λ (o : Outcome Symbol ℕ). o .answer) (two .exact .symbols .encode c refl));
     refuses-encoder-runs = λ w. w one-code (ap (λ (r : Outcome None Codes). r .answer) encoded);
+    refuses-history-starts = λ w. w (zeros 720) (ap (λ (o : Outcome None (List ℕ)). o .answer) (two .exact .precoding .started (zeros 720) refl));
     refuses-precoding = λ w. w one-symbol (precoded .0);
     refuses-decoding = λ w. w _ (ap (λ (r : Outcome None Signal). r .answer) decoded);
     refuses-shaping = λ w. w (pos 0) (two .exact .precoding .shaped (pos 0) refl .0);
@@ -289,6 +314,7 @@ module _ (x : Library) (two : Two x) where
     vendor-unwritten = vendor-refuted;
     run-unwritten = run-refuted;
     whole-unwritten = whole-refuted;
+    history-unwritten = history-refuted;
     codes-unwritten = codes-refuted;
     precoded-unwritten = precoded-refuted;
     decoded-unwritten = decoded-refuted;

@@ -1,22 +1,23 @@
 -- The first sentence of demand 2 holds of every library that keeps our contracts. Assumes nothing.
 use mathlib.Core.Path.{_≡_, refl, ap, _∙_, subst}
 use mathlib.Core.Bool.{Bool, cond}
-use mathlib.Core.List.{List, []}
-use Prim.Native.Nat.{ℕ}
-use borrow.Author.Tests.{le-ltb}
+use mathlib.Core.List.{List, [], _∷_}
+use Prim.Native.Nat.{ℕ, _^_, _≤_, _<_}
+use borrow.Author.Tests.{le-ltb, leb-false}
 use lib.Dec.{eqb, ltb}
 use lib.ListN.{drop}
 use Rattle.answer.specs.Answer.{answer}
 use Rattle.answer.proofs.Laws.{given as held-given, passed}
 use Rattle.octets.specs.Bits.{valueOf, bitsOf, octetsOf, part, laid}
-use Rattle.octets.proofs.Digits.{Bits, take-bits, drop-bits}
+use Rattle.octets.proofs.Digits.{Bits, nil-bits, cons-bits, take-bits, drop-bits}
 use Rattle.octets.proofs.Laws.{bits-bits}
 use Rattle.layout.specs.Places.{aField, bField}
 use Rattle.layout.specs.Frame.{trainingBits, finalBits, fieldOf, coefficientsOf}
 use Rattle.numbers.specs.Promises.{numbersOf, numberOctets}
 use Rattle.scrambler.specs.Ends.{tapOf}
 use Rattle.scrambler.specs.Promises.{given, clocked, around}
-use Rattle.recurrence.specs.Run.{Way, scramble, descramble, runOf, afterOf}
+use Rattle.recurrence.specs.Line.{Scrambles, Descrambles, newest}
+use Rattle.recurrence.specs.Run.{Way, scramble, descramble, outOf, nextOf, runOf, afterOf}
 use Rattle.scrambler.specs.declared.Scrambler.{Scrambler}
 use Rattle.scrambler.proofs.Laws.{tap-range, run-sound, frame-sound}
 use Rattle.recurrence.proofs.Exactly.{run-scrambles, run-descrambles, scrambled-state, descrambled-state}
@@ -25,15 +26,18 @@ use Rattle.symbol.specs.Levels.{dataLevels, levelAt}
 use Rattle.symbol.proofs.Levels.{code-of-level}
 use Rattle.samples.specs.Shaper.{Exactly}
 use Rattle.host.specs.declared.scrambling.Scrambled.{Scrambled}
+use Rattle.host.specs.declared.scrambling.ScrambledBit.{ScrambledBit}
+use Rattle.host.specs.Scrambling.{crossing, bitCrossing}
 use Rattle.host.specs.declared.frames.FrameFields.{FrameFields}
 use Rattle.host.specs.Frames.{fieldsOf, coefficientOctets}
 use Rattle.reader.specs.declared.Found.{Found}
 use Rattle.reader.specs.Promises.{foundOf, vendorOctets}
-use Rattle.demands.specs.Library.{Outcome, none, WriteCall, ReadCall, Fields, Rooms, RunCall, FrameCall, Library}
+use Rattle.demands.specs.Library.{Outcome, none, WriteCall, ReadCall, Fields, Rooms, BitCall, RunCall, FrameCall, Library}
 use Rattle.demands.specs.Contracts.{Keeps}
-use Rattle.demands.specs.One.{writeChecks, readChecks, runChecks, frameChecks}
+use Rattle.demands.specs.One.{writeChecks, readChecks, bitChecks, runChecks, frameChecks}
 use Rattle.demands.specs.Two.{Right, done, Frames, Scrambling, Symbols, Precoding, Exact}
-use Rattle.demands.proofs.One.{only, found-answer}
+use Rattle.demands.proofs.One.{only, nothing-sent, found-answer}
+use Rattle.demands.proofs.Fit.{bit-fit}
 
 -- an outcome that is done
 pub same : {N M : Type 0} {o : Outcome N M} {n : N} {m : M} → o .answer ≡ 0 → o .numbers ≡ n → o .memory ≡ m → o ≡ done n m
@@ -51,6 +55,18 @@ readAs s bits old =
 -- bits of octets
 part-of-bits : (s : List ℕ) (at n : ℕ) → Bits (part at n (bitsOf s))
 part-of-bits s at n = take-bits n (drop at (bitsOf s)) (drop-bits at (bitsOf s) (bits-bits s))
+
+-- one bit is a run of one
+module _ (tap state b : ℕ) (h : 1 ≤ tap) (l : tap ≤ 23) (lt : state < 2 ^ 23) (hb : b < 2) where
+  bit-scrambles : Scrambles tap state (b ∷ []) (outOf tap state b ∷ []) × (nextOf scramble tap state b ≡ newest state (outOf tap state b ∷ []))
+  unfolding runOf afterOf
+  bit-scrambles = (run-scrambles tap h l state (b ∷ []) (cons-bits b [] hb nil-bits), scrambled-state tap state (b ∷ []) lt)
+
+  bit-descrambles : Descrambles tap state (b ∷ []) (outOf tap state b ∷ []) × (nextOf descramble tap state b ≡ newest state (b ∷ []))
+  unfolding runOf afterOf
+  bit-descrambles =
+      let B = cons-bits b [] hb nil-bits in
+      (run-descrambles tap h l state (b ∷ []) B, descrambled-state tap state (b ∷ []) lt B)
 
 module _ (x : Library) (k : Keeps x) where
   write-training : (c : WriteCall) → c .kind ≡ 0 → Right (writeChecks c)
@@ -94,6 +110,13 @@ module _ (x : Library) (k : Keeps x) where
 
   -- ---- scrambling
 
+  bit-is : (way : Way) (c : BitCall) → Right (bitChecks c)
+      → x .bit way c ≡ done (outOf (tapOf (c .end)) (c .state) (c .bit)) (nextOf way (tapOf (c .end)) (c .state) (c .bit))
+  bit-is way c h =
+      let e = k .bit way c refl .crossed ∙ ap bitCrossing (k .bit way c refl .promise) in
+      same (ap (λ (r : ScrambledBit). r .answer) e ∙ h) (ap (λ (r : ScrambledBit). r .bit) e ∙ held-given _ _ _ h)
+      (ap (λ (r : ScrambledBit). r .state) e ∙ held-given _ _ _ h)
+
   run-is : (way : Way) (c : RunCall) → Right (runChecks c) → x .run way c ≡ done none
       (record {
         state = afterOf way (tapOf (c .end)) (c .state) (given (c .input) (c .bits));
@@ -118,6 +141,21 @@ module _ (x : Library) (k : Keeps x) where
 
   pub scrambling : Scrambling x
   scrambling = record {
+    started = λ end h.
+        let e = k .scrambler-start end refl .crossed ∙ ap crossing (k .scrambler-start end refl .promise) in
+        same (ap (λ (r : Scrambled). r .answer) e ∙ h) (only _) (ap (λ (r : Scrambled). r .state) e);
+    bit-scrambled = λ c h.
+        let t = tap-range (c .end) in
+        let f = bit-fit c h in
+        let s = outOf (tapOf (c .end)) (c .state) (c .bit) in
+        let w = bit-scrambles (tapOf (c .end)) (c .state) (c .bit) (t .0) (t .1) (leb-false _ _ (f .1)) (f .2) in
+        (s, w .0, bit-is scramble c h ∙ ap (λ (n : ℕ). done s n) (w .1));
+    bit-descrambled = λ c h.
+        let t = tap-range (c .end) in
+        let f = bit-fit c h in
+        let g = outOf (tapOf (c .end)) (c .state) (c .bit) in
+        let w = bit-descrambles (tapOf (c .end)) (c .state) (c .bit) (t .0) (t .1) (leb-false _ _ (f .1)) (f .2) in
+        (g, w .0, bit-is descramble c h ∙ ap (λ (n : ℕ). done g n) (w .1));
     scrambled = λ c h.
         let t = tap-range (c .end) in
         let b = part-of-bits (c .input) 0 (c .bits) in
@@ -182,6 +220,8 @@ module _ (x : Library) (k : Keeps x) where
         let p = code-of-level b l in
         let z = k .code (levelAt dataLevels b) refl .answered ∙ passed 4 [] (ap (ltb 15) p ∙ le-ltb 15 b l) in
         same z (k .code (levelAt dataLevels b) refl .code ∙ held-given _ _ _ z ∙ p) (only _);
+    started = λ c h.
+        same (k .encoder-start c refl .answered ∙ h) (only _) (ap (λ (e : Encoder). e .register) (k .encoder-start c refl .next) ∙ nothing-sent);
     encode = λ c h.
         let z = k .encode c refl .answered ∙ h in
         let y = k .encode c refl .code ∙ held-given _ _ _ z in
@@ -198,6 +238,7 @@ module _ (x : Library) (k : Keeps x) where
 
   pub precoding : Precoding x
   precoding = record {
+    started = λ s h. let z = k .history-start s refl .answered ∙ h in same z (only _) (k .history-start s refl .left ∙ held-given _ _ _ z);
     precoded = λ c h.
         let p = k .precode c refl in
         let z = p .answered ∙ h in

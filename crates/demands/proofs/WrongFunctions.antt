@@ -28,7 +28,7 @@ use Rattle.demands.specs.Library.{PrecodeCall, Signal}
 use Rattle.demands.specs.One.{Answers, One, writeChecks, readChecks, runChecks, frameChecks, encodeRunChecks, precodeChecks}
 use Rattle.demands.specs.Two.{Right}
 use Rattle.demands.specs.WrongLibraries.{OneFrame, FrameUnwritten, CoefficientsUnwritten, VendorUnwritten, RunUnwritten, WholeUnwritten}
-use Rattle.demands.specs.WrongLibraries.{CodesUnwritten, PrecodedUnwritten, DecodedUnwritten, CopiesTheRest, TurnsA, TurnsB}
+use Rattle.demands.specs.WrongLibraries.{HistoryUnwritten, CodesUnwritten, PrecodedUnwritten, DecodedUnwritten, CopiesTheRest, TurnsA, TurnsB}
 use Rattle.demands.specs.NoStrawMan.{Built, NoStrawMan}
 use Rattle.demands.proofs.One.{answers, ordered}
 use Rattle.demands.proofs.Two.{exact as exact-of}
@@ -46,6 +46,7 @@ withWrite f = record {
   run = usual .run;
   frame = usual .frame;
   encode-run = usual .encode-run;
+  history-start = usual .history-start;
   precode = usual .precode;
   decode = usual .decode;
   step = usual .step;
@@ -58,6 +59,7 @@ write-one f a = rebuilt-one (withWrite f) (record {
   run = usual-answer .run;
   frame = usual-answer .frame;
   encode-run = usual-answer .encode-run;
+  history-start = usual-answer .history-start;
   precode = usual-answer .precode;
   decode = usual-answer .decode;
   step = usual-answer .step;
@@ -90,6 +92,7 @@ withRead f = record {
   run = usual .run;
   frame = usual .frame;
   encode-run = usual .encode-run;
+  history-start = usual .history-start;
   precode = usual .precode;
   decode = usual .decode;
   step = usual .step;
@@ -105,6 +108,7 @@ read-one f a = rebuilt-one (withRead f) (record {
   run = usual-answer .run;
   frame = usual-answer .frame;
   encode-run = usual-answer .encode-run;
+  history-start = usual-answer .history-start;
   precode = usual-answer .precode;
   decode = usual-answer .decode;
   step = usual-answer .step;
@@ -189,6 +193,7 @@ withRun f = record {
   run = f;
   frame = usual .frame;
   encode-run = usual .encode-run;
+  history-start = usual .history-start;
   precode = usual .precode;
   decode = usual .decode;
   step = usual .step;
@@ -202,6 +207,7 @@ run-one f a = rebuilt-one (withRun f) (record {
   run = a;
   frame = usual-answer .frame;
   encode-run = usual-answer .encode-run;
+  history-start = usual-answer .history-start;
   precode = usual-answer .precode;
   decode = usual-answer .decode;
   step = usual-answer .step;
@@ -289,6 +295,41 @@ copies-built = (
   },
 )
 
+-- ---- a history's start
+
+abbrev history-idle : List ℕ → Outcome None (List ℕ)
+history-idle s = record { answer = ours .history-start s .answer; numbers = none; memory = s }
+
+abbrev withHistory : Parts
+withHistory = record {
+  write = usual .write;
+  read = usual .read;
+  run = usual .run;
+  frame = usual .frame;
+  encode-run = usual .encode-run;
+  history-start = history-idle;
+  precode = usual .precode;
+  decode = usual .decode;
+  step = usual .step;
+}
+
+history-built : Built HistoryUnwritten
+history-built = (
+  rebuilt withHistory,
+  rebuilt-one withHistory (record {
+    write = usual-answer .write;
+    read = usual-answer .read;
+    run = usual-answer .run;
+    frame = usual-answer .frame;
+    encode-run = usual-answer .encode-run;
+    history-start = answers (ordered .history-start) (ours-one .history-start .first) (λ c h. refl) (λ c h. refl);
+    precode = usual-answer .precode;
+    decode = usual-answer .decode;
+    step = usual-answer .step;
+  }),
+  λ c h. refl,
+)
+
 -- ---- whole frames, the encoder's runs, the precoder and its inverse
 
 abbrev frames-idle : Way → FrameCall → Outcome None Line
@@ -313,6 +354,7 @@ withRest f e p d = record {
   run = usual .run;
   frame = f;
   encode-run = e;
+  history-start = usual .history-start;
   precode = p;
   decode = d;
   step = usual .step;
@@ -329,6 +371,7 @@ module _ (f : Way → FrameCall → Outcome None Line) (e : EncodeRunCall → Ou
     run = usual-answer .run;
     frame = af;
     encode-run = ae;
+    history-start = usual-answer .history-start;
     precode = ap;
     decode = ad;
     step = usual-answer .step;
@@ -388,6 +431,7 @@ no-straw-man = record {
   vendor-unwritten = vendor-built;
   run-unwritten = run-built;
   whole-unwritten = frame-idle-built;
+  history-unwritten = history-built;
   codes-unwritten = codes-built;
   precoded-unwritten = precoded-built;
   decoded-unwritten = decoded-built;

@@ -11,15 +11,12 @@ use Rattle.recurrence.specs.Run.{Way}
 use Rattle.checker.specs.Promises.{Checked}
 use Rattle.precoder.specs.Runs.{PrecodesRun, DecodesRun}
 use Rattle.host.specs.Frames.{FrameWritten, FrameRead}
-use Rattle.host.specs.Scrambling.{ScrambledRun, ScrambledFrame}
-use Rattle.host.specs.Symbols.{ActivationLevelGiven, DataLevelGiven, CodeGiven, SymbolEncoded, SymbolsEncoded, SampleShaped}
+use Rattle.host.specs.Scrambling.{ScramblerStarted, BitScrambled, ScrambledRun, ScrambledFrame}
+use Rattle.host.specs.Symbols.{ActivationLevelGiven, DataLevelGiven, CodeGiven, EncoderStarted, SymbolEncoded, SymbolsEncoded, HistoryStarted, SampleShaped}
 use Rattle.host.specs.Supervising.{Started, StateStepped, CodesRun}
-use Rattle.demands.specs.Library.{Library, WriteCall, ReadCall, RunCall, FrameCall, EncodeCall, EncodeRunCall, PrecodeCall, StartCall, StepCall}
-use Rattle.demands.specs.Library.{CodesCall}
+use Rattle.demands.specs.Library.{Library, WriteCall, ReadCall, BitCall, RunCall, FrameCall, WordsCall, EncodeCall, EncodeRunCall, PrecodeCall}
+use Rattle.demands.specs.Library.{StartCall, StepCall, CodesCall}
 use Rattle.demands.specs.FromC.{Calls, fromC, everyCall}
-
--- What no demand speaks of, since a start is a constant and a bit a run of one: their own contracts say all of it.
--- outside: sdsl_scrambler_start, sdsl_scramble_bit, sdsl_descramble_bit, sdsl_encoder_start, sdsl_history_start
 
 -- each function keeps the contract of the exported one, for the calls that are meant. Above each field the exported function with its arguments;
 -- where a call's field has another name, argument = field
@@ -33,6 +30,12 @@ pub record KeepsFor (calls : Calls) (x : Library) : Type 0 where
   pub read : (c : ReadCall) → calls .read c ≡ true → FrameRead (c .frame) (c .coefficients) (c .vendor)
       (record { answer = x .read c .answer; kind = x .read c .numbers .kind; a = x .read c .numbers .a; b = x .read c .numbers .b })
       (x .read c .memory .coefficients) (x .read c .memory .vendor)
+  -- sdsl_scrambler_start(end)
+  pub scrambler-start : (end : ℕ) → calls .scrambler-start end ≡ true → ScramblerStarted end
+      (record { answer = x .scrambler-start end .answer; state = x .scrambler-start end .memory })
+  -- sdsl_scramble_bit(end, state, bit), sdsl_descramble_bit(end, state, bit)
+  pub bit : (way : Way) (c : BitCall) → calls .bit c ≡ true → BitScrambled way (c .end) (c .state) (c .bit)
+      (record { answer = x .bit way c .answer; bit = x .bit way c .numbers; state = x .bit way c .memory })
   -- sdsl_scramble(end, state, input, bits, output), sdsl_descramble(end, state, input, bits, output)
   pub run : (way : Way) (c : RunCall) → calls .run c ≡ true → ScrambledRun way (c .end) (c .state) (c .input) (c .bits) (c .output)
       (record { answer = x .run way c .answer; state = x .run way c .memory .state }) (x .run way c .memory .output)
@@ -48,6 +51,9 @@ pub record KeepsFor (calls : Calls) (x : Library) : Type 0 where
   -- sdsl_level_code(sixteenths)
   pub code : (sixteenths : ℤ) → calls .code sixteenths ≡ true → CodeGiven sixteenths
       (record { answer = x .code sixteenths .answer; code = x .code sixteenths .numbers })
+  -- sdsl_encoder_start(a, b)
+  pub encoder-start : (c : WordsCall) → calls .encoder-start c ≡ true → EncoderStarted (c .a) (c .b)
+      (record { answer = x .encoder-start c .answer; register = x .encoder-start c .memory })
   -- sdsl_encode(a, b, register, symbol)
   pub encode : (c : EncodeCall) → calls .encode c ≡ true → SymbolEncoded (c .a) (c .b) (c .register) (c .symbol)
       (record {
@@ -59,6 +65,9 @@ pub record KeepsFor (calls : Calls) (x : Library) : Type 0 where
   -- sdsl_encode_run(a, b, register, symbols, codes)
   pub encode-run : (c : EncodeRunCall) → calls .encode-run c ≡ true → SymbolsEncoded (c .a) (c .b) (c .register) (c .symbols) (c .codes)
       (record { answer = x .encode-run c .answer; register = x .encode-run c .memory .register }) (x .encode-run c .memory .codes)
+  -- sdsl_history_start(history)
+  pub history-start : (history : List ℕ) → calls .history-start history ≡ true → HistoryStarted history
+      (x .history-start history .answer) (x .history-start history .memory)
   -- sdsl_precode(coefficients, history, xs = symbols, ys = room)
   pub precode : (c : PrecodeCall) → calls .precode c ≡ true → PrecodesRun (c .coefficients) (c .history) (c .symbols) (c .room)
       (x .precode c .answer) (x .precode c .memory .history) (x .precode c .memory .room)
@@ -103,13 +112,17 @@ pub record SameFor (calls : Calls) (x y : Library) : Type 0 where
   pub write : (c : WriteCall) → calls .write c ≡ true → x .write c ≡ y .write c
   pub check : (frame : List ℕ) → calls .check frame ≡ true → x .check frame ≡ y .check frame
   pub read : (c : ReadCall) → calls .read c ≡ true → x .read c ≡ y .read c
+  pub scrambler-start : (end : ℕ) → calls .scrambler-start end ≡ true → x .scrambler-start end ≡ y .scrambler-start end
+  pub bit : (way : Way) (c : BitCall) → calls .bit c ≡ true → x .bit way c ≡ y .bit way c
   pub run : (way : Way) (c : RunCall) → calls .run c ≡ true → x .run way c ≡ y .run way c
   pub frame : (way : Way) (c : FrameCall) → calls .frame c ≡ true → x .frame way c ≡ y .frame way c
   pub activation : (bit : ℕ) → calls .activation bit ≡ true → x .activation bit ≡ y .activation bit
   pub level : (code : ℕ) → calls .level code ≡ true → x .level code ≡ y .level code
   pub code : (sixteenths : ℤ) → calls .code sixteenths ≡ true → x .code sixteenths ≡ y .code sixteenths
+  pub encoder-start : (c : WordsCall) → calls .encoder-start c ≡ true → x .encoder-start c ≡ y .encoder-start c
   pub encode : (c : EncodeCall) → calls .encode c ≡ true → x .encode c ≡ y .encode c
   pub encode-run : (c : EncodeRunCall) → calls .encode-run c ≡ true → x .encode-run c ≡ y .encode-run c
+  pub history-start : (history : List ℕ) → calls .history-start history ≡ true → x .history-start history ≡ y .history-start history
   pub precode : (c : PrecodeCall) → calls .precode c ≡ true → x .precode c ≡ y .precode c
   pub decode : (c : PrecodeCall) → calls .decode c ≡ true → x .decode c ≡ y .decode c
   pub shape : (y′ : ℤ) → calls .shape y′ ≡ true → x .shape y′ ≡ y .shape y′

@@ -6,7 +6,8 @@ use lib.Dec.{ltb}
 use lib.IntN.{ℤ, pos, negsuc}
 use lib.ListN.{length}
 use Rattle.host.specs.declared.supervising.Supervisor.{Supervisor}
-use Rattle.demands.specs.Library.{WriteCall, ReadCall, RunCall, FrameCall, EncodeCall, EncodeRunCall, PrecodeCall, StartCall, StepCall, CodesCall}
+use Rattle.demands.specs.Library.{WriteCall, ReadCall, BitCall, RunCall, FrameCall, WordsCall, EncodeCall, EncodeRunCall, PrecodeCall, StartCall}
+use Rattle.demands.specs.Library.{StepCall, CodesCall}
 
 -- a uint32_t
 abbrev pub u32 : ℕ → Bool
@@ -39,13 +40,17 @@ pub record Calls : Type 0 where
   pub write : WriteCall → Bool
   pub check : List ℕ → Bool
   pub read : ReadCall → Bool
+  pub scrambler-start : ℕ → Bool
+  pub bit : BitCall → Bool
   pub run : RunCall → Bool
   pub frame : FrameCall → Bool
   pub activation : ℕ → Bool
   pub level : ℕ → Bool
   pub code : ℤ → Bool
+  pub encoder-start : WordsCall → Bool
   pub encode : EncodeCall → Bool
   pub encode-run : EncodeRunCall → Bool
+  pub history-start : List ℕ → Bool
   pub precode : PrecodeCall → Bool
   pub decode : PrecodeCall → Bool
   pub shape : ℤ → Bool
@@ -59,13 +64,17 @@ fromC = record {
   write = λ c. u32 (c .kind) && u32 (c .count) && buffer (c .coefficients) && u32 (c .a) && u32 (c .b) && buffer (c .vendor) && buffer (c .frame);
   check = λ frame. buffer frame;
   read = λ c. buffer (c .frame) && buffer (c .coefficients) && buffer (c .vendor);
+  scrambler-start = λ end. u32 end;
+  bit = λ c. u32 (c .end) && u32 (c .state) && u32 (c .bit);
   run = λ c. u32 (c .end) && u32 (c .state) && buffer (c .input) && usize (c .bits) && buffer (c .output);
   frame = λ c. u32 (c .end) && u32 (c .state) && buffer (c .frame) && buffer (c .output);
   activation = λ bit. u32 bit;
   level = λ code. u32 code;
   code = λ sixteenths. i32 sixteenths;
+  encoder-start = λ c. u32 (c .a) && u32 (c .b);
   encode = λ c. u32 (c .a) && u32 (c .b) && u32 (c .register) && u32 (c .symbol);
   encode-run = λ c. u32 (c .a) && u32 (c .b) && u32 (c .register) && buffer (c .symbols) && buffer (c .codes);
+  history-start = λ history. buffer history;
   precode = λ c. buffer (c .coefficients) && buffer (c .history) && buffer (c .symbols) && buffer (c .room);
   decode = λ c. buffer (c .coefficients) && buffer (c .history) && buffer (c .symbols) && buffer (c .room);
   shape = λ y. i32 y;
@@ -80,13 +89,17 @@ everyCall = record {
   write = λ c. true;
   check = λ frame. true;
   read = λ c. true;
+  scrambler-start = λ end. true;
+  bit = λ c. true;
   run = λ c. true;
   frame = λ c. true;
   activation = λ bit. true;
   level = λ code. true;
   code = λ sixteenths. true;
+  encoder-start = λ c. true;
   encode = λ c. true;
   encode-run = λ c. true;
+  history-start = λ history. true;
   precode = λ c. true;
   decode = λ c. true;
   shape = λ y. true;

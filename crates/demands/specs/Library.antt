@@ -44,6 +44,12 @@ pub record Rooms : Type 0 where
   pub coefficients : List ℕ
   pub vendor : List ℕ
 
+-- sdsl_scramble_bit and sdsl_descramble_bit
+pub record BitCall : Type 0 where
+  pub end : ℕ
+  pub state : ℕ
+  pub bit : ℕ
+
 -- sdsl_scramble and sdsl_descramble
 pub record RunCall : Type 0 where
   pub end : ℕ
@@ -63,6 +69,11 @@ pub record FrameCall : Type 0 where
 pub record Line : Type 0 where
   pub state : ℕ
   pub output : List ℕ
+
+-- sdsl_encoder_start: the words A and B
+pub record WordsCall : Type 0 where
+  pub a : ℕ
+  pub b : ℕ
 
 -- sdsl_encode: the words A and B, the register, a symbol's three bits as a number
 pub record EncodeCall : Type 0 where
@@ -133,13 +144,17 @@ pub record Library : Type 0 where
   pub write : WriteCall → Outcome None (List ℕ)
   pub check : List ℕ → Outcome None None
   pub read : ReadCall → Outcome Fields Rooms
+  pub scrambler-start : ℕ → Outcome None ℕ
+  pub bit : Way → BitCall → Outcome ℕ ℕ
   pub run : Way → RunCall → Outcome None Line
   pub frame : Way → FrameCall → Outcome None Line
   pub activation : ℕ → Outcome ℤ None
   pub level : ℕ → Outcome ℤ None
   pub code : ℤ → Outcome ℕ None
+  pub encoder-start : WordsCall → Outcome None ℕ
   pub encode : EncodeCall → Outcome Symbol ℕ
   pub encode-run : EncodeRunCall → Outcome None Codes
+  pub history-start : List ℕ → Outcome None (List ℕ)
   pub precode : PrecodeCall → Outcome None Signal
   pub decode : PrecodeCall → Outcome None Signal
   pub shape : ℤ → Outcome Float None

@@ -6,7 +6,7 @@ use Rattle.demands.specs.Library.{Outcome, Library}
 use Rattle.demands.specs.One.{One}
 use Rattle.demands.specs.Three.{supervisor}
 use Rattle.demands.specs.WrongLibraries.{Refuses, OneFrame, FrameUnwritten, CoefficientsUnwritten, VendorUnwritten, RunUnwritten, WholeUnwritten}
-use Rattle.demands.specs.WrongLibraries.{CodesUnwritten, PrecodedUnwritten, DecodedUnwritten, CopiesTheRest, TurnsA, TurnsB}
+use Rattle.demands.specs.WrongLibraries.{HistoryUnwritten, CodesUnwritten, PrecodedUnwritten, DecodedUnwritten, CopiesTheRest, TurnsA, TurnsB}
 use Rattle.demands.specs.WrongSupervisors.{MovesOnce, NeverOpens, CallsException, SameTicks, CountsCodes, GivesUp, EndsTooLate}
 
 -- such a version that meets demand 1
@@ -28,6 +28,7 @@ pub record NoStrawMan : Type 1 where
   pub vendor-unwritten : Built VendorUnwritten
   pub run-unwritten : (way : Way) → Built (RunUnwritten way)
   pub whole-unwritten : (way : Way) → Built (WholeUnwritten way)
+  pub history-unwritten : Built HistoryUnwritten
   pub codes-unwritten : Built CodesUnwritten
   pub precoded-unwritten : Built PrecodedUnwritten
   pub decoded-unwritten : Built DecodedUnwritten

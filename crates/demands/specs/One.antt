@@ -2,25 +2,25 @@
 -- of SCOPE's table. A refused call changes no lent memory and no state, and no caller has to check first.
 use mathlib.Core.Path.{_≡_}
 use mathlib.Core.Bool.{true}
-use mathlib.Core.List.{List, _∷_}
-use Prim.Native.Nat.{_≤_}
+use mathlib.Core.List.{List, [], _∷_}
+use Prim.Native.Nat.{ℕ, _≤_}
 use lib.Ieee.{binary32, ofBits}
 use lib.IntN.{pos}
 use Rattle.answer.specs.Answer.{Refusal, wrongLength, answer, inOrder}
 use Rattle.layout.specs.Refusals.{writeRefusals, checkRefusals}
 use Rattle.recurrence.specs.Run.{Way}
-use Rattle.scrambler.specs.Promises.{runRefusals, frameRefusals}
+use Rattle.scrambler.specs.Promises.{unknownEnd, stepRefusals as bitTests, runRefusals, frameRefusals}
 use Rattle.numbers.specs.Promises.{numbersOf}
 use Rattle.symbol.specs.Levels.{activationTests, dataTests, backTests}
-use Rattle.symbol.specs.Encoder.{stepTests, runTests}
+use Rattle.symbol.specs.Encoder.{startTests, stepTests, runTests}
 use Rattle.samples.specs.Shaper.{shaperTests}
 use Rattle.precoder.specs.Runs.{runTests as precoderTests}
 use Rattle.supervisor.specs.Step.{startRefusals, stepRefusals, stateRefusals, none as noState}
 use Rattle.host.specs.Frames.{frameReadRefusals}
 use Rattle.host.specs.Symbols.{encoder}
 use Rattle.host.specs.Supervising.{stateIn, stateOf}
-use Rattle.demands.specs.Library.{Outcome, none, WriteCall, ReadCall, RunCall, FrameCall, EncodeCall, EncodeRunCall, PrecodeCall, StartCall, StepCall}
-use Rattle.demands.specs.Library.{CodesCall, Library}
+use Rattle.demands.specs.Library.{Outcome, none, WriteCall, ReadCall, BitCall, RunCall, FrameCall, WordsCall, EncodeCall, EncodeRunCall, PrecodeCall}
+use Rattle.demands.specs.Library.{StartCall, StepCall, CodesCall, Library}
 
 -- a function answers by SCOPE's table: by these checks, what its memory holds before, and nothing in its other numbers
 pub record Answers {C N M : Type 0} (f : C → Outcome N M) (checks : C → List Refusal) (before : C → M) (nothing : N) : Type 0 where
@@ -42,13 +42,25 @@ writeChecks c =
 abbrev pub readChecks : ReadCall → List Refusal
 readChecks c = frameReadRefusals (c .frame) (c .coefficients) (c .vendor)
 
--- of scrambling or descrambling a run
+-- of a scrambler's start
+abbrev pub scramblerStartChecks : ℕ → List Refusal
+scramblerStartChecks end = unknownEnd end ∷ []
+
+-- of scrambling or descrambling a bit
+abbrev pub bitChecks : BitCall → List Refusal
+bitChecks c = bitTests (record { end = c .end; state = c .state }) (c .bit)
+
+-- a run
 abbrev pub runChecks : RunCall → List Refusal
 runChecks c = runRefusals (record { end = c .end; state = c .state }) (c .input) (c .bits) (c .output)
 
 -- and a frame
 abbrev pub frameChecks : FrameCall → List Refusal
 frameChecks c = frameRefusals (record { end = c .end; state = c .state }) (c .frame) (c .output)
+
+-- of an encoder's start
+abbrev pub encoderStartChecks : WordsCall → List Refusal
+encoderStartChecks c = startTests (c .a) (c .b)
 
 -- of encoding a symbol
 abbrev pub encodeChecks : EncodeCall → List Refusal
@@ -57,6 +69,10 @@ encodeChecks c = stepTests (encoder (c .a) (c .b) (c .register)) (c .symbol)
 -- and a run of them
 abbrev pub encodeRunChecks : EncodeRunCall → List Refusal
 encodeRunChecks c = runTests (encoder (c .a) (c .b) (c .register)) (c .symbols) (c .codes)
+
+-- of a history's start: 720 octets
+abbrev pub historyStartChecks : List ℕ → List Refusal
+historyStartChecks history = wrongLength history 720 ∷ []
 
 -- of the precoder's runs, either way
 abbrev pub precodeChecks : PrecodeCall → List Refusal
@@ -83,31 +99,39 @@ pub record Ordered : Type 0 where
   pub write : InTheirOrder writeChecks
   pub check : InTheirOrder checkRefusals
   pub read : InTheirOrder readChecks
+  pub scrambler-start : InTheirOrder scramblerStartChecks
+  pub bit : InTheirOrder bitChecks
   pub run : InTheirOrder runChecks
   pub frame : InTheirOrder frameChecks
   pub activation : InTheirOrder activationTests
   pub level : InTheirOrder dataTests
   pub code : InTheirOrder backTests
+  pub encoder-start : InTheirOrder encoderStartChecks
   pub encode : InTheirOrder encodeChecks
   pub encode-run : InTheirOrder encodeRunChecks
+  pub history-start : InTheirOrder historyStartChecks
   pub precode : InTheirOrder precodeChecks
   pub shape : InTheirOrder shaperTests
   pub start : InTheirOrder startChecks
   pub step : InTheirOrder stepChecks
   pub run-codes : InTheirOrder codesChecks
 
--- THE DEMAND, function by function: its checks, what its memory holds before, and the numbers that a refusal gives
+-- THE DEMAND, function by function: its checks, what its memory holds before (for the start of a state: 0, or no state), and the numbers that a refusal gives
 pub record One (x : Library) : Type 0 where
   pub write : Answers (x .write) writeChecks (λ c. c .frame) none
   pub check : Answers (x .check) checkRefusals (λ c. none) none
   pub read : Answers (x .read) readChecks (λ c. record { coefficients = c .coefficients; vendor = c .vendor }) (record { kind = 0; a = 0; b = 0 })
+  pub scrambler-start : Answers (x .scrambler-start) scramblerStartChecks (λ c. 0) none
+  pub bit : (way : Way) → Answers (x .bit way) bitChecks (λ c. c .state) 0
   pub run : (way : Way) → Answers (x .run way) runChecks (λ c. record { state = c .state; output = c .output }) none
   pub frame : (way : Way) → Answers (x .frame way) frameChecks (λ c. record { state = c .state; output = c .output }) none
   pub activation : Answers (x .activation) activationTests (λ c. none) (pos 0)
   pub level : Answers (x .level) dataTests (λ c. none) (pos 0)
   pub code : Answers (x .code) backTests (λ c. none) 0
+  pub encoder-start : Answers (x .encoder-start) encoderStartChecks (λ c. 0) none
   pub encode : Answers (x .encode) encodeChecks (λ c. c .register) (record { code = 0; sixteenths = pos 0 })
   pub encode-run : Answers (x .encode-run) encodeRunChecks (λ c. record { register = c .register; codes = c .codes }) none
+  pub history-start : Answers (x .history-start) historyStartChecks (λ c. c) none
   pub precode : Answers (x .precode) precodeChecks (λ c. record { history = c .history; room = c .room }) none
   pub decode : Answers (x .decode) precodeChecks (λ c. record { history = c .history; room = c .room }) none
   pub shape : Answers (x .shape) shaperTests (λ c. none) (ofBits binary32 0)

@@ -2,7 +2,7 @@
 -- as SCOPE sets them out. What one card writes or scrambles, the other gets back unchanged.
 use mathlib.Core.Path.{_≡_}
 use mathlib.Core.Bool.{true, false}
-use mathlib.Core.List.{List, _∷_}
+use mathlib.Core.List.{List, [], _∷_}
 use Prim.Native.Nat.{ℕ, _≤_, _<_, _^_}
 use lib.IntN.{ℤ}
 use lib.ListN.{length, getD}
@@ -20,11 +20,13 @@ use Rattle.recurrence.specs.Run.{scramble, descramble}
 use Rattle.symbol.specs.Levels.{activationLevels, dataLevels, levelAt, activationTests, dataTests}
 use Rattle.symbol.specs.Encoder.{codeOf, codesOf, x1, sentAfter, heldIn, registerOf}
 use Rattle.ranges.specs.Ranges.{every}
-use Rattle.samples.specs.Samples.{isSignal}
+use Rattle.samples.specs.Samples.{isSignal, atStart}
 use Rattle.samples.specs.Shaper.{Exactly, shaperTests}
 use Rattle.precoder.specs.Runs.{SendsAll, pastAfterAll}
-use Rattle.demands.specs.Library.{Outcome, none, WriteCall, ReadCall, RunCall, FrameCall, EncodeCall, EncodeRunCall, PrecodeCall, Library}
-use Rattle.demands.specs.One.{writeChecks, readChecks, runChecks, frameChecks, encodeChecks, encodeRunChecks, precodeChecks}
+use Rattle.demands.specs.Library.{Outcome, none, WriteCall, ReadCall, BitCall, RunCall, FrameCall, WordsCall, EncodeCall, EncodeRunCall, PrecodeCall}
+use Rattle.demands.specs.Library.{Library}
+use Rattle.demands.specs.One.{writeChecks, readChecks, scramblerStartChecks, bitChecks, runChecks, frameChecks, encoderStartChecks, encodeChecks}
+use Rattle.demands.specs.One.{encodeRunChecks, historyStartChecks, precodeChecks}
 
 -- no check of SCOPE's table applies
 abbrev pub Right : List Refusal → Type 0
@@ -63,6 +65,14 @@ pub record Frames (x : Library) : Type 0 where
 -- SCRAMBLING (002, clause 7.1.6): what comes out stands where the input's bits stood, and "Output bits past the count stay." A state
 -- "holds the last 23 scrambled bits, newest at weight 1." Of a frame, bits 15 to 4,227 clock it; the sync bits pass, and the pad is zero
 pub record Scrambling (x : Library) : Type 0 where
+  -- "The starting state is 0."
+  pub started : (end : ℕ) → Right (scramblerStartChecks end) → x .scrambler-start end ≡ done none 0
+  -- "Each step takes a state and a bit and hands the next state back": s(n) of one bit
+  pub bit-scrambled : (c : BitCall) → Right (bitChecks c)
+      → (s : ℕ) × Scrambles (tapOf (c .end)) (c .state) (c .bit ∷ []) (s ∷ []) × (x .bit scramble c ≡ done s (newest (c .state) (s ∷ [])))
+  -- "Descrambling adds the same two received bits", of one bit
+  pub bit-descrambled : (c : BitCall) → Right (bitChecks c)
+      → (f : ℕ) × Descrambles (tapOf (c .end)) (c .state) (c .bit ∷ []) (f ∷ []) × (x .bit descramble c ≡ done f (newest (c .state) (c .bit ∷ [])))
   -- "Scrambled bit s(n) = f(n) xor s(n-tap) xor s(n-23)"
   pub scrambled : (c : RunCall) → Right (runChecks c)
       → (s : List ℕ) × Scrambles (tapOf (c .end)) (c .state) (given (c .input) (c .bits)) s
@@ -88,6 +98,8 @@ pub record Symbols (x : Library) : Type 0 where
   pub level : (code : ℕ) → Right (dataTests code) → x .level code ≡ done (levelAt dataLevels code) none
   -- "Going back"
   pub code : (code : ℕ) → code ≤ 15 → x .code (levelAt dataLevels code) ≡ done code none
+  -- an encoder starts with no X1 sent: the register is 0
+  pub started : (c : WordsCall) → Right (encoderStartChecks c) → x .encoder-start c ≡ done none 0
   -- "Y3 = X3, Y2 = X2. Y1 is 1 when an odd number of ones is left after A masks the current and twenty earlier X1; Y0 likewise with B."
   pub encode : (c : EncodeCall) → Right (encodeChecks c)
       → let y = codeOf (c .a) (c .b) (heldIn (c .register)) (c .symbol) in
@@ -101,6 +113,8 @@ pub record Symbols (x : Library) : Type 0 where
 
 -- PRECODING (000, clause 4.3.4)
 pub record Precoding (x : Library) : Type 0 where
+  -- "It remembers the last 180 outputs, each from -131,072 to 131,071, all zero at first."
+  pub started : (history : List ℕ) → Right (historyStartChecks history) → x .history-start history ≡ done none (numberOctets atStart)
   -- "S is the exact sum of C(k) times y(m-k). v is S/131,072 rounded to the nearest whole number, halves upward"; u is x less v;
   -- "y = u + 262,144 d, with the one d that puts y from -131,072 to 131,071." "It remembers the last 180 outputs"
   pub precoded : (c : PrecodeCall) → Right (precodeChecks c)
@@ -130,7 +144,10 @@ pub record Back (x y : Library) : Type 0 where
   pub final : (c : WriteCall) (room vendor : List ℕ) → c .kind ≡ 1 → Right (writeChecks c) → Octets (c .vendor) → length room ≡ 720 → length vendor ≡ 16
       → y .read (record { frame = x .write c .memory; coefficients = room; vendor = vendor })
       ≡ done (record { kind = 1; a = 0; b = 0 }) (record { coefficients = room; vendor = c .vendor })
-  -- "Descrambling with the sender's end and starting state gives the input back and the sender's next state."
+  -- "Descrambling with the sender's end and starting state gives the input back and the sender's next state": a bit,
+  pub bit : (c : BitCall) → Right (bitChecks c)
+      → y .bit descramble (record { end = c .end; state = c .state; bit = x .bit scramble c .numbers }) ≡ done (c .bit) (x .bit scramble c .memory)
+  -- a run,
   pub run : (c : RunCall) (room : List ℕ) → Right (runChecks c) → length room ≡ length (c .output)
       → y .run descramble (record { end = c .end; state = c .state; input = x .run scramble c .memory .output; bits = c .bits; output = room })
       ≡ done none (record { state = x .run scramble c .memory .state; output = laid room 0 (given (c .input) (c .bits)) })

@@ -44,6 +44,10 @@ RunUnwritten way x = Unwritten (x .run way) (λ m. m .output) (λ c. c .output)
 abbrev pub WholeUnwritten : Way → Library → Type 0
 WholeUnwritten way x = Unwritten (x .frame way) (λ m. m .output) (λ c. c .output)
 
+-- the history of a start
+abbrev pub HistoryUnwritten : Library → Type 0
+HistoryUnwritten x = Unwritten (x .history-start) (λ m. m) (λ c. c)
+
 -- the codes of an encoder's run
 abbrev pub CodesUnwritten : Library → Type 0
 CodesUnwritten x = Unwritten (x .encode-run) (λ m. m .codes) (λ c. c .codes)
@@ -78,13 +82,17 @@ pub record RejectedByTwo (x : Library) : Type 0 where
   pub refuses-writing : Refuses (x .write) → ⊥
   pub refuses-checking : Refuses (x .check) → ⊥
   pub refuses-reading : Refuses (x .read) → ⊥
+  pub refuses-scrambler-starts : Refuses (x .scrambler-start) → ⊥
+  pub refuses-bits : (way : Way) → Refuses (x .bit way) → ⊥
   pub refuses-runs : (way : Way) → Refuses (x .run way) → ⊥
   pub refuses-frames : (way : Way) → Refuses (x .frame way) → ⊥
   pub refuses-activation : Refuses (x .activation) → ⊥
   pub refuses-levels : Refuses (x .level) → ⊥
   pub refuses-codes : Refuses (x .code) → ⊥
+  pub refuses-encoder-starts : Refuses (x .encoder-start) → ⊥
   pub refuses-encoding : Refuses (x .encode) → ⊥
   pub refuses-encoder-runs : Refuses (x .encode-run) → ⊥
+  pub refuses-history-starts : Refuses (x .history-start) → ⊥
   pub refuses-precoding : Refuses (x .precode) → ⊥
   pub refuses-decoding : Refuses (x .decode) → ⊥
   pub refuses-shaping : Refuses (x .shape) → ⊥
@@ -94,6 +102,7 @@ pub record RejectedByTwo (x : Library) : Type 0 where
   pub vendor-unwritten : VendorUnwritten x → ⊥
   pub run-unwritten : (way : Way) → RunUnwritten way x → ⊥
   pub whole-unwritten : (way : Way) → WholeUnwritten way x → ⊥
+  pub history-unwritten : HistoryUnwritten x → ⊥
   pub codes-unwritten : CodesUnwritten x → ⊥
   pub precoded-unwritten : PrecodedUnwritten x → ⊥
   pub decoded-unwritten : DecodedUnwritten x → ⊥
