@@ -6,9 +6,9 @@ use Prim.Native.Nat.{ℕ, zero, suc, _+_, _-_, _*_, _≤_, _<_}
 use native.Mathlib.Nat.{zero-add, add-zero}
 use native.Mathlib.Omega.{arith}
 use lib.ListN.{length, getD, take, drop, length-append, length-drop}
-use lib.Seq.{take-at, take-all, take-add, drop-drop, length-take-le}
+use lib.Seq.{drop-cons, take-at, take-all, take-add, drop-drop, length-take-le}
 use Rattle.octets.specs.Bits.{bitsOf, octetsOf, part, laid}
-use Rattle.octets.proofs.Digits.{Bits}
+use Rattle.octets.proofs.Digits.{Bits, append-bits}
 use Rattle.octets.proofs.Laws.{bits-octets}
 use Rattle.octets.proofs.Fields.{part-behind, part-stays, reads-back}
 use Rattle.places.specs.Places.{total, widthIn, placeIn, fieldIn, spanIn, fieldsFrom, fieldsIn, joined, widthsOf}
@@ -19,6 +19,10 @@ use Rattle.places.proofs.Places.{place-next, place-grows, place-end, in
 pub joined-length : (fs : List (List ℕ)) → length (joined fs) ≡ total (widthsOf fs)
 joined-length [] = refl
 joined-length (f ∷ fs) = omega (arith, length-append f (joined fs), joined-length fs)
+
+pub joined-bits : (fs : List (List ℕ)) → ((k : ℕ) → Bits (getD fs k [])) → Bits (joined fs)
+joined-bits [] h = h 0
+joined-bits (f ∷ fs) h = append-bits f (joined fs) (h 0) (joined-bits fs (λ k. h (suc k)))
 
 -- field k, where the widths are those of the fields
 pub laid-back : (ws : List ℕ) (fs : List (List ℕ)) → ws ≡ widthsOf fs → (k : ℕ) → fieldIn ws k (joined fs) ≡ getD fs k []
@@ -112,6 +116,14 @@ module _ (ws bits : List ℕ) where
     pub field-length : (k : ℕ) → length (fieldIn ws k bits) ≡ widthIn ws k
     field-length k = length-take-le (widthIn ws k) (drop (placeIn ws k) bits) (omega (arith, length-drop (placeIn ws k) bits, inside ws k))
 
+    -- the fields have the widths of the list
+    pub fields-widths : widthsOf (fieldsIn ws bits) ≡ ws
+    fields-widths = from (length ws) 0 (omega arith) ∙ take-all (length ws) ws (omega arith)
+      where
+        from : (n i : ℕ) → i + n ≤ length ws → widthsOf (fieldsFrom ws i n bits) ≡ part i n ws
+        from zero i h = refl
+        from (suc n) i h = ap₂ _∷_ (field-length i) (from n (suc i) (omega arith)) ∙ ap (take (suc n)) (sym (drop-cons ws i 0 (omega arith)))
+
     -- from the first field to behind the last
     pub span-all : spanIn ws 0 (length ws) bits ≡ bits
     span-all = take-all (placeIn ws (length ws) - 0) bits (omega (arith, place-end ws))
@@ -119,6 +131,15 @@ module _ (ws bits : List ℕ) where
     -- all bits are in the fields, one behind the other
     pub all-bits : joined (fieldsIn ws bits) ≡ bits
     all-bits = sym (span-fields (length ws) 0) ∙ ap (λ (n : ℕ). spanIn ws 0 n bits) (zero-add (length ws)) ∙ span-all
+
+-- of laid fields, n from number i on
+pub span-back : (ws : List ℕ) (fs : List (List ℕ)) → ws ≡ widthsOf fs → (i n : ℕ) → i + n ≤ length fs
+    → spanIn ws i (i + n) (joined fs) ≡ joined (part i n fs)
+span-back ws fs e i n h = span-fields ws (joined fs) n i ∙ ap joined (from n i h)
+  where
+    from : (n i : ℕ) → i + n ≤ length fs → fieldsFrom ws i n (joined fs) ≡ part i n fs
+    from zero i h = refl
+    from (suc n) i h = ap₂ _∷_ (laid-back ws fs e i) (from n (suc i) (omega arith)) ∙ ap (take (suc n)) (sym (drop-cons fs i [] (omega arith)))
 
 -- bits with the same fields are the same
 pub same-fields : (ws b c : List ℕ) → length b ≡ total ws → length c ≡ total ws → ((k : ℕ) → k < length ws → fieldIn ws k b ≡ fieldIn ws k c) → b ≡ c
