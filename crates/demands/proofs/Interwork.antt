@@ -3,18 +3,19 @@ use mathlib.Core.Path.{_≡_, refl, sym, ap, ap₂, _∙_, subst}
 use mathlib.Core.Bool.{true, not}
 use mathlib.Core.Logic.{⊎-elim}
 use mathlib.Core.List.{List, [], _∷_}
-use Prim.Native.Nat.{ℕ, zero, suc, _+_, _*_, _≤_, _<_, _^_}
+use Prim.Native.Nat.{ℕ, _+_, _*_, _≤_, _<_, _^_}
 use native.Mathlib.Omega.{arith}
 use borrow.Author.Tests.{eq-eqb, eqb-true, ltb-false, le-ltb, lt-leb, not-false}
-use lib.Dec.{eqb, ltb, leb, lit≤}
+use lib.Dec.{eqb, ltb, leb}
 use lib.IntN.{ℤ}
 use lib.ListN.{length, getD, drop}
 use lib.Seq.{sets-eq, take-at, length-take-le}
 use Rattle.answer.specs.Answer.{answer}
 use Rattle.answer.proofs.Laws.{none as none-applies, passed, given as held-given}
 use Rattle.octets.specs.Bits.{valueOf, bitsOf, octetsOf, part, laid}
-use Rattle.octets.proofs.Digits.{Bits, nil-bits, cons-bits, take-bits, drop-bits, value-part}
+use Rattle.octets.proofs.Digits.{Bits, nil-bits, cons-bits, take-bits, drop-bits}
 use Rattle.octets.proofs.Laws.{bits-bits, bits-length, octets-length, laid-length, laid-bits}
+use Rattle.octets.proofs.Words.{octets-octets}
 use Rattle.layout.specs.Places.{aField, bField, vendorField, padField}
 use Rattle.layout.specs.Frame.{used, trainingBits, finalBits, fieldOf, coefficientsOf}
 use Rattle.layout.specs.Refusals.{bitRefusals, hasSync}
@@ -217,13 +218,6 @@ module _ (x y : Library) (ex : Precoding x) (ey : Precoding y) where
       ∙ ap (λ (m : Outcome None Signal). done none (record { history = m .memory .history; room = c .symbols })) (sym (w .2))
 
 -- ---- the whole way
-
--- what bits make are octets
-octets-octets : (n : ℕ) (bs : List ℕ) → Bits bs → Octets (octetsOf n bs)
-unfolding octetsOf
-octets-octets zero bs h i = lit≤ tt
-octets-octets (suc n) bs h zero = value-part 8 bs h
-octets-octets (suc n) bs h (suc i) = octets-octets n (drop 8 bs) (drop-bits 8 bs h) i
 
 -- a frame that was written: its length, its octets, and that its bits answer 0
 module _ (x : Library) (ex : Frames x) (c : WriteCall) (h : Right (writeChecks c)) where

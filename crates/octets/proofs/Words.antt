@@ -146,7 +146,8 @@ pub two-put : (s : List ℕ) (i v : ℕ) → set (set s i (bitAnd v 255)) (i + 1
 two-put s i v =
     sym (ap₂ (λ (x y : List ℕ). sets (sets s i x) (i + 1) y) (one-octet v) (one-octet (v / 2 ^ 8))) ∙ sets-more s i 1 1 v
 
-octets-octets : (n : ℕ) (bs : List ℕ) → Bits bs → Octets (octetsOf n bs)
+-- what bits make are octets
+pub octets-octets : (n : ℕ) (bs : List ℕ) → Bits bs → Octets (octetsOf n bs)
 unfolding octetsOf
 octets-octets zero bs h i = suc-le-suc zero-le
 octets-octets (suc n) bs h zero = value-part 8 bs h
