@@ -10,7 +10,7 @@ use native.Mathlib.Omega.{arith}
 use borrow.Author.Tests.{leb-true, eq-eqb, ne-eqb}
 use lib.Dec.{lit≤, eqb, leb}
 use Rattle.answer.specs.Answer.{Refusal, answer, inOrder}
-use Rattle.answer.specs.Table.{rising, from, some, inTurn}
+use Rattle.answer.specs.Table.{rising, from, some, inTable, inTurn}
 
 both : (a b : Bool) → a && b ≡ true → (a ≡ true) × (b ≡ true)
 both true b e = (refl, e)
@@ -89,6 +89,18 @@ answer-in order (t ∷ ts) e =
     pick true h ih = inr h
     pick false h (inl z) = inl z
     pick false h (inr z) = inr (further (answer ts) (t .number) order z)
+
+-- and so, in SCOPE's order, it is a number of the table
+pub answer-in-table : (ts : List Refusal) → inTurn rising ts ≡ true → inTable (answer ts) ≡ true
+answer-in-table ts e = pick (answer-in rising ts e)
+  where
+    beside : (b : Bool) → some (from (answer ts) rising) ≡ true → some (cond b (0 ∷ rising) (from (answer ts) rising)) ≡ true
+    beside true h = refl
+    beside false h = h
+
+    pick : (answer ts ≡ 0) ⊎ (some (from (answer ts) rising) ≡ true) → inTable (answer ts) ≡ true
+    pick (inl z) = subst (λ (k : ℕ). inTable k ≡ true) (sym z) refl
+    pick (inr z) = beside (eqb 0 (answer ts)) z
 
 -- ---- checks whose numbers rise to 8 answer with a number of the table
 

@@ -12,6 +12,7 @@ pub record Meaning : Type 0 where
   pub number : ℕ
   pub text : String
 
+-- such a number
 abbrev pub means : ℕ → String → Meaning
 means n t = record { number = n; text = t }
 
@@ -50,6 +51,10 @@ from n (o ∷ os) = cond (eqb o n) (o ∷ os) (from n os)
 abbrev pub some : List ℕ → Bool
 some [] = false
 some (o ∷ os) = true
+
+-- whether a number is one of the table
+abbrev pub inTable : ℕ → Bool
+inTable n = some (from n (numbersOf (done ∷ refusals)))
 
 -- whether checks run in an order: the number of each stands in it, at or behind that of the one before
 unfoldable pub inTurn : List ℕ → List Refusal → Bool

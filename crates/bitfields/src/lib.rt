@@ -146,7 +146,7 @@ pub fn put_signed_fields(s: &mut [u8], at: usize, w: u32, numbers: &[i32], n: u3
     finished(s, window);
 }
 
-// The w low digits of v, the other end first.
+// The w low digits of v in the opposite order: the lowest becomes the highest.
 pub fn turned(w: u32, v: u32) -> u32
     ensures { λ r. ⌜ Turned w v r ⌝ }
 {

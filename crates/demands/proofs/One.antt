@@ -6,19 +6,21 @@ use Prim.Native.Nat.{ℕ, zero, suc, _≤_}
 use lib.Dec.{eqb, ltb}
 use lib.IntN.{pos}
 use Rattle.answer.specs.Answer.{Refusal, answer, held, inOrder}
+use Rattle.answer.specs.Table.{inTable}
 use Rattle.answer.proofs.Laws.{kept}
-use Rattle.answer.proofs.Order.{answer-within}
+use Rattle.answer.proofs.Order.{rising-is, answer-in-table}
 use Rattle.octets.specs.Bits.{valueOf}
 use Rattle.layout.specs.Places.{aField, bField}
 use Rattle.layout.specs.Frame.{trainingSync, fieldOf}
-use Rattle.layout.specs.Refusals.{hasSync}
+use Rattle.layout.specs.Refusals.{hasSync, checkRefusals}
 use Rattle.layout.proofs.Order.{check-order}
 use Rattle.recurrence.specs.Run.{Way, scramble}
 use Rattle.scrambler.proofs.One.{step-order as bit-order, run-order as scrambler-order, frame-order}
 use Rattle.symbol.specs.declared.Encoder.{Encoder}
+use Rattle.symbol.specs.Levels.{activationTests, dataTests, backTests}
 use Rattle.symbol.specs.Encoder.{registerOf}
 use Rattle.symbol.proofs.Order.{activation-order, data-order, back-order, start-order, step-order, run-order}
-use Rattle.samples.specs.Shaper.{Exactly}
+use Rattle.samples.specs.Shaper.{Exactly, shaperTests}
 use Rattle.samples.proofs.Order.{shaper-order}
 use Rattle.samples.proofs.Exact.{exact-zero, exact-unique}
 use Rattle.precoder.proofs.Order.{run-order as precoder-order}
@@ -41,46 +43,51 @@ use Rattle.host.specs.Symbols.{encoder}
 use Rattle.host.proofs.One.{frame-write-order, frame-read-order, history-start-order}
 use Rattle.demands.specs.Library.{Outcome, None, none, Library}
 use Rattle.demands.specs.Contracts.{Keeps}
-use Rattle.demands.specs.One.{Answers, InTheirOrder, Ordered, One, readChecks, scramblerStartChecks, bitChecks, runChecks, frameChecks}
+use Rattle.demands.specs.One.{Answers, InTheirOrder, Ordered, One, writeChecks, readChecks, scramblerStartChecks, bitChecks, runChecks, frameChecks}
+use Rattle.demands.specs.One.{encoderStartChecks, encodeChecks, encodeRunChecks, historyStartChecks, precodeChecks, startChecks, stepChecks, codesChecks}
 
 pub answers : {C N M : Type 0} {f : C → Outcome N M} {checks : C → List Refusal} {before : C → M} {nothing : N}
-    → ((c : C) → inOrder 1 (checks c) ≡ true) → ((c : C) → f c .answer ≡ answer (checks c))
+    → InTheirOrder checks → ((c : C) → f c .answer ≡ answer (checks c))
     → ((c : C) → (f c .answer ≡ 0 → ⊥) → f c .numbers ≡ nothing) → ((c : C) → (f c .answer ≡ 0 → ⊥) → f c .memory ≡ before c)
     → Answers f checks before nothing
 answers {checks = checks} o e n m =
     record {
-      in-table = λ c. subst (λ (k : ℕ). k ≤ 8) (sym (e c)) (answer-within 1 (checks c) (o c));
+      in-table = λ c. subst (λ (k : ℕ). inTable k ≡ true) (sym (e c)) (answer-in-table (checks c) (o c));
       first = e;
       no-numbers = n;
       unchanged = m;
     }
 
-scrambler-start-order : InTheirOrder scramblerStartChecks
+scrambler-start-order : (end : ℕ) → inOrder 1 (scramblerStartChecks end) ≡ true
 unfolding inOrder
 scrambler-start-order end = refl
+
+-- checks whose numbers rise run in the table's order
+in-turn : {C : Type 0} (checks : C → List Refusal) → ((c : C) → inOrder 1 (checks c) ≡ true) → InTheirOrder checks
+in-turn checks h c = rising-is (checks c) (h c)
 
 -- the checks run in their order
 pub ordered : Ordered
 ordered = record {
-  write = λ c. frame-write-order (c .kind) (c .count) (c .coefficients) (c .a) (c .b) (c .vendor) (c .frame);
-  check = check-order;
-  read = λ c. frame-read-order (c .frame) (c .coefficients) (c .vendor);
-  scrambler-start = scrambler-start-order;
-  bit = λ c. bit-order (record { end = c .end; state = c .state }) (c .bit);
-  run = λ c. scrambler-order scramble (record { end = c .end; state = c .state }) (c .input) (c .bits) (c .output);
-  frame = λ c. frame-order scramble (record { end = c .end; state = c .state }) (c .frame) (c .output);
-  activation = activation-order;
-  level = data-order;
-  code = back-order;
-  encoder-start = λ c. start-order (c .a) (c .b);
-  encode = λ c. step-order (encoder (c .a) (c .b) (c .register)) (c .symbol);
-  encode-run = λ c. run-order (encoder (c .a) (c .b) (c .register)) (c .symbols) (c .codes);
-  history-start = history-start-order;
-  precode = λ c. precoder-order (c .coefficients) (c .history) (c .symbols) (c .room);
-  shape = shaper-order;
-  start = λ c. start-in-order (c .end) (c .silence);
-  step = λ c. step-in-order (stateIn (c .state)) (c .code);
-  run-codes = λ c. state-in-order (stateIn (c .state));
+  write = in-turn writeChecks (λ c. frame-write-order (c .kind) (c .count) (c .coefficients) (c .a) (c .b) (c .vendor) (c .frame));
+  check = in-turn checkRefusals check-order;
+  read = in-turn readChecks (λ c. frame-read-order (c .frame) (c .coefficients) (c .vendor));
+  scrambler-start = in-turn scramblerStartChecks scrambler-start-order;
+  bit = in-turn bitChecks (λ c. bit-order (record { end = c .end; state = c .state }) (c .bit));
+  run = in-turn runChecks (λ c. scrambler-order scramble (record { end = c .end; state = c .state }) (c .input) (c .bits) (c .output));
+  frame = in-turn frameChecks (λ c. frame-order scramble (record { end = c .end; state = c .state }) (c .frame) (c .output));
+  activation = in-turn activationTests activation-order;
+  level = in-turn dataTests data-order;
+  code = in-turn backTests back-order;
+  encoder-start = in-turn encoderStartChecks (λ c. start-order (c .a) (c .b));
+  encode = in-turn encodeChecks (λ c. step-order (encoder (c .a) (c .b) (c .register)) (c .symbol));
+  encode-run = in-turn encodeRunChecks (λ c. run-order (encoder (c .a) (c .b) (c .register)) (c .symbols) (c .codes));
+  history-start = in-turn historyStartChecks history-start-order;
+  precode = in-turn precodeChecks (λ c. precoder-order (c .coefficients) (c .history) (c .symbols) (c .room));
+  shape = in-turn shaperTests shaper-order;
+  start = in-turn startChecks (λ c. start-in-order (c .end) (c .silence));
+  step = in-turn stepChecks (λ c. step-in-order (stateIn (c .state)) (c .code));
+  run-codes = in-turn codesChecks (λ c. state-in-order (stateIn (c .state)));
 }
 
 -- a number that is not 0, named otherwise

@@ -4,7 +4,6 @@ use mathlib.Core.Bool.{cond}
 use mathlib.Core.List.{List, [], _∷_, reverse}
 use Prim.Native.Nat.{ℕ, zero, suc, _≤_}
 use native.Mathlib.Omega.{arith}
-use lib.Dec.{lit≤}
 use lib.ListN.{length, getD, take, replicate}
 use lib.Seq.{length-take-le}
 use Rattle.answer.specs.Answer.{answer, held}
@@ -423,7 +422,7 @@ no-straw-man = record {
   refuses = λ {C} {N} {M} before nothing. (
     λ c. record { answer = 4; numbers = nothing; memory = before c },
     λ c e. omega (arith, e),
-    record { in-table = λ c. lit≤ tt; no-numbers = λ c h. refl; unchanged = λ c h. refl },
+    record { in-table = λ c. refl; no-numbers = λ c h. refl; unchanged = λ c h. refl },
   );
   one-frame = one-frame-built;
   frame-unwritten = frame-built;

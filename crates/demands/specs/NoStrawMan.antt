@@ -1,6 +1,7 @@
 -- NO STRAW MAN: each version that has to be rejected can be built so that it meets demand 1 (theorem `no-straw-man`: ours with one function changed).
 use mathlib.Core.Path.{_≡_}
-use Prim.Native.Nat.{_≤_}
+use mathlib.Core.Bool.{true}
+use Rattle.answer.specs.Table.{inTable}
 use Rattle.recurrence.specs.Run.{Way}
 use Rattle.demands.specs.Library.{Outcome, Library}
 use Rattle.demands.specs.One.{One}
@@ -15,7 +16,7 @@ Built P = (x : Library) × One x × P x
 
 -- demand 1 but for "None is given otherwise", which already rules out refusing everything
 pub record OtherwiseAnswers {C N M : Type 0} (f : C → Outcome N M) (before : C → M) (nothing : N) : Type 0 where
-  pub in-table : (c : C) → f c .answer ≤ 8
+  pub in-table : (c : C) → inTable (f c .answer) ≡ true
   pub no-numbers : (c : C) → (f c .answer ≡ 0 → ⊥) → f c .numbers ≡ nothing
   pub unchanged : (c : C) → (f c .answer ≡ 0 → ⊥) → f c .memory ≡ before c
 

@@ -3,10 +3,11 @@
 use mathlib.Core.Path.{_≡_}
 use mathlib.Core.Bool.{true}
 use mathlib.Core.List.{List, [], _∷_}
-use Prim.Native.Nat.{ℕ, _≤_}
+use Prim.Native.Nat.{ℕ}
 use lib.Ieee.{binary32, ofBits}
 use lib.IntN.{pos}
-use Rattle.answer.specs.Answer.{Refusal, wrongLength, answer, inOrder}
+use Rattle.answer.specs.Answer.{Refusal, wrongLength, answer}
+use Rattle.answer.specs.Table.{rising, inTable, inTurn}
 use Rattle.layout.specs.Refusals.{writeRefusals, checkRefusals}
 use Rattle.recurrence.specs.Run.{Way}
 use Rattle.scrambler.specs.Promises.{unknownEnd, stepRefusals as bitTests, runRefusals, frameRefusals}
@@ -25,7 +26,7 @@ use Rattle.demands.specs.Library.{StartCall, StepCall, CodesCall, Librar
 -- a function answers by SCOPE's table: by these checks, what its memory holds before, and nothing in its other numbers
 pub record Answers {C N M : Type 0} (f : C → Outcome N M) (checks : C → List Refusal) (before : C → M) (nothing : N) : Type 0 where
   -- the number is one of the table
-  pub in-table : (c : C) → f c .answer ≤ 8
+  pub in-table : (c : C) → inTable (f c .answer) ≡ true
   -- "Checks run in the order of these numbers (`Ordered`), and the first that applies is answered. None is given otherwise.
   pub first : (c : C) → f c .answer ≡ answer (checks c)
   -- With any but 0 every other number returned is 0,
@@ -90,9 +91,9 @@ stepChecks c = stepRefusals (stateIn (c .state)) (c .code)
 abbrev pub codesChecks : CodesCall → List Refusal
 codesChecks c = stateRefusals (stateIn (c .state))
 
--- the numbers of a list of checks never fall, whatever is handed in
+-- a list of checks runs in the table's order, whatever is handed in
 abbrev pub InTheirOrder : {C : Type 0} → (C → List Refusal) → Type 0
-InTheirOrder {C} checks = (c : C) → inOrder 1 (checks c) ≡ true
+InTheirOrder {C} checks = (c : C) → inTurn rising (checks c) ≡ true
 
 -- "Checks run in the order of these numbers": so it is of each function's list of checks (theorem `ordered`)
 pub record Ordered : Type 0 where

@@ -4,16 +4,19 @@ use Prim.Native.Nat.{ℕ, _*_, _/_}
 use Rattle.places.specs.Places.{total, placeIn}
 use Rattle.ranges.specs.Ranges.{coefficientCount, coefficientWidth, wordWidth}
 
--- the bits of sync, of the reserved field, of the check bits and of the pad
+-- the bits of sync
 abbrev pub syncWidth : ℕ
 syncWidth = 14
 
+-- the reserved bits
 abbrev pub reservedWidth : ℕ
 reservedWidth = 67
 
+-- the check bits
 abbrev pub checkWidth : ℕ
 checkWidth = 16
 
+-- the pad bits
 abbrev pub padWidth : ℕ
 padWidth = 5
 

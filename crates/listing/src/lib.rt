@@ -1,4 +1,4 @@
-// The bench listing (SCOPE): a frame's text, put into a lent room. What the text is, is specs/Listing.antt.
+// The bench listing (SCOPE): a frame's text, put into a lent room. specs/Listing.antt defines the text.
 ghost use mathlib.Core.Path.{_≡_};
 ghost use mathlib.Core.Bool.{cond};
 ghost use mathlib.Core.List.{_∷_, [], _++_};

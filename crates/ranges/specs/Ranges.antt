@@ -19,10 +19,11 @@ coefficientWidth = 22
 abbrev pub wordWidth : ℕ
 wordWidth = 21
 
--- a coefficient lies from -2,097,152 to 2,097,151
+-- a coefficient lies from -2,097,152
 abbrev pub lowestCoefficient : ℤ
 lowestCoefficient = negℤ (pos 2097152)
 
+-- to 2,097,151
 abbrev pub highestCoefficient : ℤ
 highestCoefficient = pos 2097151
 

@@ -3,9 +3,11 @@ use mathlib.Core.Bool.{cond}
 use Prim.Native.Nat.{ℕ}
 use lib.Dec.{eqb}
 
+-- the LTU's number
 abbrev pub ltu : ℕ
 ltu = 0
 
+-- the NTU's
 abbrev pub ntu : ℕ
 ntu = 1
 

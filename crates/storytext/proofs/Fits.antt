@@ -16,7 +16,8 @@ use Rattle.supervisor.specs.Phases.{Ready, Gap, Await, Cr, Hearing, Quiet, Sc, 
 use Rattle.story.specs.declared.Outcome.{Outcome}
 use Rattle.story.specs.declared.Story.{Story}
 use Rattle.story.specs.declared.Event.{Event}
-use Rattle.storytext.specs.Texts.{attemptTicks, numbered, seconds, ticksText, reportName, nameOf, phaseText, shortName, verbOf, attemptText, codeText}
+use Rattle.supervisor.specs.Limits.{attemptTicks}
+use Rattle.storytext.specs.Texts.{numbered, seconds, ticksText, reportName, nameOf, phaseText, shortName, verbOf, attemptText, codeText}
 use Rattle.storytext.specs.Texts.{whenText, eventText, lackOf, lackText, usedText, tryingText, inDataMode, lasts, restText, leftText, waitText}
 use Rattle.storytext.specs.Texts.{unheardText, nowText, howText, causeText, whyText, behindText, thenText, endedText}
 use Rattle.storytext.specs.Texts.{verdictText, endText, reasonText, refusedText}

@@ -7,22 +7,13 @@ use Prim.Native.String.{String}
 use lib.Dec.{eqb}
 use Rattle.ascii.specs.Text.{text, decimal}
 use Rattle.supervisor.specs.declared.Supervisor.{Supervisor}
+use Rattle.supervisor.specs.Limits.{gapTicks, settlingTicks, attemptTicks}
 use Rattle.supervisor.specs.Phases.{Ready, Gap, Await, Cr, Hearing, Quiet, Sc, Sr, Tc, Tr, Fc, Settling, Valid, Exception, inAttempt}
 use Rattle.story.specs.declared.Outcome.{Outcome}
 use Rattle.story.specs.declared.Story.{Story}
 use Rattle.story.specs.declared.Event.{Event}
 
 -- ---- numbers
-
--- the tick that ends an attempt, and how long Gap and Settling last
-abbrev pub attemptTicks : ℕ
-attemptTicks = 15000
-
-abbrev pub gapTicks : ℕ
-gapTicks = 300
-
-abbrev pub settlingTicks : ℕ
-settlingTicks = 1000
 
 -- a number between words
 abbrev pub numbered : String → ℕ → String → List ℕ

@@ -1,5 +1,5 @@
 // The text of a story, put into a lent room (crate ascii): what would lie past the room's end is left out, and how much of the room is
-// taken comes back. What the text is, is specs/Texts.antt.
+// taken comes back. specs/Texts.antt defines the text.
 ghost use mathlib.Core.Path.{_≡_};
 ghost use mathlib.Core.Bool.{cond};
 ghost use Prim.Native.Nat.{_-_};
