@@ -24,7 +24,7 @@ pub record Follows {S : Type 0} (make : Make S) (s : S) (k : Needs) (opening : �
   pub ends : (m n : ℕ) → OpensAt k l m → m ≤ n → attemptTicks ≤ count 0 l m n
       → (p : ℕ) × (p < n) × (FirstShows make Settling s l m p ⊎ FirstShows make Exception s l m p)
   -- in data mode exactly when the list itself shows each needed report, in order, each counted only from the moment it may be heard,
-  -- before that tick and before any abnormal report;
+  -- before that tick and before any abnormal report since it opened;
   pub in-data : (m p : ℕ) → OpensAt k l m → FirstShows make Settling s l m p ↔ EndsInData k l m p
   -- in the exception state exactly when one of those comes first."
   pub in-exception : (m p : ℕ) → OpensAt k l m → FirstShows make Exception s l m p ↔ EndsInException k l m p
