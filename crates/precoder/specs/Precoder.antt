@@ -25,12 +25,12 @@ pub record Receives (coefficients past : List ℤ) (y x : ℤ) : Type 0 where
   pub signal : isSignal x ≡ true
   pub sends : Sends coefficients past x y
 
--- either direction, as the code says it: not back, x goes out as y; back, y comes back as x
+-- one symbol in either direction. Forward (false) x goes out as y; back (true) y comes in and x is got back
 abbrev pub Turns : Bool → List ℤ → List ℤ → ℤ → ℤ → Type 0
 Turns false coefficients past x y = Sends coefficients past x y
 Turns true coefficients past y x = Receives coefficients past y x
 
--- the y of the two, which joins the past at both ends
+-- of the number that comes in and the one that comes out, the y: it joins the past at both ends
 abbrev pub lineOf : Bool → ℤ → ℤ → ℤ
 lineOf false x y = y
 lineOf true y x = y

@@ -29,12 +29,12 @@ pub record ReceivesAll (coefficients past ys xs : List ℤ) : Type 0 where
   pub signals : every isSignal xs ≡ true
   pub sends : SendsAll coefficients past xs ys
 
--- either direction, as the code says it
+-- a run in either direction, forward (false) or back (true)
 abbrev pub TurnsAll : Bool → List ℤ → List ℤ → List ℤ → List ℤ → Type 0
 TurnsAll false coefficients past xs ys = SendsAll coefficients past xs ys
 TurnsAll true coefficients past ys xs = ReceivesAll coefficients past ys xs
 
--- the ys of the two
+-- of the numbers that come in and those that come out, the ys
 abbrev pub linesOf : Bool → List ℤ → List ℤ → List ℤ
 linesOf false xs ys = ys
 linesOf true ys xs = ys

@@ -44,7 +44,7 @@ finalFrame = 16
 abbrev pub turnedWords : ℕ
 turnedWords = 17
 
--- no word is so, and one is not the customer's
+-- neither word is turned, and at least one is not the customer's
 abbrev pub otherWords : ℕ
 otherWords = 18
 
