@@ -11,7 +11,7 @@ use Rattle.answer.specs.Table.{rising, inTable, inTurn}
 use Rattle.layout.specs.Refusals.{writeRefusals, checkRefusals}
 use Rattle.recurrence.specs.Run.{Way}
 use Rattle.scrambler.specs.Promises.{unknownEnd, stepRefusals as bitTests, runRefusals, frameRefusals}
-use Rattle.numbers.specs.Promises.{numbersOf}
+use Rattle.numbers.specs.Promises.{coefficientsLength, numbersOf}
 use Rattle.symbol.specs.Levels.{activationTests, dataTests, backTests}
 use Rattle.symbol.specs.Encoder.{startTests, stepTests, runTests}
 use Rattle.samples.specs.Shaper.{shaperTests}
@@ -37,7 +37,7 @@ pub record Answers {C N M : Type 0} (f : C → Outcome N M) (checks : C → List
 -- the checks of writing, with the coefficients as 720 octets
 abbrev pub writeChecks : WriteCall → List Refusal
 writeChecks c =
-    wrongLength (c .coefficients) 720 ∷ writeRefusals (c .kind) (c .count) (numbersOf (c .coefficients)) (c .a) (c .b) (c .vendor) (c .frame)
+    wrongLength (c .coefficients) coefficientsLength ∷ writeRefusals (c .kind) (c .count) (numbersOf (c .coefficients)) (c .a) (c .b) (c .vendor) (c .frame)
 
 -- of reading
 abbrev pub readChecks : ReadCall → List Refusal
@@ -73,7 +73,7 @@ encodeRunChecks c = runTests (encoder (c .a) (c .b) (c .register)) (c .symbols) 
 
 -- of a history's start: 720 octets
 abbrev pub historyStartChecks : List ℕ → List Refusal
-historyStartChecks history = wrongLength history 720 ∷ []
+historyStartChecks history = wrongLength history coefficientsLength ∷ []
 
 -- of the precoder's runs, either way
 abbrev pub precodeChecks : PrecodeCall → List Refusal

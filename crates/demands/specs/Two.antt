@@ -9,10 +9,10 @@ use lib.ListN.{length, getD}
 use Rattle.answer.specs.Answer.{Refusal, answer}
 use Rattle.octets.specs.Bits.{valueOf, bitsOf, octetsOf, laid}
 use Rattle.remainder.specs.Division.{Remainder, generator, polynomial}
-use Rattle.layout.specs.Places.{aField, bField, vendorField, checkField}
+use Rattle.layout.specs.Places.{vendorLength, frameLength, aField, bField, vendorField, checkField}
 use Rattle.layout.specs.Frame.{trainingSync, used, trainingBits, finalBits, fieldOf, messageOf, coefficientsOf}
 use Rattle.layout.specs.Refusals.{hasSync, checkRefusals}
-use Rattle.numbers.specs.Promises.{numbersOf, numberOctets}
+use Rattle.numbers.specs.Promises.{coefficientsLength, numbersOf, numberOctets}
 use Rattle.recurrence.specs.Line.{Scrambles, Descrambles, newest}
 use Rattle.scrambler.specs.Ends.{tapOf}
 use Rattle.scrambler.specs.Promises.{given, clocked, around}
@@ -45,22 +45,22 @@ pub record Frames (x : Library) : Type 0 where
   -- "Writing a training frame takes a count of 128 to 180, room for 180 coefficients of which only the first count are looked at
   -- (the rest of the field is written zero), A, B and vendor data."
   pub training : (c : WriteCall) → c .kind ≡ 0 → Right (writeChecks c)
-      → x .write c ≡ done none (octetsOf 529 (trainingBits (c .count) (numbersOf (c .coefficients)) (c .a) (c .b) (c .vendor)))
+      → x .write c ≡ done none (octetsOf frameLength (trainingBits (c .count) (numbersOf (c .coefficients)) (c .a) (c .b) (c .vendor)))
   -- "Writing a final frame takes vendor data only and puts zero in the other payload fields, with its own sync and check bits."
-  pub final : (c : WriteCall) → c .kind ≡ 1 → Right (writeChecks c) → x .write c ≡ done none (octetsOf 529 (finalBits (c .vendor)))
+  pub final : (c : WriteCall) → c .kind ≡ 1 → Right (writeChecks c) → x .write c ≡ done none (octetsOf frameLength (finalBits (c .vendor)))
   -- "Check bits: the remainder of bits 15 to 4211 as a polynomial, bit 15 highest, times D^16, divided by D^16 + D^12 + D^5 + 1"
   pub check-bits : (c : WriteCall) → Right (writeChecks c)
       → Remainder 16 generator (messageOf (bitsOf (x .write c .memory))) (polynomial (fieldOf checkField (bitsOf (x .write c .memory))))
   -- "Reading a training frame gives 180 coefficients, A, B and vendor data."
   pub read-training : (c : ReadCall) → Right (readChecks c) → hasSync trainingSync (bitsOf (c .frame)) ≡ true
       → x .read c ≡ done (record { kind = 0; a = valueOf (fieldOf aField (bitsOf (c .frame))); b = valueOf (fieldOf bField (bitsOf (c .frame))) })
-      (record { coefficients = numberOctets (coefficientsOf (bitsOf (c .frame))); vendor = octetsOf 16 (fieldOf vendorField (bitsOf (c .frame))) })
+      (record { coefficients = numberOctets (coefficientsOf (bitsOf (c .frame))); vendor = octetsOf vendorLength (fieldOf vendorField (bitsOf (c .frame))) })
   -- a frame to which no check applies is answered 0
   pub checked : (frame : List ℕ) → Right (checkRefusals frame) → x .check frame ≡ done none none
   -- Reading a final frame "gives its kind and vendor data, and touches no coefficient buffer"
   pub read-final : (c : ReadCall) → Right (readChecks c) → hasSync trainingSync (bitsOf (c .frame)) ≡ false
       → x .read c ≡ done (record { kind = 1; a = 0; b = 0 })
-      (record { coefficients = c .coefficients; vendor = octetsOf 16 (fieldOf vendorField (bitsOf (c .frame))) })
+      (record { coefficients = c .coefficients; vendor = octetsOf vendorLength (fieldOf vendorField (bitsOf (c .frame))) })
 
 -- SCRAMBLING (002, clause 7.1.6): what comes out stands where the input's bits stood, and "Output bits past the count stay." A state
 -- "holds the last 23 scrambled bits, newest at weight 1." Of a frame, bits 15 to 4,227 clock it; the sync bits pass, and the pad is zero
@@ -136,12 +136,14 @@ overTheLine x y end state line received frame =
 -- BACK: what one card writes or scrambles, the other gets back unchanged
 pub record Back (x y : Library) : Type 0 where
   -- a training frame: its kind, A and B; all 180 coefficients, zero beyond the count; vendor data
-  pub training : (c : WriteCall) (room vendor : List ℕ) → c .kind ≡ 0 → Right (writeChecks c) → Octets (c .vendor) → length room ≡ 720 → length vendor ≡ 16
+  pub training : (c : WriteCall) (room vendor : List ℕ) → c .kind ≡ 0 → Right (writeChecks c) → Octets (c .vendor)
+      → length room ≡ coefficientsLength → length vendor ≡ vendorLength
       → y .read (record { frame = x .write c .memory; coefficients = room; vendor = vendor })
       ≡ done (record { kind = 0; a = c .a; b = c .b })
       (record { coefficients = numberOctets (used (c .count) (numbersOf (c .coefficients))); vendor = c .vendor })
   -- a final frame: its kind and vendor data
-  pub final : (c : WriteCall) (room vendor : List ℕ) → c .kind ≡ 1 → Right (writeChecks c) → Octets (c .vendor) → length room ≡ 720 → length vendor ≡ 16
+  pub final : (c : WriteCall) (room vendor : List ℕ) → c .kind ≡ 1 → Right (writeChecks c) → Octets (c .vendor)
+      → length room ≡ coefficientsLength → length vendor ≡ vendorLength
       → y .read (record { frame = x .write c .memory; coefficients = room; vendor = vendor })
       ≡ done (record { kind = 1; a = 0; b = 0 }) (record { coefficients = room; vendor = c .vendor })
   -- "Descrambling with the sender's end and starting state gives the input back and the sender's next state": a bit,
@@ -152,12 +154,12 @@ pub record Back (x y : Library) : Type 0 where
       → y .run descramble (record { end = c .end; state = c .state; input = x .run scramble c .memory .output; bits = c .bits; output = room })
       ≡ done none (record { state = x .run scramble c .memory .state; output = laid room 0 (given (c .input) (c .bits)) })
   -- and a whole frame
-  pub frame : (c : FrameCall) (room : List ℕ) → Right (frameChecks c) → Octets (c .frame) → length room ≡ 529
+  pub frame : (c : FrameCall) (room : List ℕ) → Right (frameChecks c) → Octets (c .frame) → length room ≡ frameLength
       → y .frame descramble (record { end = c .end; state = c .state; frame = x .frame scramble c .memory .output; output = room })
       ≡ done none (record { state = x .frame scramble c .memory .state; output = c .frame })
   -- the whole way: a frame that is written, scrambled, descrambled and read gives what it gives when it is read as it was written
   pub whole : (c : WriteCall) (end state : ℕ) (line received coefficients vendor : List ℕ) → Right (writeChecks c) → end ≤ 1 → state < 2 ^ 23
-      → length line ≡ 529 → length received ≡ 529
+      → length line ≡ frameLength → length received ≡ frameLength
       → y .read (record { frame = overTheLine x y end state line received (x .write c .memory); coefficients = coefficients; vendor = vendor })
       ≡ y .read (record { frame = x .write c .memory; coefficients = coefficients; vendor = vendor })
   -- "The receiving end, given y, the same coefficients and the same past, gets x back."

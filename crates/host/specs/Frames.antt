@@ -3,11 +3,12 @@ use mathlib.Core.Path.{_≡_}
 use mathlib.Core.Bool.{cond}
 use mathlib.Core.List.{List, _∷_}
 use Prim.Native.Nat.{ℕ}
+use Rattle.layout.specs.Places.{vendorLength, frameLength}
 use Rattle.answer.specs.Answer.{Refusal, wrongLength, answer, held}
 use Rattle.octets.specs.Bits.{bitsOf}
 use Rattle.layout.specs.Frame.{trainingSync, coefficientsOf}
 use Rattle.layout.specs.Refusals.{hasSync, RightCheck, writeRefusals, bitRefusals}
-use Rattle.numbers.specs.Promises.{numbersOf, numberOctets}
+use Rattle.numbers.specs.Promises.{coefficientsLength, numbersOf, numberOctets}
 use Rattle.writer.specs.Promises.{frameOctets}
 use Rattle.reader.specs.declared.Found.{Found}
 use Rattle.reader.specs.Promises.{foundOf, vendorOctets}
@@ -15,13 +16,14 @@ use Rattle.host.specs.declared.frames.FrameFields.{FrameFields}
 
 -- sdsl_frame_write: the answer, and the frame written, or as it was; the check bits of what was written are the remainder of its message
 pub record FrameWritten (kind count : ℕ) (os : List ℕ) (a b : ℕ) (vendor frame : List ℕ) (r : ℕ) (exit : List ℕ) : Type 0 where
-  pub answered : r ≡ answer (wrongLength os 720 ∷ writeRefusals kind count (numbersOf os) a b vendor frame)
+  pub answered : r ≡ answer (wrongLength os coefficientsLength ∷ writeRefusals kind count (numbersOf os) a b vendor frame)
   pub left : exit ≡ held r frame (frameOctets kind count (numbersOf os) a b vendor)
   pub check-right : r ≡ 0 → RightCheck (bitsOf exit)
 
 -- reading refuses a wrong length before anything else
 abbrev pub frameReadRefusals : List ℕ → List ℕ → List ℕ → List Refusal
-frameReadRefusals frame os vendor = wrongLength os 720 ∷ wrongLength frame 529 ∷ wrongLength vendor 16 ∷ bitRefusals (bitsOf frame)
+frameReadRefusals frame os vendor =
+    wrongLength os coefficientsLength ∷ wrongLength frame frameLength ∷ wrongLength vendor vendorLength ∷ bitRefusals (bitsOf frame)
 
 -- the same four numbers, as they cross
 abbrev pub fieldsOf : Found → FrameFields

@@ -4,7 +4,7 @@ use mathlib.Core.List.{List, [], _∷_}
 use Prim.Native.Nat.{ℕ}
 use lib.IntN.{ℤ}
 use Rattle.answer.specs.Answer.{wrongLength, answer, held}
-use Rattle.numbers.specs.Promises.{numberOctets}
+use Rattle.numbers.specs.Promises.{coefficientsLength, numberOctets}
 use Rattle.symbol.specs.declared.Level.{Level as SymbolLevel}
 use Rattle.symbol.specs.declared.Code.{Code as SymbolCode}
 use Rattle.symbol.specs.declared.Encoder.{Encoder}
@@ -71,7 +71,7 @@ SymbolsEncoded a b register symbols codes r codes′ = Ran (encoder a b register
 
 -- sdsl_history_start: the octets of a history whose every output is zero
 pub record HistoryStarted (history : List ℕ) (r : ℕ) (history′ : List ℕ) : Type 0 where
-  pub answered : r ≡ answer (wrongLength history 720 ∷ [])
+  pub answered : r ≡ answer (wrongLength history coefficientsLength ∷ [])
   pub left : history′ ≡ held r history (numberOctets atStart)
 
 -- sdsl_shaper
