@@ -55,7 +55,7 @@ def page(row, file, number, heading):
 
 def programs(edit):
     """The wrong programs of an edit: those that it names, or the one that it is."""
-    return re.findall(r"^# (\w+) \([\w:]+\)", edit.read_text(), re.M) or [edit.stem]
+    return re.findall(r"^# (\w+) \([\w:/]+\)", edit.read_text(), re.M) or [edit.stem]
 
 
 def check(row, column, cell):
