@@ -17,9 +17,9 @@ use Rattle.ranges.proofs.Laws.{both}
 use Rattle.numbers.specs.Promises.{numbersOf}
 use Rattle.numbers.proofs.Laws.{numbers-many}
 use Rattle.host.specs.Frames.{frameReadRefusals}
-use Rattle.demands.specs.Library.{WriteCall, ReadCall, BitCall}
-use Rattle.demands.specs.One.{writeChecks, readChecks, bitChecks}
-use Rattle.demands.specs.Two.{Right}
+use Rattle.demands.specs.Handed.{WriteCall, ReadCall, BitCall}
+use Rattle.demands.specs.Checks.{writeChecks, readChecks, bitChecks}
+use Rattle.demands.specs.Frames.{Right}
 
 neither : (s t : Bool) → (s || t) ≡ false → (s ≡ false) × (t ≡ false)
 neither true t e = absurd (true≢false e)

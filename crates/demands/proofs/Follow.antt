@@ -32,9 +32,12 @@ use Rattle.distance.specs.Errors.{Few, Burst}
 use Rattle.distance.proofs.Frames.{changed-checked}
 use Rattle.numbers.specs.Promises.{numbersOf, numberOctets}
 use Rattle.numbers.proofs.Laws.{octets-many, numbers-kept}
-use Rattle.demands.specs.Library.{Outcome, None, WriteCall, ReadCall, Fields, Rooms, Library}
-use Rattle.demands.specs.One.{One, writeChecks, readChecks}
-use Rattle.demands.specs.Two.{Right, Octets, Two}
+use Rattle.demands.specs.Handed.{Outcome, None, WriteCall, ReadCall, Fields, Rooms}
+use Rattle.demands.specs.Library.{Library}
+use Rattle.demands.specs.One.{One}
+use Rattle.demands.specs.Checks.{writeChecks, readChecks}
+use Rattle.demands.specs.Frames.{Right, Octets}
+use Rattle.demands.specs.Two.{Two}
 use Rattle.demands.specs.Follow.{SameFields}
 use Rattle.demands.proofs.Fit.{many, training-fit, read-fit}
 

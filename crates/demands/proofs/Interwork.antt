@@ -35,9 +35,13 @@ use Rattle.precoder.proofs.Recipe.{outputsOf, inputsOf}
 use Rattle.precoder.proofs.Back.{outputs-sent, sent-unique, inputs-are, outputs-length, run-done, runs, run-back as run-back-of}
 use Rattle.precoder.proofs.Turns.{lengths-are}
 use Rattle.numbers.proofs.Laws.{octets-many, octets-kept}
-use Rattle.demands.specs.Library.{Outcome, None, none, WriteCall, ReadCall, BitCall, RunCall, FrameCall, Line, PrecodeCall, Signal, Library}
-use Rattle.demands.specs.One.{writeChecks, readChecks, bitChecks, runChecks, frameChecks, precodeChecks}
-use Rattle.demands.specs.Two.{Right, Octets, done, overTheLine, Frames, Scrambling, Precoding, Exact, Back}
+use Rattle.demands.specs.Handed.{Outcome, None, none, WriteCall, ReadCall, BitCall, RunCall, FrameCall, Line, PrecodeCall, Signal}
+use Rattle.demands.specs.Library.{Library}
+use Rattle.demands.specs.Checks.{writeChecks, readChecks, bitChecks, runChecks, frameChecks, precodeChecks}
+use Rattle.demands.specs.Frames.{Right, Octets, done, Frames, Scrambling}
+use Rattle.demands.specs.Back.{overTheLine, Back}
+use Rattle.demands.specs.Symbols.{Precoding}
+use Rattle.demands.specs.Two.{Exact}
 use Rattle.demands.proofs.Fit.{many, lengths-fit, training-fit, kind-fit, read-right, bit-fit}
 
 -- ---- frames

@@ -41,10 +41,12 @@ use Rattle.host.specs.Frames.{fieldsOf}
 use Rattle.host.specs.Scrambling.{crossing, bitCrossing}
 use Rattle.host.specs.Symbols.{encoder}
 use Rattle.host.proofs.One.{frame-write-order, frame-read-order, history-start-order}
-use Rattle.demands.specs.Library.{Outcome, None, none, Library}
+use Rattle.demands.specs.Handed.{Outcome, None, none}
+use Rattle.demands.specs.Library.{Library}
 use Rattle.demands.specs.Contracts.{Keeps}
-use Rattle.demands.specs.One.{Answers, InTheirOrder, Ordered, One, writeChecks, readChecks, scramblerStartChecks, bitChecks, runChecks, frameChecks}
-use Rattle.demands.specs.One.{encoderStartChecks, encodeChecks, encodeRunChecks, historyStartChecks, precodeChecks, startChecks, stepChecks, codesChecks}
+use Rattle.demands.specs.One.{Answers, InTheirOrder, Ordered, One}
+use Rattle.demands.specs.Checks.{writeChecks, readChecks, scramblerStartChecks, bitChecks, runChecks, frameChecks, encoderStartChecks, encodeChecks}
+use Rattle.demands.specs.Checks.{encodeRunChecks, historyStartChecks, precodeChecks, startChecks, stepChecks, codesChecks}
 
 pub answers : {C N M : Type 0} {f : C → Outcome N M} {checks : C → List Refusal} {before : C → M} {nothing : N}
     → InTheirOrder checks → ((c : C) → f c .answer ≡ answer (checks c))

@@ -31,10 +31,12 @@ use Rattle.startup.specs.Run.{runOf as codesRun}
 use Rattle.host.specs.Frames.{coefficientOctets}
 use Rattle.host.specs.Symbols.{encoder}
 use Rattle.host.specs.Supervising.{stateIn, stateOf, runFieldsOf}
-use Rattle.demands.specs.Library.{none, Library}
+use Rattle.demands.specs.Handed.{none}
+use Rattle.demands.specs.Library.{Library}
 use Rattle.demands.specs.Contracts.{Keeps}
-use Rattle.demands.specs.One.{One, writeChecks, readChecks, scramblerStartChecks, bitChecks, runChecks, frameChecks, encoderStartChecks, encodeChecks}
-use Rattle.demands.specs.One.{encodeRunChecks, historyStartChecks, precodeChecks}
+use Rattle.demands.specs.One.{One}
+use Rattle.demands.specs.Checks.{writeChecks, readChecks, scramblerStartChecks, bitChecks, runChecks, frameChecks, encoderStartChecks, encodeChecks}
+use Rattle.demands.specs.Checks.{encodeRunChecks, historyStartChecks, precodeChecks}
 use Rattle.demands.specs.Two.{Two}
 use Rattle.demands.specs.Three.{Three, supervisor}
 use Rattle.demands.proofs.One.{one}

@@ -8,10 +8,12 @@ use Rattle.recurrence.specs.Run.{Way}
 use Rattle.supervisor.specs.declared.Supervisor.{Supervisor as State}
 use Rattle.host.specs.declared.supervising.Supervisor.{Supervisor}
 use Rattle.host.specs.Supervising.{stateIn, stateOf}
-use Rattle.demands.specs.Library.{Outcome, None, none, WriteCall, ReadCall, Fields, Rooms, RunCall, FrameCall, Line, EncodeRunCall, Codes}
-use Rattle.demands.specs.Library.{PrecodeCall, Signal, StepCall, Shown, Library}
-use Rattle.demands.specs.One.{Answers, One, writeChecks, readChecks, runChecks, frameChecks, encodeRunChecks, historyStartChecks, precodeChecks}
-use Rattle.demands.specs.One.{stepChecks}
+use Rattle.demands.specs.Handed.{Outcome, None, none, WriteCall, ReadCall, Fields, Rooms, RunCall, FrameCall, Line, EncodeRunCall, Codes, PrecodeCall}
+use Rattle.demands.specs.Handed.{Signal}
+use Rattle.demands.specs.HandedCodes.{StepCall, Shown}
+use Rattle.demands.specs.Library.{Library}
+use Rattle.demands.specs.One.{Answers, One}
+use Rattle.demands.specs.Checks.{writeChecks, readChecks, runChecks, frameChecks, encodeRunChecks, historyStartChecks, precodeChecks, stepChecks}
 use Rattle.demands.proofs.One.{answers, ordered, one}
 use Rattle.demands.proofs.Ours.{ours, ours-keep}
 

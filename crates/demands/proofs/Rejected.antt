@@ -31,10 +31,12 @@ use Rattle.samples.specs.Samples.{atStart}
 use Rattle.precoder.specs.Precoder.{exactSum}
 use Rattle.precoder.proofs.Recipe.{turnedOf, outputsOf}
 use Rattle.precoder.proofs.Back.{sent-unique, outputs-sent}
-use Rattle.demands.specs.Library.{Outcome, None, none, WriteCall, ReadCall, Fields, Rooms, BitCall, RunCall, FrameCall, Line, WordsCall, EncodeCall}
-use Rattle.demands.specs.Library.{EncodeRunCall, Symbol, Codes, PrecodeCall, Signal, Library}
-use Rattle.demands.specs.One.{writeChecks, frameChecks, encodeRunChecks, precodeChecks}
-use Rattle.demands.specs.Two.{Right, Octets, done, Two}
+use Rattle.demands.specs.Handed.{Outcome, None, none, WriteCall, ReadCall, Fields, Rooms, BitCall, RunCall, FrameCall, Line, WordsCall, EncodeCall}
+use Rattle.demands.specs.Handed.{EncodeRunCall, Symbol, Codes, PrecodeCall, Signal}
+use Rattle.demands.specs.Library.{Library}
+use Rattle.demands.specs.Checks.{writeChecks, frameChecks, encodeRunChecks, precodeChecks}
+use Rattle.demands.specs.Frames.{Right, Octets, done}
+use Rattle.demands.specs.Two.{Two}
 use Rattle.demands.proofs.Fit.{many}
 use Rattle.demands.specs.WrongLibraries.{OneFrame, FrameUnwritten, CoefficientsUnwritten, VendorUnwritten, RunUnwritten, WholeUnwritten, CodesUnwritten}
 use Rattle.demands.specs.WrongLibraries.{HistoryUnwritten, PrecodedUnwritten, DecodedUnwritten, CopiesTheRest, TurnsA, TurnsB, RejectedByTwo}

@@ -32,10 +32,13 @@ use Rattle.host.specs.declared.frames.FrameFields.{FrameFields}
 use Rattle.host.specs.Frames.{fieldsOf, coefficientOctets}
 use Rattle.reader.specs.declared.Found.{Found}
 use Rattle.reader.specs.Promises.{foundOf, vendorOctets}
-use Rattle.demands.specs.Library.{Outcome, none, WriteCall, ReadCall, Fields, Rooms, BitCall, RunCall, FrameCall, Library}
+use Rattle.demands.specs.Handed.{Outcome, none, WriteCall, ReadCall, Fields, Rooms, BitCall, RunCall, FrameCall}
+use Rattle.demands.specs.Library.{Library}
 use Rattle.demands.specs.Contracts.{Keeps}
-use Rattle.demands.specs.One.{writeChecks, readChecks, bitChecks, runChecks, frameChecks}
-use Rattle.demands.specs.Two.{Right, done, Frames, Scrambling, Symbols, Precoding, Exact}
+use Rattle.demands.specs.Checks.{writeChecks, readChecks, bitChecks, runChecks, frameChecks}
+use Rattle.demands.specs.Frames.{Right, done, Frames, Scrambling}
+use Rattle.demands.specs.Symbols.{Symbols, Precoding}
+use Rattle.demands.specs.Two.{Exact}
 use Rattle.demands.proofs.One.{only, nothing-sent, found-answer}
 use Rattle.demands.proofs.Fit.{bit-fit}
 

@@ -3,8 +3,9 @@ use mathlib.Core.Path.{_≡_, refl, sym, ap}
 use mathlib.Core.Bool.{Bool, true, cond}
 use Rattle.supervisor.proofs.Laws.{by-cases}
 use Rattle.demands.specs.Library.{Library}
+use Rattle.demands.specs.Contracts.{KeepsFor, Keeps}
+use Rattle.demands.specs.Widens.{SameFor, Widens}
 use Rattle.demands.specs.FromC.{fromC}
-use Rattle.demands.specs.Contracts.{KeepsFor, Keeps, SameFor, Widens}
 use Rattle.demands.proofs.Ours.{ours, ours-keep}
 
 -- where C can make the call x, and elsewhere ours

@@ -22,10 +22,11 @@ use Rattle.scrambler.specs.Ends.{tapOf}
 use Rattle.scrambler.specs.Promises.{given}
 use Rattle.scrambler.proofs.Laws.{tap-range}
 use Rattle.supervisor.proofs.Laws.{by-cases}
-use Rattle.demands.specs.Library.{Outcome, None, none, WriteCall, ReadCall, Fields, Rooms, RunCall, FrameCall, Line, EncodeRunCall, Codes}
-use Rattle.demands.specs.Library.{PrecodeCall, Signal}
-use Rattle.demands.specs.One.{Answers, One, writeChecks, readChecks, runChecks, frameChecks, encodeRunChecks, precodeChecks}
-use Rattle.demands.specs.Two.{Right}
+use Rattle.demands.specs.Handed.{Outcome, None, none, WriteCall, ReadCall, Fields, Rooms, RunCall, FrameCall, Line, EncodeRunCall, Codes, PrecodeCall}
+use Rattle.demands.specs.Handed.{Signal}
+use Rattle.demands.specs.One.{Answers, One}
+use Rattle.demands.specs.Checks.{writeChecks, readChecks, runChecks, frameChecks, encodeRunChecks, precodeChecks}
+use Rattle.demands.specs.Frames.{Right}
 use Rattle.demands.specs.WrongLibraries.{OneFrame, FrameUnwritten, CoefficientsUnwritten, VendorUnwritten, RunUnwritten, WholeUnwritten}
 use Rattle.demands.specs.WrongLibraries.{HistoryUnwritten, CodesUnwritten, PrecodedUnwritten, DecodedUnwritten, CopiesTheRest, TurnsA, TurnsB}
 use Rattle.demands.specs.NoStrawMan.{Built, NoStrawMan}

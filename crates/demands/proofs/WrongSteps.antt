@@ -21,7 +21,7 @@ use Rattle.startup.specs.Attempts.{at, upto}
 use Rattle.startup.specs.Make.{Make, stepsBy, phaseAt, replyTo, Taken}
 use Rattle.host.specs.declared.supervising.Supervisor.{Supervisor}
 use Rattle.host.specs.Supervising.{stateIn, stateOf}
-use Rattle.demands.specs.One.{stepChecks}
+use Rattle.demands.specs.Checks.{stepChecks}
 use Rattle.demands.specs.Three.{supervisor}
 use Rattle.demands.specs.WrongSupervisors.{MovesOnce, NeverOpens, CallsException, SameTicks, CountsCodes, GivesUp, EndsTooLate}
 use Rattle.demands.specs.NoStrawMan.{Built}

@@ -2,7 +2,7 @@
 use mathlib.Core.Path.{_≡_}
 use Rattle.layout.specs.Frame.{used}
 use Rattle.numbers.specs.Promises.{numbersOf}
-use Rattle.demands.specs.Library.{WriteCall}
+use Rattle.demands.specs.Handed.{WriteCall}
 
 -- the fields of two training frames are the same: A, B, the coefficients in use, vendor data
 pub record SameFields (c d : WriteCall) : Type 0 where

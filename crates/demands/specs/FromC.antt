@@ -6,8 +6,8 @@ use lib.Dec.{ltb}
 use lib.IntN.{ℤ, pos, negsuc}
 use lib.ListN.{length}
 use Rattle.host.specs.declared.supervising.Supervisor.{Supervisor}
-use Rattle.demands.specs.Library.{WriteCall, ReadCall, BitCall, RunCall, FrameCall, WordsCall, EncodeCall, EncodeRunCall, PrecodeCall, StartCall}
-use Rattle.demands.specs.Library.{StepCall, CodesCall}
+use Rattle.demands.specs.Handed.{WriteCall, ReadCall, BitCall, RunCall, FrameCall, WordsCall, EncodeCall, EncodeRunCall, PrecodeCall}
+use Rattle.demands.specs.HandedCodes.{StartCall, StepCall, CodesCall}
 
 -- a uint32_t
 abbrev pub u32 : ℕ → Bool

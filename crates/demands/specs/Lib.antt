@@ -1,7 +1,14 @@
+pub mod Handed
+pub mod HandedCodes
 pub mod Library
 pub mod FromC
 pub mod Contracts
+pub mod Widens
+pub mod Checks
 pub mod One
+pub mod Frames
+pub mod Symbols
+pub mod Back
 pub mod Two
 pub mod Three
 pub mod WrongLibraries

@@ -3,7 +3,8 @@ use mathlib.Core.Path.{_≡_}
 use mathlib.Core.Bool.{true}
 use Rattle.answer.specs.Table.{inTable}
 use Rattle.recurrence.specs.Run.{Way}
-use Rattle.demands.specs.Library.{Outcome, Library}
+use Rattle.demands.specs.Handed.{Outcome}
+use Rattle.demands.specs.Library.{Library}
 use Rattle.demands.specs.One.{One}
 use Rattle.demands.specs.Three.{supervisor}
 use Rattle.demands.specs.WrongLibraries.{Refuses, OneFrame, FrameUnwritten, CoefficientsUnwritten, VendorUnwritten, RunUnwritten, WholeUnwritten}

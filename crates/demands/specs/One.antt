@@ -2,26 +2,21 @@
 -- of SCOPE's table. A refused call changes no lent memory and no state, and no caller has to check first.
 use mathlib.Core.Path.{_≡_}
 use mathlib.Core.Bool.{true}
-use mathlib.Core.List.{List, [], _∷_}
-use Prim.Native.Nat.{ℕ}
+use mathlib.Core.List.{List}
 use lib.Ieee.{binary32, ofBits}
 use lib.IntN.{pos}
-use Rattle.answer.specs.Answer.{Refusal, wrongLength, answer}
+use Rattle.answer.specs.Answer.{Refusal, answer}
 use Rattle.answer.specs.Table.{rising, inTable, inTurn}
-use Rattle.layout.specs.Refusals.{writeRefusals, checkRefusals}
+use Rattle.layout.specs.Refusals.{checkRefusals}
 use Rattle.recurrence.specs.Run.{Way}
-use Rattle.scrambler.specs.Promises.{unknownEnd, stepRefusals as bitTests, runRefusals, frameRefusals}
-use Rattle.numbers.specs.Promises.{coefficientsLength, numbersOf}
 use Rattle.symbol.specs.Levels.{activationTests, dataTests, backTests}
-use Rattle.symbol.specs.Encoder.{startTests, stepTests, runTests}
 use Rattle.samples.specs.Shaper.{shaperTests}
-use Rattle.precoder.specs.Runs.{runTests as precoderTests}
-use Rattle.supervisor.specs.Step.{startRefusals, stepRefusals, stateRefusals, none as noState}
-use Rattle.host.specs.Frames.{frameReadRefusals}
-use Rattle.host.specs.Symbols.{encoder}
-use Rattle.host.specs.Supervising.{stateIn, stateOf}
-use Rattle.demands.specs.Library.{Outcome, none, WriteCall, ReadCall, BitCall, RunCall, FrameCall, WordsCall, EncodeCall, EncodeRunCall, PrecodeCall}
-use Rattle.demands.specs.Library.{StartCall, StepCall, CodesCall, Library}
+use Rattle.supervisor.specs.Step.{none as noState}
+use Rattle.host.specs.Supervising.{stateOf}
+use Rattle.demands.specs.Handed.{Outcome, none}
+use Rattle.demands.specs.Library.{Library}
+use Rattle.demands.specs.Checks.{writeChecks, readChecks, scramblerStartChecks, bitChecks, runChecks, frameChecks, encoderStartChecks, encodeChecks}
+use Rattle.demands.specs.Checks.{encodeRunChecks, historyStartChecks, precodeChecks, startChecks, stepChecks, codesChecks}
 
 -- a function answers by SCOPE's table: by these checks, what its memory holds before, and nothing in its other numbers
 pub record Answers {C N M : Type 0} (f : C → Outcome N M) (checks : C → List Refusal) (before : C → M) (nothing : N) : Type 0 where
@@ -33,63 +28,6 @@ pub record Answers {C N M : Type 0} (f : C → Outcome N M) (checks : C → List
   pub no-numbers : (c : C) → (f c .answer ≡ 0 → ⊥) → f c .numbers ≡ nothing
   -- a state comes back equal, and all lent memory holds what it held."
   pub unchanged : (c : C) → (f c .answer ≡ 0 → ⊥) → f c .memory ≡ before c
-
--- the checks of writing, with the coefficients as 720 octets
-abbrev pub writeChecks : WriteCall → List Refusal
-writeChecks c =
-    wrongLength (c .coefficients) coefficientsLength ∷ writeRefusals (c .kind) (c .count) (numbersOf (c .coefficients)) (c .a) (c .b) (c .vendor) (c .frame)
-
--- of reading
-abbrev pub readChecks : ReadCall → List Refusal
-readChecks c = frameReadRefusals (c .frame) (c .coefficients) (c .vendor)
-
--- of a scrambler's start
-abbrev pub scramblerStartChecks : ℕ → List Refusal
-scramblerStartChecks end = unknownEnd end ∷ []
-
--- of scrambling or descrambling a bit
-abbrev pub bitChecks : BitCall → List Refusal
-bitChecks c = bitTests (record { end = c .end; state = c .state }) (c .bit)
-
--- a run
-abbrev pub runChecks : RunCall → List Refusal
-runChecks c = runRefusals (record { end = c .end; state = c .state }) (c .input) (c .bits) (c .output)
-
--- and a frame
-abbrev pub frameChecks : FrameCall → List Refusal
-frameChecks c = frameRefusals (record { end = c .end; state = c .state }) (c .frame) (c .output)
-
--- of an encoder's start
-abbrev pub encoderStartChecks : WordsCall → List Refusal
-encoderStartChecks c = startTests (c .a) (c .b)
-
--- of encoding a symbol
-abbrev pub encodeChecks : EncodeCall → List Refusal
-encodeChecks c = stepTests (encoder (c .a) (c .b) (c .register)) (c .symbol)
-
--- and a run of them
-abbrev pub encodeRunChecks : EncodeRunCall → List Refusal
-encodeRunChecks c = runTests (encoder (c .a) (c .b) (c .register)) (c .symbols) (c .codes)
-
--- of a history's start: 720 octets
-abbrev pub historyStartChecks : List ℕ → List Refusal
-historyStartChecks history = wrongLength history coefficientsLength ∷ []
-
--- of the precoder's runs, either way
-abbrev pub precodeChecks : PrecodeCall → List Refusal
-precodeChecks c = precoderTests (c .coefficients) (c .history) (c .symbols) (c .room)
-
--- of a start
-abbrev pub startChecks : StartCall → List Refusal
-startChecks c = startRefusals (c .end) (c .silence)
-
--- a step
-abbrev pub stepChecks : StepCall → List Refusal
-stepChecks c = stepRefusals (stateIn (c .state)) (c .code)
-
--- and a run of codes
-abbrev pub codesChecks : CodesCall → List Refusal
-codesChecks c = stateRefusals (stateIn (c .state))
 
 -- a list of checks runs in the table's order, whatever is handed in
 abbrev pub InTheirOrder : {C : Type 0} → (C → List Refusal) → Type 0

@@ -10,7 +10,8 @@ use Rattle.recurrence.specs.Line.{Scrambles}
 use Rattle.recurrence.specs.Run.{Way, scramble}
 use Rattle.scrambler.specs.Ends.{tapOf}
 use Rattle.scrambler.specs.Promises.{given}
-use Rattle.demands.specs.Library.{Outcome, WriteCall, ReadCall, RunCall, Library}
+use Rattle.demands.specs.Handed.{Outcome, WriteCall, ReadCall, RunCall}
+use Rattle.demands.specs.Library.{Library}
 
 -- a function that refuses everything
 abbrev pub Refuses : {C N M : Type 0} → (C → Outcome N M) → Type 0

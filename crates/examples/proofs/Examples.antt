@@ -15,7 +15,8 @@ use Rattle.samples.specs.Shaper.{Exactly}
 use Rattle.samples.proofs.Rounding.{rounds-nearest}
 use Rattle.precoder.specs.Precoder.{exactSum, Sends}
 use Rattle.precoder.proofs.Signals.{sends-output}
-use Rattle.examples.specs.Table.{first, lowest, furthest, minusEighth, places, table, given, whole, levels, onesFrom, exponents, Claim, Hold}
+use Rattle.examples.specs.Calls.{places, given, whole, levels, onesFrom, exponents}
+use Rattle.examples.specs.Table.{first, lowest, furthest, minusEighth, table, Claim, Hold}
 
 -- the float of the eleventh
 float : Exactly minusEighth (negℤ (pos 16384))

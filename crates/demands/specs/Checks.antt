@@ -1,0 +1,72 @@
+-- The checks of each function, in the order in which they run: the lists of SCOPE, over what is handed in to a library of any make.
+use mathlib.Core.List.{List, [], _∷_}
+use Prim.Native.Nat.{ℕ}
+use Rattle.answer.specs.Answer.{Refusal, wrongLength}
+use Rattle.layout.specs.Refusals.{writeRefusals}
+use Rattle.scrambler.specs.Promises.{unknownEnd, stepRefusals as bitTests, runRefusals, frameRefusals}
+use Rattle.numbers.specs.Promises.{coefficientsLength, numbersOf}
+use Rattle.symbol.specs.Encoder.{startTests, stepTests, runTests}
+use Rattle.precoder.specs.Runs.{runTests as precoderTests}
+use Rattle.supervisor.specs.Step.{startRefusals, stepRefusals, stateRefusals}
+use Rattle.host.specs.Frames.{frameReadRefusals}
+use Rattle.host.specs.Symbols.{encoder}
+use Rattle.host.specs.Supervising.{stateIn}
+use Rattle.demands.specs.Handed.{WriteCall, ReadCall, BitCall, RunCall, FrameCall, WordsCall, EncodeCall, EncodeRunCall, PrecodeCall}
+use Rattle.demands.specs.HandedCodes.{StartCall, StepCall, CodesCall}
+
+-- the checks of writing, with the coefficients as 720 octets
+abbrev pub writeChecks : WriteCall → List Refusal
+writeChecks c =
+    wrongLength (c .coefficients) coefficientsLength ∷ writeRefusals (c .kind) (c .count) (numbersOf (c .coefficients)) (c .a) (c .b) (c .vendor) (c .frame)
+
+-- of reading
+abbrev pub readChecks : ReadCall → List Refusal
+readChecks c = frameReadRefusals (c .frame) (c .coefficients) (c .vendor)
+
+-- of a scrambler's start
+abbrev pub scramblerStartChecks : ℕ → List Refusal
+scramblerStartChecks end = unknownEnd end ∷ []
+
+-- of scrambling or descrambling a bit
+abbrev pub bitChecks : BitCall → List Refusal
+bitChecks c = bitTests (record { end = c .end; state = c .state }) (c .bit)
+
+-- a run
+abbrev pub runChecks : RunCall → List Refusal
+runChecks c = runRefusals (record { end = c .end; state = c .state }) (c .input) (c .bits) (c .output)
+
+-- and a frame
+abbrev pub frameChecks : FrameCall → List Refusal
+frameChecks c = frameRefusals (record { end = c .end; state = c .state }) (c .frame) (c .output)
+
+-- of an encoder's start
+abbrev pub encoderStartChecks : WordsCall → List Refusal
+encoderStartChecks c = startTests (c .a) (c .b)
+
+-- of encoding a symbol
+abbrev pub encodeChecks : EncodeCall → List Refusal
+encodeChecks c = stepTests (encoder (c .a) (c .b) (c .register)) (c .symbol)
+
+-- and a run of them
+abbrev pub encodeRunChecks : EncodeRunCall → List Refusal
+encodeRunChecks c = runTests (encoder (c .a) (c .b) (c .register)) (c .symbols) (c .codes)
+
+-- of a history's start: 720 octets
+abbrev pub historyStartChecks : List ℕ → List Refusal
+historyStartChecks history = wrongLength history coefficientsLength ∷ []
+
+-- of the precoder's runs, either way
+abbrev pub precodeChecks : PrecodeCall → List Refusal
+precodeChecks c = precoderTests (c .coefficients) (c .history) (c .symbols) (c .room)
+
+-- of a start
+abbrev pub startChecks : StartCall → List Refusal
+startChecks c = startRefusals (c .end) (c .silence)
+
+-- a step
+abbrev pub stepChecks : StepCall → List Refusal
+stepChecks c = stepRefusals (stateIn (c .state)) (c .code)
+
+-- and a run of codes
+abbrev pub codesChecks : CodesCall → List Refusal
+codesChecks c = stateRefusals (stateIn (c .state))
