@@ -1,85 +1,32 @@
--- Up to which length the powers of D are apart. The least power that leaves 1 divides every other that does, and D^32767 does: it divides 32,767, so
--- it is tried up to 4,681, the greatest that divides it and lies below. Assumes nothing.
+-- Up to which length the powers of D are apart. The least power that leaves 1 divides every other that does, and D^32767 does. What divides 32,767
+-- and lies below it divides 217, 1,057 or 4,681, and none of these leaves 1: their powers are put together from squares. Assumes nothing.
 use mathlib.Core.Path.{_≡_, refl, sym, ap, ap₂, _∙_, subst}
-use mathlib.Core.Bool.{Bool, true, not, _&&_}
+use mathlib.Core.Bool.{Bool, true, false, cond, _&&_}
 use mathlib.Core.List.{List, [], _∷_}
+use mathlib.Core.Logic.{_⊎_, inl, inr}
 use Prim.Native.Nat.{ℕ, zero, suc, _+_, _-_, _*_, _/_, _%_, _^_, _≤_, _<_}
 use native.Mathlib.Decide.{decLt}
-use native.Mathlib.Nat.{not-suc-le-zero, le-of-suc-le-suc, add-comm, suc-mul, add-mul, pow-suc, mod-lt, div-add-mod'}
+use native.Mathlib.Nat.{not-suc-le-zero, add-comm, mul-assoc, mul-comm, mul-mod-right, suc-mul, add-mul, pow-suc, mod-lt, div-add-mod'}
 use native.Mathlib.Omega.{arith}
-use borrow.Author.Tests.{eqb-true, eqb-false, ltb-true, not-true}
-use lib.Bits.{bitXor, xor-comm, xor-zero-r, xor-lt, xor-shifted}
+use borrow.Author.Tests.{eq-eqb, eqb-true, eqb-false, ltb-true}
+use lib.Bits.{bitXor, xor-comm, xor-self, xor-zero-r, xor-zero-l, xor-shifted}
 use lib.Dec.{eqb, ltb, lit≤, lit<}
-use lib.ListN.{replicate, length-replicate}
-use lib.Pow.{pow-add, pow-lt, pow-mono}
-use Rattle.octets.specs.Bits.{valueOf, digitsOf}
-use Rattle.octets.proofs.Digits.{cons-bits, zeros-bits, digits-bits, reverse-bits}
+use lib.Pow.{pow-add}
+use Rattle.octets.specs.Bits.{digitsOf}
+use Rattle.octets.proofs.Digits.{digits-bits, reverse-bits}
 use Rattle.octets.proofs.Complement.{twice}
-use Rattle.octets.proofs.Sums.{sum, shifts, doubled, sum-twice}
-use Rattle.octets.proofs.Xor.{xor-assoc, xor-swap, xor-cancel, shl-xor, back, mid}
-use Rattle.remainder.specs.Division.{times, polynomial, checkBits, Degree, Remainder, Multiple, generator}
-use Rattle.remainder.specs.Register.{stepOf, registerOf}
-use Rattle.remainder.proofs.Division.{exists, small-multiple, computed}
-use Rattle.remainder.proofs.Errors.{check-value, polynomial-cons, sum-multiple, unshifted, generator-degree, generator-odd}
-use Rattle.remainder.proofs.Quotient.{sum-times}
+use Rattle.octets.proofs.Sums.{sum, shifts, doubled, sum-xor, sum-shl, sum-twice}
+use Rattle.octets.proofs.Xor.{xor-assoc, xor-swap, shl-xor, mid}
+use Rattle.remainder.specs.Division.{times, checkBits, Multiple, generator}
+use Rattle.remainder.specs.Register.{registerOf}
+use Rattle.remainder.proofs.Division.{exists, computed}
+use Rattle.remainder.proofs.Errors.{check-value, sum-multiple, unshifted, generator-degree, generator-odd}
+use Rattle.remainder.proofs.Quotient.{shl-multiple, sum-times}
 use Rattle.ranges.proofs.Laws.{both}
 use Rattle.distance.specs.Errors.{Apart, reach}
-use Rattle.distance.proofs.Multiples.{through}
+use Rattle.distance.proofs.Multiples.{none, through}
 
--- the register, given zeros from r on, is 1 at none of n times
-unfoldable pub never : ℕ → ℕ → ℕ → ℕ → Bool
-never k g zero r = true
-never k g (suc n) r = not (eqb r 1) && never k g n (stepOf k g r 0)
-
-never-is : (k g n j r : ℕ) → never k g n r ≡ true → j < n → registerOf k g r (replicate j 0) ≡ 1 → ⊥
-unfolding never registerOf
-never-is k g zero j r t h e = not-suc-le-zero h
-never-is k g (suc n) zero r t h e = eqb-false r 1 (not-true _ (both (not (eqb r 1)) (never k g n (stepOf k g r 0)) t .0)) e
-never-is k g (suc n) (suc j) r t h e =
-    never-is k g n j (stepOf k g r 0) (both (not (eqb r 1)) (never k g n (stepOf k g r 0)) t .1) (le-of-suc-le-suc h) e
-
--- D^j, as bits
-power-bits : (j : ℕ) → polynomial (1 ∷ replicate j 0) ≡ 2 ^ j
-unfolding valueOf
-power-bits j =
-    polynomial-cons 1 (replicate j 0) ∙ ap₂ (λ (n p : ℕ). 1 * 2 ^ n + p) (length-replicate j zero) (zeros j) ∙ omega arith
-  where
-    zeros : (j : ℕ) → polynomial (replicate j 0) ≡ 0
-    zeros zero = refl
-    zeros (suc j) = polynomial-cons 0 (replicate j 0) ∙ omega (arith, zeros j)
-
-module _ (k g : ℕ) (hk : 1 ≤ k) (d : Degree g k) where
-  one-below : 1 < 2 ^ k
-  one-below = let two : 2 ^ 1 ≤ 2 ^ k = pow-mono hk in omega arith
-
-  -- below D^k the sum is too short; from there on the register would have been 1
-  pub apart : (n : ℕ) → never k g (n - k) (stepOf k g 0 1) ≡ true → Apart g n
-  unfolding registerOf
-  apart n t m h l x = pick (decLt m k)
-    where
-      pick : Dec (m < k) → ⊥
-      pick (yes a) =
-          let z : bitXor (2 ^ m) 1 ≡ 0 =
-          x .product
-          ∙ small-multiple k g d (x .quotient) (subst (λ (y : ℕ). y < 2 ^ k) (x .product) (xor-lt k (2 ^ m) 1 (pow-lt a) one-below)) in
-          let two : 2 ^ 1 ≤ 2 ^ m = pow-mono h in
-          omega (arith, xor-cancel (2 ^ m) 1 z)
-      pick (no a) =
-          let j = m - k in
-          let bs : List ℕ = 1 ∷ replicate j 0 in
-          let e : m ≡ j + k = omega arith in
-          let r : Remainder k g bs 1 =
-          record {
-            quotient = x .quotient;
-            divided =
-                ap (λ (y : ℕ). y * 2 ^ k) (power-bits j) ∙ sym (pow-add 2 j k) ∙ ap (λ (y : ℕ). 2 ^ y) (sym e)
-                ∙ sym (back (2 ^ m) 1) ∙ ap (λ (y : ℕ). bitXor y 1) (x .product);
-            below = one-below;
-          } in
-          never-is k g (n - k) j (stepOf k g 0 1) t (omega arith)
-          (sym (computed k g hk d bs 1 (cons-bits 1 (replicate j 0) (lit< tt) (zeros-bits j)) r))
-
--- so no two ones less than n places apart make a multiple
+-- no two ones less than n places apart make a multiple
 pub pair : (g n : ℕ) → g % 2 ≡ 1 → Apart g n → (m i : ℕ) → 1 ≤ m → m < n → Multiple g ((2 ^ m + 1) * 2 ^ i) → ⊥
 pair g n o a m i h l x =
     let t : 2 ^ m ≡ 2 ^ (m - 1) * 2 = twice m h in
@@ -91,6 +38,17 @@ pair g n o a m i h l x =
 
 abbrev One : ℕ → ℕ → Type 0
 One g m = Multiple g (bitXor (2 ^ m) 1)
+
+-- where D^m leaves 1, so does every power of it
+times-one : (g m c : ℕ) → One g m → One g (c * m)
+times-one g m zero x = let e : 0 * m ≡ 0 = omega arith in subst (One g) (sym e) (none g)
+times-one g m (suc c) x =
+    let X = 2 ^ (c * m) in
+    let one : 1 * 2 ^ m ≡ 2 ^ m = omega arith in
+    let e : bitXor (bitXor X 1 * 2 ^ m) (bitXor (2 ^ m) 1) ≡ bitXor (2 ^ (suc c * m)) 1 =
+    ap (λ (y : ℕ). bitXor y (bitXor (2 ^ m) 1)) (shl-xor m X 1 ∙ ap₂ bitXor (sym (pow-add 2 (c * m) m)) one)
+    ∙ mid (2 ^ (c * m + m)) (2 ^ m) 1 ∙ ap (λ (k : ℕ). bitXor (2 ^ k) 1) (sym (suc-mul c m)) in
+    subst (Multiple g) e (sum-multiple g (bitXor X 1 * 2 ^ m) (bitXor (2 ^ m) 1) (shl-multiple g (bitXor X 1) m (times-one g m c x)) x)
 
 module _ (g : ℕ) (o : g % 2 ≡ 1) where
   -- where D^a and D^(a + b) leave 1, so does D^b
@@ -126,11 +84,15 @@ module _ (g : ℕ) (o : g % 2 ≡ 1) where
       go zero m u h l y = not-suc-le-zero u
       go (suc f) m u h l y = pick m (n % m) h l y refl (λ a b z. go f (n % m) (omega arith) a (omega arith) z)
 
--- ---- squares
+-- ---- what the powers of D leave: squares and products
+
+-- D^m leaves y
+abbrev Left : ℕ → ℕ → ℕ → Type 0
+Left g m y = Multiple g (bitXor (1 * 2 ^ m) y)
 
 -- D^m leaves 1 and the powers rs
 abbrev Leaves : ℕ → ℕ → List ℕ → Type 0
-Leaves g m rs = Multiple g (bitXor (1 * 2 ^ m) (sum rs 1))
+Leaves g m rs = Left g m (sum rs 1)
 
 -- the square of a multiple: each power twice as far. What it leaves may be changed by a multiple
 squared : (g m : ℕ) (rs ss : List ℕ) → Multiple g (bitXor (sum (doubled rs) 1) (sum ss 1)) → Leaves g m rs → Leaves g (m + m) ss
@@ -147,6 +109,26 @@ squared g m rs ss d x =
         let X = 1 * 2 ^ m in
         sym (xor-assoc 1 X (shifts rs 1)) ∙ ap (λ (y : ℕ). bitXor y (shifts rs 1)) (xor-comm 1 X) ∙ xor-assoc X 1 (shifts rs 1)
 
+itself : (g n : ℕ) → Left g n (1 * 2 ^ n)
+itself g n = subst (Multiple g) (sym (xor-self (1 * 2 ^ n))) (none g)
+
+-- the product of two powers leaves the product of what they leave
+further : (g m n : ℕ) (rs : List ℕ) (y : ℕ) → Leaves g m rs → Left g n y → Left g (m + n) (sum rs y)
+unfolding shifts
+further g m n rs y p q =
+    let S = sum rs 1 * 2 ^ n in
+    let X = bitXor (1 * 2 ^ m) (sum rs 1) in
+    let Y = bitXor (1 * 2 ^ n) y in
+    let a : X * 2 ^ n ≡ bitXor (1 * 2 ^ (m + n)) S =
+    shl-xor n (1 * 2 ^ m) (sum rs 1) ∙ ap (λ (x : ℕ). bitXor x S) (mul-assoc 1 (2 ^ m) (2 ^ n) ∙ ap (λ (x : ℕ). 1 * x) (sym (pow-add 2 m n))) in
+    let b : sum rs Y ≡ bitXor S (sum rs y) = sum-xor rs (1 * 2 ^ n) y ∙ ap (λ (x : ℕ). bitXor x (sum rs y)) (sum-shl rs n 1) in
+    subst (Multiple g) (ap₂ bitXor a b ∙ mid (1 * 2 ^ (m + n)) S (sum rs y))
+    (sum-multiple g (X * 2 ^ n) (sum rs Y) (shl-multiple g X n p) (sum-multiple g Y (shifts rs Y) q (shifted Y q rs)))
+  where
+    shifted : (x : ℕ) → Multiple g x → (rs : List ℕ) → Multiple g (shifts rs x)
+    shifted x m [] = none g
+    shifted x m (r ∷ rs) = sum-multiple g (x * 2 ^ r) (shifts rs x) (shl-multiple g x r m) (shifted x m rs)
+
 -- ---- the generator of SCOPE
 
 -- a number is a multiple where the register comes to 0
@@ -158,6 +140,29 @@ come-out n h z =
     ap (λ (x : ℕ). x * 2 ^ 16) (sym (check-value 33 n h)) ∙ r .divided ∙ ap (bitXor (times (r .quotient) generator)) z
     ∙ xor-zero-r (times (r .quotient) generator) in
     unshifted generator generator-odd n 16 (record { quotient = r .quotient; product = e })
+
+-- and only there
+come-back : (w n : ℕ) → n < 2 ^ w → Multiple generator n → registerOf 16 generator 0 (checkBits w n) ≡ 0
+come-back w n h m =
+    let bs = checkBits w n in
+    let d = shl-multiple generator n 16 m in
+    sym (computed 16 generator (lit≤ tt) generator-degree bs 0 (reverse-bits (digitsOf w n) (digits-bits w n))
+    (record {
+      quotient = d .quotient;
+      divided = ap (λ (x : ℕ). x * 2 ^ 16) (check-value w n h) ∙ d .product ∙ sym (xor-zero-r (times (d .quotient) generator));
+      below = lit< tt;
+    }))
+
+-- so D^m, which leaves y, does not leave 1 where the register of y + 1 does not come to 0
+not-one : (m y w : ℕ) → bitXor y 1 < 2 ^ w → eqb (registerOf 16 generator 0 (checkBits w (bitXor y 1))) 0 ≡ false → Left generator m y
+    → One generator m → ⊥
+not-one m y w h e p x =
+    let X = 2 ^ m in
+    let one : 1 * X ≡ X = omega arith in
+    let sum-is : bitXor (bitXor (1 * X) y) (bitXor X 1) ≡ bitXor y 1 =
+    ap (λ (n : ℕ). bitXor (bitXor n y) (bitXor X 1)) one ∙ xor-swap X y X 1 ∙ ap (λ (n : ℕ). bitXor n (bitXor y 1)) (xor-self X) ∙ xor-zero-l (bitXor y 1) in
+    eqb-false _ _ e
+    (come-back w (bitXor y 1) h (subst (Multiple generator) sum-is (sum-multiple generator (bitXor (1 * X) y) (bitXor X 1) p x)))
 
 -- what D^32 leaves besides 1, D^64, and so on to D^32768; the generator is added where 1 would be missing
 abbrev squares : List (List ℕ)
@@ -182,11 +187,12 @@ follow rs (ss ∷ t) =
     let n = bitXor (sum (doubled rs) 1) (sum ss 1) in
     ltb n (2 ^ 33) && (eqb (registerOf 16 generator 0 (checkBits 33 n)) 0 && follow ss t)
 
-abbrev Last : ℕ → List ℕ → List (List ℕ) → Type 0
-Last m rs [] = Leaves generator m rs
-Last m rs (ss ∷ t) = Last (m + m) ss t
+-- then all of them are so
+abbrev Chain : ℕ → List ℕ → List (List ℕ) → Type 0
+Chain m rs [] = Leaves generator m rs
+Chain m rs (ss ∷ t) = Leaves generator m rs × Chain (m + m) ss t
 
-chain : (m : ℕ) (rs : List ℕ) (t : List (List ℕ)) → follow rs t ≡ true → Leaves generator m rs → Last m rs t
+chain : (m : ℕ) (rs : List ℕ) (t : List (List ℕ)) → follow rs t ≡ true → Leaves generator m rs → Chain m rs t
 unfolding follow
 chain m rs [] c x = x
 chain m rs (ss ∷ t) c x =
@@ -194,39 +200,106 @@ chain m rs (ss ∷ t) c x =
     let z = eqb (registerOf 16 generator 0 (checkBits 33 n)) 0 in
     let p = both (ltb n (2 ^ 33)) (z && follow ss t) c in
     let q = both z (follow ss t) (p .1) in
-    chain (m + m) ss t (q .1) (squared generator m rs ss (come-out n (ltb-true _ _ (p .0)) (eqb-true _ _ (q .0))) x)
+    (x, chain (m + m) ss t (q .1) (squared generator m rs ss (come-out n (ltb-true _ _ (p .0)) (eqb-true _ _ (q .0))) x))
+
+powers : Chain 16 (5 ∷ 12 ∷ []) squares
+unfolding shifts registerOf digitsOf follow
+powers = chain 16 (5 ∷ 12 ∷ []) squares refl (come-out generator (lit< tt) refl)
 
 -- D^32768 leaves D, so D^32767 leaves 1
 last-one : One generator 32767
-unfolding shifts registerOf digitsOf follow
+unfolding shifts registerOf digitsOf
 last-one =
     let P = sum (1 ∷ 5 ∷ 12 ∷ 16 ∷ []) 1 in
-    let x : Leaves generator 32768 (1 ∷ 5 ∷ 12 ∷ 16 ∷ []) = chain 16 (5 ∷ 12 ∷ []) squares refl itself in
-    halved 32767 (subst (Multiple generator) (mid (1 * 2 ^ 32768) P 2) (sum-multiple generator (bitXor (1 * 2 ^ 32768) P) (bitXor P 2) x itself))
+    let x : Leaves generator 32768 (1 ∷ 5 ∷ 12 ∷ 16 ∷ []) = powers .1 .1 .1 .1 .1 .1 .1 .1 .1 .1 .1 in
+    halved 32767 (subst (Multiple generator) (mid (1 * 2 ^ 32768) P 2)
+    (sum-multiple generator (bitXor (1 * 2 ^ 32768) P) (bitXor P 2) x (come-out generator (lit< tt) refl)))
   where
-    itself : Multiple generator generator
-    itself = come-out generator (lit< tt) refl
-
     halved : (m : ℕ) → Multiple generator (bitXor (1 * 2 ^ suc m) 2) → One generator m
     halved m x =
         let e : 1 * 2 ^ suc m ≡ 2 ^ m * 2 = omega (arith, pow-suc 2 m) in
         unshifted generator generator-odd (bitXor (2 ^ m) 1) 1
         (subst (Multiple generator) (ap (λ (n : ℕ). bitXor n 2) e ∙ sym (shl-xor 1 (2 ^ m) 1)) x)
 
--- a power that divides 32,767 and lies below it lies below 4,682: those are tried
-pub generator-apart : Apart generator reach
-unfolding never
-generator-apart = least generator generator-odd reach last-one (λ m h l e. small m h l (reach / m) (omega (arith, div-add-mod' reach m)))
-  where
-    few : Apart generator 4682
-    few = apart 16 generator (lit≤ tt) generator-degree 4682 refl
+-- 217, 1,057 = 1,024 + 33 and 4,681 = 4,096 + 512 + 73
+no-217 : One generator 217 → ⊥
+unfolding registerOf digitsOf
+no-217 = not-one 217 (1 * 2 ^ 217) 218 (lit< tt) refl (itself generator 217)
 
-    small : (m : ℕ) → 1 ≤ m → m < reach → (c : ℕ) → c * m ≡ reach → One generator m → ⊥
-    small m h l zero e x = omega arith
-    small m h l (suc zero) e x = omega arith
-    small m h l (suc (suc zero)) e x = omega arith
-    small m h l (suc (suc (suc zero))) e x = omega arith
-    small m h l (suc (suc (suc (suc zero)))) e x = omega arith
-    small m h l (suc (suc (suc (suc (suc zero))))) e x = omega arith
-    small m h l (suc (suc (suc (suc (suc (suc zero)))))) e x = omega arith
-    small m h l (suc (suc (suc (suc (suc (suc (suc c))))))) e x = few m h (omega (arith, add-mul 7 c m)) x
+no-1057 : One generator 1057 → ⊥
+unfolding shifts registerOf digitsOf
+no-1057 =
+    not-one 1057 (sum (2 ∷ 5 ∷ 6 ∷ 7 ∷ 9 ∷ 10 ∷ 13 ∷ 16 ∷ []) (1 * 2 ^ 33)) 50 (lit< tt) refl
+    (further generator 1024 33 (2 ∷ 5 ∷ 6 ∷ 7 ∷ 9 ∷ 10 ∷ 13 ∷ 16 ∷ []) (1 * 2 ^ 33) (powers .1 .1 .1 .1 .1 .1 .0) (itself generator 33))
+
+no-4681 : One generator 4681 → ⊥
+unfolding shifts registerOf digitsOf
+no-4681 =
+    let rs : List ℕ = 2 ∷ 3 ∷ 4 ∷ 6 ∷ 7 ∷ 8 ∷ 9 ∷ 16 ∷ [] in
+    let ss : List ℕ = 1 ∷ 2 ∷ 3 ∷ 4 ∷ 5 ∷ 7 ∷ 9 ∷ 11 ∷ 12 ∷ 13 ∷ 15 ∷ 16 ∷ [] in
+    not-one 4681 (sum ss (sum rs (1 * 2 ^ 73))) 106 (lit< tt) refl
+    (further generator 4096 585 ss (sum rs (1 * 2 ^ 73)) (powers .1 .1 .1 .1 .1 .1 .1 .1 .0)
+    (further generator 512 73 rs (1 * 2 ^ 73) (powers .1 .1 .1 .1 .1 .0) (itself generator 73)))
+
+-- what divides 32,767, below n
+unfoldable divisors : ℕ → List ℕ
+divisors zero = []
+divisors (suc d) = cond (eqb (reach % d) 0) (d ∷ divisors d) (divisors d)
+
+abbrev In : ℕ → List ℕ → Type 0
+In d [] = ⊥
+In d (x ∷ xs) = (d ≡ x) ⊎ In d xs
+
+divisor-in : (n d : ℕ) → d < n → reach % d ≡ 0 → In d (divisors n)
+unfolding divisors
+divisor-in zero d h z = absurd (not-suc-le-zero h)
+divisor-in (suc n) d h z = pick (decLt d n) (λ k. divisor-in n d k z)
+  where
+    later : (t : Bool) → In d (divisors n) → In d (cond t (n ∷ divisors n) (divisors n))
+    later true x = inr x
+    later false x = x
+
+    pick : Dec (d < n) → (d < n → In d (divisors n)) → In d (cond (eqb (reach % n) 0) (n ∷ divisors n) (divisors n))
+    pick (yes k) f = later (eqb (reach % n) 0) (f k)
+    pick (no k) f =
+        let e : d ≡ n = omega arith in
+        subst (λ (t : Bool). In d (cond t (n ∷ divisors n) (divisors n))) (sym (eq-eqb _ _ (ap (λ (x : ℕ). reach % x) (sym e) ∙ z))) (inl e)
+
+-- it divides 217, 1,057 or 4,681
+pub generator-apart : Apart generator reach
+unfolding divisors
+generator-apart = least generator generator-odd reach last-one small
+  where
+    low : (m : ℕ) → In m (217 ∷ 151 ∷ 31 ∷ 7 ∷ 1 ∷ []) → One generator m → ⊥
+    low m (inl e) x = no-217 (subst (One generator) e x)
+    low m (inr (inl e)) x = no-1057 (subst (λ (n : ℕ). One generator (7 * n)) e (times-one generator m 7 x))
+    low m (inr (inr (inl e))) x = no-217 (subst (λ (n : ℕ). One generator (7 * n)) e (times-one generator m 7 x))
+    low m (inr (inr (inr (inl e)))) x = no-217 (subst (λ (n : ℕ). One generator (31 * n)) e (times-one generator m 31 x))
+    low m (inr (inr (inr (inr (inl e))))) x = no-217 (subst (λ (n : ℕ). One generator (217 * n)) e (times-one generator m 217 x))
+
+    high : (c m : ℕ) → 218 ≤ m → m < reach → c * m ≡ reach → In c (217 ∷ 151 ∷ 31 ∷ 7 ∷ 1 ∷ []) → One generator m → ⊥
+    high c m h l e (inl f) x = let p : 217 * m ≡ reach = subst (λ (n : ℕ). n * m ≡ reach) f e in omega arith
+    high c m h l e (inr (inl f)) x = let p : 151 * m ≡ reach = subst (λ (n : ℕ). n * m ≡ reach) f e in omega arith
+    high c m h l e (inr (inr (inl f))) x =
+        let p : 31 * m ≡ reach = subst (λ (n : ℕ). n * m ≡ reach) f e in
+        let q : m ≡ 1057 = omega arith in
+        no-1057 (subst (One generator) q x)
+    high c m h l e (inr (inr (inr (inl f)))) x =
+        let p : 7 * m ≡ reach = subst (λ (n : ℕ). n * m ≡ reach) f e in
+        let q : m ≡ 4681 = omega arith in
+        no-4681 (subst (One generator) q x)
+    high c m h l e (inr (inr (inr (inr (inl f))))) x = let p : 1 * m ≡ reach = subst (λ (n : ℕ). n * m ≡ reach) f e in omega arith
+
+    small : (m : ℕ) → 1 ≤ m → m < reach → reach % m ≡ 0 → One generator m → ⊥
+    small m h l z x = pick (decLt m 218)
+      where
+        pick : Dec (m < 218) → ⊥
+        pick (yes k) = low m (divisor-in 218 m k z) x
+        pick (no k) =
+            let c = reach / m in
+            let e : c * m ≡ reach = omega (arith, div-add-mod' reach m) in
+            let d = m - 218 in
+            let f : 218 + d ≡ m = omega arith in
+            let p : 218 * c + d * c ≡ reach = sym (add-mul 218 d c) ∙ ap (λ (n : ℕ). n * c) f ∙ mul-comm m c ∙ e in
+            let q : reach % c ≡ 0 = ap (λ (n : ℕ). n % c) (sym e) ∙ mul-mod-right c m in
+            high c m (omega arith) l e (divisor-in 218 c (omega arith) q) x
