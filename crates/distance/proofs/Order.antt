@@ -36,6 +36,7 @@ pair g n o a m i h l x =
 
 -- ---- the powers that leave 1
 
+-- D^m leaves 1, divided by g
 abbrev One : ℕ → ℕ → Type 0
 One g m = Multiple g (bitXor (2 ^ m) 1)
 
@@ -109,6 +110,7 @@ squared g m rs ss d x =
         let X = 1 * 2 ^ m in
         sym (xor-assoc 1 X (shifts rs 1)) ∙ ap (λ (y : ℕ). bitXor y (shifts rs 1)) (xor-comm 1 X) ∙ xor-assoc X 1 (shifts rs 1)
 
+-- every power leaves itself
 itself : (g n : ℕ) → Left g n (1 * 2 ^ n)
 itself g n = subst (Multiple g) (sym (xor-self (1 * 2 ^ n))) (none g)
 
@@ -202,6 +204,7 @@ chain m rs (ss ∷ t) c x =
     let q = both z (follow ss t) (p .1) in
     (x, chain (m + m) ss t (q .1) (squared generator m rs ss (come-out n (ltb-true _ _ (p .0)) (eqb-true _ _ (q .0))) x))
 
+-- what D^16 to D^32768 leave
 powers : Chain 16 (5 ∷ 12 ∷ []) squares
 unfolding shifts registerOf digitsOf follow
 powers = chain 16 (5 ∷ 12 ∷ []) squares refl (come-out generator (lit< tt) refl)
@@ -221,7 +224,7 @@ last-one =
         unshifted generator generator-odd (bitXor (2 ^ m) 1) 1
         (subst (Multiple generator) (ap (λ (n : ℕ). bitXor n 2) e ∙ sym (shl-xor 1 (2 ^ m) 1)) x)
 
--- 217, 1,057 = 1,024 + 33 and 4,681 = 4,096 + 512 + 73
+-- none of D^217, D^1057 = D^1024 D^33 and D^4681 = D^4096 D^512 D^73 leaves 1
 no-217 : One generator 217 → ⊥
 unfolding registerOf digitsOf
 no-217 = not-one 217 (1 * 2 ^ 217) 218 (lit< tt) refl (itself generator 217)
@@ -246,6 +249,7 @@ unfoldable divisors : ℕ → List ℕ
 divisors zero = []
 divisors (suc d) = cond (eqb (reach % d) 0) (d ∷ divisors d) (divisors d)
 
+-- a number of a list
 abbrev In : ℕ → List ℕ → Type 0
 In d [] = ⊥
 In d (x ∷ xs) = (d ≡ x) ⊎ In d xs
