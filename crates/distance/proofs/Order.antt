@@ -23,7 +23,7 @@ use Rattle.remainder.proofs.Division.{exists, computed}
 use Rattle.remainder.proofs.Errors.{check-value, sum-multiple, unshifted, generator-degree, generator-odd}
 use Rattle.remainder.proofs.Quotient.{shl-multiple, sum-times}
 use Rattle.ranges.proofs.Laws.{both}
-use Rattle.distance.specs.Errors.{Apart, reach}
+use Rattle.distance.specs.Errors.{Apart, Order, reach}
 use Rattle.distance.proofs.Multiples.{none, through}
 
 -- no two ones less than n places apart make a multiple
@@ -307,3 +307,7 @@ generator-apart = least generator generator-odd reach last-one small
             let p : 218 * c + d * c ≡ reach = sym (add-mul 218 d c) ∙ ap (λ (n : ℕ). n * c) f ∙ mul-comm m c ∙ e in
             let q : reach % c ≡ 0 = ap (λ (n : ℕ). n % c) (sym e) ∙ mul-mod-right c m in
             high c m (omega arith) l e (divisor-in 218 c (omega arith) q) x
+
+-- 32,767 is the order of D: two bits so far apart go unseen, and no two that are nearer
+pub generator-order : Order generator reach
+generator-order = record { one = last-one; apart = generator-apart }
