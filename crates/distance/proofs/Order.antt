@@ -310,4 +310,4 @@ generator-apart = least generator generator-odd reach last-one small
 
 -- 32,767 is the order of D: two bits so far apart go unseen, and no two that are nearer
 pub generator-order : Order generator reach
-generator-order = record { one = last-one; apart = generator-apart }
+generator-order = let e : 32767 ≡ reach = refl in record { one = subst (One generator) e last-one; apart = generator-apart }
