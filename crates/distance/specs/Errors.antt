@@ -30,7 +30,12 @@ Same g bs cs = Multiple g (bitXor (polynomial bs) (polynomial cs))
 abbrev pub Apart : ℕ → ℕ → Type 0
 Apart g n = (m : ℕ) → 1 ≤ m → m < n → Multiple g (bitXor (2 ^ m) 1) → ⊥
 
--- how many bits, check bits and all, the generator of SCOPE keeps apart: the order of D modulo it
+-- the order of D modulo g: D^n leaves 1, so that two ones n places apart go unseen, and no lesser power does
+pub record Order (g n : ℕ) : Type 0 where
+  pub one : Multiple g (bitXor (2 ^ n) 1)
+  pub apart : Apart g n
+
+-- how many bits, check bits and all, the generator of SCOPE keeps apart: the order of D modulo it (theorem `generator-order`)
 abbrev pub reach : ℕ
 reach = 32767
 

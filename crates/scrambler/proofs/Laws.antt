@@ -13,16 +13,17 @@ use Rattle.answer.proofs.Laws.{none, kept, given, refused, passed}
 use Rattle.octets.specs.Bits.{bitsOf, octetsOf, part, laid}
 use Rattle.octets.proofs.Digits.{append-bits, take-bits}
 use Rattle.octets.proofs.Laws.{bits-length, bits-bits, laid-next, laid-end}
-use Rattle.recurrence.specs.Run.{Way, outOf, nextOf, runOf}
+use Rattle.recurrence.specs.Run.{Way, outOf, nextOf, runOf, afterOf}
 use Rattle.recurrence.specs.Promises as OnLine
 use Rattle.recurrence.specs.declared.Stepped.{Stepped}
-use Rattle.recurrence.specs.declared.Ran.{Ran}
+use Rattle.recurrence.specs.declared.Ran as Line
 use Rattle.recurrence.proofs.Answers.{run-complete, run-given}
 use Rattle.recurrence.proofs.Laws.{run-length, run-bits}
 use Rattle.scrambler.specs.Ends.{tapOf}
-use Rattle.scrambler.specs.Promises.{stepRefusals, StepPromise, runRefusals, RunPromise, frameRefusals, clocked, frameOut, FramePromise}
+use Rattle.scrambler.specs.Promises.{stepRefusals, StepPromise, runRefusals, RunPromise, frameRefusals, clocked, frameOut, ClockedPromise, FramePromise}
 use Rattle.scrambler.specs.declared.Scrambler.{Scrambler}
 use Rattle.scrambler.specs.declared.Step.{Step}
+use Rattle.scrambler.specs.declared.Ran.{Ran}
 
 pub tap-range : (end : ℕ) → (1 ≤ tapOf end) × (tapOf end ≤ 23)
 tap-range end = pick (eqb end 0)
@@ -91,20 +92,15 @@ module _ (x : Scrambler) (input : List ℕ) (bits : ℕ) (output : List ℕ) whe
       }
 
   -- a run on the line, from the first bit on
-  pub run-taken : (way : Way) (tap : ℕ) (r : Ran) (s : List ℕ) → tap ≡ tapOf (x .end) → OnLine.RunPromise way tap (x .state) input 0 bits output r s
+  pub run-taken : (way : Way) (tap : ℕ) (r : Line.Ran) (s : List ℕ) → tap ≡ tapOf (x .end) → OnLine.RunPromise way tap (x .state) input 0 bits output r s
       → answer (runRefusals x input bits output) ≡ 0
-      → RunPromise way x input bits output (record { answer = r .answer; next = record { end = x .end; state = r .state } }) s
+      → (r .answer ≡ 0) × (r .state ≡ afterOf way (tapOf (x .end)) (x .state) (part 0 bits (bitsOf input)))
+      × (s ≡ laid output 0 (runOf way (tapOf (x .end)) (x .state) (part 0 bits (bitsOf input))))
   run-taken way tap r s e p z =
       let w = run-sound z in
-      let q : OnLine.RunPromise way (tapOf (x .end)) (x .state) input 0 bits output r s = subst
-      (λ (n : ℕ). OnLine.RunPromise way n (x .state) input 0 bits output r s) e p in
+      let q = subst (λ (n : ℕ). OnLine.RunPromise way n (x .state) input 0 bits output r s) e p in
       let c = run-complete (tapOf (x .end)) (x .state) input 0 bits (tap-range (x .end) .0) (tap-range (x .end) .1) (w .1) (omega (arith, w .0)) in
-      let g = run-given (tapOf (x .end)) (x .state) input 0 bits way output r s q c in
-      record {
-        answered = g .0 ∙ sym z;
-        next = ap (λ (n : ℕ). record { end = x .end; state = n }) (g .1 ∙ sym (given (r .answer) _ _ (g .0)));
-        left = g .2 ∙ sym (given (r .answer) _ _ (g .0));
-      }
+      run-given (tapOf (x .end)) (x .state) input 0 bits way output r s q c
 
 -- ---- a whole frame
 
@@ -147,18 +143,27 @@ module _ (x : Scrambler) (frame output : List ℕ) where
       let f₃ = laid-next output 0 (S ++ R) Z 4227 (append-bits S R bS (run-bits way (tapOf (x .end)) (x .state) (clocked frame))) lSR f₂ e₃ in
       f₃ ∙ laid-end output 0 (S ++ R ++ Z) (omega (arith, length-append (S ++ R) Z)) ∙ ap₂ octetsOf lo (append-assoc S R Z)
 
+  -- the line's run by the end's tap, behind sync
+  pub frame-clocked : (way : Way) (tap : ℕ) (r : Line.Ran) (s₁ s₂ : List ℕ) → tap ≡ tapOf (x .end) → s₁ ≡ laid output 0 (part 0 14 (bitsOf frame))
+      → OnLine.RunPromise way tap (x .state) frame 14 4213 s₁ r s₂
+      → ClockedPromise way x frame output (record { answer = r .answer; next = record { end = x .end; state = r .state } }) s₂
+  frame-clocked way tap r s₁ s₂ e e₁ p =
+      record {
+        same = refl;
+        ran = subst (λ (n : ℕ). OnLine.RunPromise way n (x .state) frame 14 4213 (laid output 0 (part 0 14 (bitsOf frame))) r s₂) e
+            (subst (λ (s : List ℕ). OnLine.RunPromise way tap (x .state) frame 14 4213 s r s₂) e₁ p);
+      }
+
   -- a frame of which nothing is refused
-  pub frame-taken : (way : Way) (tap : ℕ) (r : Ran) (s₁ s₂ s₃ : List ℕ) → tap ≡ tapOf (x .end) → s₁ ≡ laid output 0 (part 0 14 (bitsOf frame))
-      → OnLine.RunPromise way tap (x .state) frame 14 4213 s₁ r s₂ → s₃ ≡ laid s₂ 4227 (replicate 5 0) → answer (frameRefusals x frame output) ≡ 0
-      → FramePromise way x frame output (record { answer = r .answer; next = record { end = x .end; state = r .state } }) s₃
-  frame-taken way tap r s₁ s₂ s₃ e e₁ p e₃ z =
+  pub frame-taken : (way : Way) (r : Ran) (s₂ s₃ : List ℕ) → ClockedPromise way x frame output r s₂ → s₃ ≡ laid s₂ 4227 (replicate 5 0)
+      → answer (frameRefusals x frame output) ≡ 0 → FramePromise way x frame output r s₃
+  frame-taken way r s₂ s₃ p e₃ z =
       let w = frame-sound z in
-      let q : OnLine.RunPromise way (tapOf (x .end)) (x .state) frame 14 4213 s₁ r s₂ = subst
-      (λ (n : ℕ). OnLine.RunPromise way n (x .state) frame 14 4213 s₁ r s₂) e p in
+      let s₁ = laid output 0 (part 0 14 (bitsOf frame)) in
       let c = run-complete (tapOf (x .end)) (x .state) frame 14 4213 (tap-range (x .end) .0) (tap-range (x .end) .1) (w .2) (omega (arith, w .0)) in
-      let g = run-given (tapOf (x .end)) (x .state) frame 14 4213 way s₁ r s₂ q c in
+      let g = run-given (tapOf (x .end)) (x .state) frame 14 4213 way s₁ (record { answer = r .answer; state = r .next .state }) s₂ (p .ran) c in
       record {
         answered = g .0 ∙ sym z;
-        next = ap (λ (n : ℕ). record { end = x .end; state = n }) (g .1 ∙ sym (given (r .answer) _ _ (g .0)));
-        left = frame-done way s₁ s₂ s₃ (w .0) (w .1) e₁ (g .2) e₃ ∙ sym (given (r .answer) output _ (g .0));
+        next = ap₂ (λ (e n : ℕ). record { end = e; state = n }) (p .same) (g .1 ∙ sym (given (r .answer) _ _ (g .0)));
+        left = frame-done way s₁ s₂ s₃ (w .0) (w .1) refl (g .2) e₃ ∙ sym (given (r .answer) output _ (g .0));
       }

@@ -11,6 +11,7 @@ use Rattle.layout.specs.Places.{padWidth, frameLength, placeOf, syncField, coef
 use Rattle.layout.specs.Frame.{fieldOf}
 use Rattle.scrambler.specs.Ends.{ntu, tapOf}
 use Rattle.recurrence.specs.Promises.{wideState}
+use Rattle.recurrence.specs.Promises as OnLine
 use Rattle.recurrence.specs.Run.{Way, outOf, nextOf, runOf, afterOf}
 use Rattle.scrambler.specs.declared.Scrambler.{Scrambler}
 use Rattle.scrambler.specs.declared.Step.{Step}
@@ -61,6 +62,12 @@ frameRefusals x frame output =
 -- the bits of a frame that clock the state: 15 to 4,227
 abbrev pub clocked : List ℕ → List ℕ
 clocked frame = part (placeOf coefficientsField) (placeOf padField - placeOf coefficientsField) (bitsOf frame)
+
+-- Scrambler::clocked, which no public promise names: sync is laid into the output, and the line's run behind it
+pub record ClockedPromise (way : Way) (x : Scrambler) (frame output : List ℕ) (r : Ran) (exit : List ℕ) : Type 0 where
+  pub same : r .next .end ≡ x .end
+  pub ran : OnLine.RunPromise way (tapOf (x .end)) (x .state) frame (placeOf coefficientsField) (placeOf padField - placeOf coefficientsField)
+      (laid output 0 (fieldOf syncField (bitsOf frame))) (record { answer = r .answer; state = r .next .state }) exit
 
 -- a frame's 14 sync bits straight through, these bits for the rest, and the pad zero
 abbrev pub around : List ℕ → List ℕ → List ℕ

@@ -3,7 +3,7 @@ ghost use mathlib.Core.Path.{_≡_};
 ghost use Rattle.answer.specs.Answer.{answer};
 ghost use Rattle.recurrence.specs.Run.{scramble, descramble, wayOf};
 ghost use Rattle.scrambler.specs.Ends.{tapOf};
-ghost use Rattle.scrambler.specs.Promises.{StartPromise, StepPromise, runRefusals, RunPromise, frameRefusals, FramePromise};
+ghost use Rattle.scrambler.specs.Promises.{StartPromise, StepPromise, runRefusals, RunPromise, frameRefusals, ClockedPromise, FramePromise};
 
 // The bits of a frame that clock the state: all but sync and pad.
 const CLOCKED: usize = layout::PAYLOAD_BITS as usize;
@@ -197,7 +197,31 @@ impl Scrambler {
         answer::DONE
     }
 
-    // A whole frame in either direction: sync passes straight through, the pad is zero.
+    // A frame's sync straight through, and the line's run over the bits between sync and pad.
+    fn clocked(self, back: bool, frame: &[u8], output: &mut [u8]) -> Ran
+        ensures { λ r. ⌜ ClockedPromise (wayOf back) self (now (frame .entry)) (now (output .entry)) r (now (output .exit)) ⌝ }
+    {
+        let end = self.end;
+        octets::copy(output, 0, frame, 0, layout::SYNC_BITS);
+        let ran = recurrence::run(
+            back,
+            tap(end),
+            self.state,
+            frame,
+            layout::SYNC_BITS,
+            CLOCKED,
+            output,
+        );
+        Ran {
+            answer: ran.answer,
+            next: Scrambler {
+                end,
+                state: ran.state,
+            },
+        }
+    }
+
+    // A whole frame in either direction: the pad is zero.
     fn frame(self, back: bool, frame: &[u8], output: &mut [u8]) -> Ran
         ensures { λ r. ⌜ FramePromise (wayOf back) self (now (frame .entry)) (now (output .entry)) r (now (output .exit)) ⌝ }
     {
@@ -208,19 +232,9 @@ impl Scrambler {
                 next: self,
             };
         }
-        let end = self.end;
-        let state = self.state;
-        let t = tap(end);
-        octets::copy(output, 0, frame, 0, layout::SYNC_BITS);
-        let ran = recurrence::run(back, t, state, frame, layout::SYNC_BITS, CLOCKED, output);
+        let ran = self.clocked(back, frame, output);
         octets::clear(output, layout::PAD_AT, layout::PAD_BITS);
-        Ran {
-            answer: ran.answer,
-            next: Scrambler {
-                end,
-                state: ran.state,
-            },
-        }
+        ran
     }
 
     // A whole frame scrambled.

@@ -194,6 +194,10 @@ sent-bits earlier (s ∷ symbols) h = sent-bits (x1 s ∷ earlier) symbols (cons
 
 -- ---- what a turn computes
 
+-- by the window, the current X1 at weight 1
+pub window-parity : (word window : ℕ) → window < 2 ^ 21 → ones (bitAnd word window) % 2 ≡ parityOf word (digitsOf 21 window)
+window-parity word window h = ap (λ (n : ℕ). n % 2) (ones-are 21 word window h)
+
 module _ (register symbol : ℕ) (hr : register < 2 ^ 20) (hs : symbol ≤ 7) where
   abbrev window : ℕ
   window = register * 2 + symbol / 4
@@ -205,9 +209,8 @@ module _ (register symbol : ℕ) (hr : register < 2 ^ 20) (hs : symbol ≤ 7) wh
       let f : window / 2 ≡ register = omega arith in
       ap₂ (λ (x y : ℕ). x ∷ digitsOf 20 y) e f
 
-  pub turn-parity : (word : ℕ) → ones (bitAnd word window) % 2 ≡ parityOf word (x1 symbol ∷ heldIn register)
-  turn-parity word =
-      ap (λ (n : ℕ). n % 2) (ones-are 21 word window (omega arith) ∙ ap (onesLeft 21 word) window-is)
+  pub turn-parity : (word : ℕ) → parityOf word (digitsOf 21 window) ≡ parityOf word (x1 symbol ∷ heldIn register)
+  turn-parity word = ap (parityOf word) window-is
 
   pub turn-register : window % 2 ^ 20 ≡ registerOf (x1 symbol ∷ heldIn register)
   turn-register =

@@ -1,10 +1,13 @@
 // Symbols: levels in sixteenths, and the data encoder (000, clauses 4.1.6 and 4.3.3).
 ghost use mathlib.Core.Path.{_≡_};
 ghost use mathlib.Core.Bool.{true};
-ghost use Prim.Native.Nat.{_≤_, _<_, _*_};
+ghost use Prim.Native.Nat.{_+_, _*_, _^_, _≤_, _<_};
 ghost use lib.IntN.{pos, _-ℤ_};
+ghost use lib.ListN.{length};
+ghost use Rattle.octets.specs.Bits.{digitsOf};
 ghost use Rattle.symbol.specs.Levels.{ActivationLevel, DataLevel, LevelCode};
-ghost use Rattle.symbol.specs.Encoder.{codeOf, nextOf, heldIn, symbolsIn, encoderIn, Started, Stepped, Ran};
+ghost use Rattle.symbol.specs.Encoder.{x2, x3, parityOf, codeOf, nextOf, heldIn, encoderIn, Started, Stepped};
+ghost use Rattle.symbol.specs.Encoder.{codesOf, sentAfter, registerOf, symbolsIn, withRegister, Ran};
 
 // A level, with the answer first.
 pub struct Level {
@@ -171,19 +174,26 @@ impl Encoder {
         self.register < Self::REGISTERS
     }
 
-    // One symbol with nothing to refuse: what `step` and `run` are made of. The window holds the current X1 at weight 1, where a0 meets it;
-    // the register is shifted after that.
+    // A symbol's code by the window, which holds the current X1 at weight 1, where a0 and b0 meet it.
+    fn code(self, window: u32, symbol: u32) -> u32
+        requires { ⌜ (window < 2 ^ 21) × (symbol ≤ 7) ⌝ }
+        ensures { λ r. ⌜ r ≡ 8 * x3 symbol + 4 * x2 symbol + 2 * parityOf (self .a) (digitsOf 21 window) + parityOf (self .b) (digitsOf 21 window) ⌝ }
+    {
+        let y3 = symbol % 2;
+        let y2 = symbol / 2 % 2;
+        let y1 = u32::count_ones(self.a & window) % 2;
+        let y0 = u32::count_ones(self.b & window) % 2;
+        y3 * 8 + y2 * 4 + y1 * 2 + y0
+    }
+
+    // One symbol with nothing to refuse: what `step` and `run` are made of. The register is shifted after the code is made.
     fn turn(self, symbol: u32) -> Turn
         requires { ⌜ (encoderIn self ≡ true) × (symbol ≤ 7) ⌝ }
         ensures { λ r. ⌜ (r .code ≡ codeOf (self .a) (self .b) (heldIn (self .register)) symbol) × (r .next ≡ nextOf self symbol) ⌝ }
     {
         let window = self.register * 2 + symbol / 4;
-        let y3 = symbol % 2;
-        let y2 = symbol / 2 % 2;
-        let y1 = u32::count_ones(self.a & window) % 2;
-        let y0 = u32::count_ones(self.b & window) % 2;
         Turn {
-            code: y3 * 8 + y2 * 4 + y1 * 2 + y0,
+            code: self.code(window, symbol),
             next: Encoder {
                 a: self.a,
                 b: self.b,
@@ -223,6 +233,23 @@ impl Encoder {
         }
     }
 
+    // The codes of symbols with nothing to refuse, and the encoder after them.
+    fn go(self, symbols: &[u8], codes: &mut [u8]) -> Encoder
+        requires { ⌜ (encoderIn self ≡ true) × (symbolsIn (now symbols) ≡ true) × (length (now codes) ≡ length (now symbols)) ⌝ }
+        ensures { λ r. ⌜ (now (codes .exit) ≡ codesOf (self .a) (self .b) (heldIn (self .register)) (now (symbols .entry)))
+            × (r ≡ withRegister self (registerOf (sentAfter (heldIn (self .register)) (now (symbols .entry))))) ⌝ }
+    {
+        let mut next = self;
+        let mut i = 0;
+        while i < symbols.len() {
+            let t = next.turn(symbols[i] as u32);
+            codes[i] = t.code as u8;
+            next = t.next;
+            i += 1;
+        }
+        next
+    }
+
     // Many symbols, one to an octet; their codes, one to an octet. A single symbol over 7 makes it refuse the whole run.
     pub fn run(self, symbols: &[u8], codes: &mut [u8]) -> Run
         ensures { λ r. ⌜ Ran self (now (symbols .entry)) (now (codes .entry)) r (now (codes .exit)) ⌝ }
@@ -245,17 +272,10 @@ impl Encoder {
                 next: self,
             };
         }
-        let mut next = self;
-        let mut i = 0;
-        while i < symbols.len() {
-            let t = next.turn(symbols[i] as u32);
-            codes[i] = t.code as u8;
-            next = t.next;
-            i += 1;
-        }
+        let last = self.go(symbols, codes);
         Run {
             answer: answer::DONE,
-            next,
+            next: last,
         }
     }
 }

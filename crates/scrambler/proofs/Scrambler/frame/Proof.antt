@@ -18,44 +18,25 @@ returns c =
     frame-refused (a .self) (a .frame .now) (a .output .now) (wayOf (a .back)) (c .before .frame-refusal .result) (c .before .frame-refusal .ensures)
     (c .if1 .taken)
 
-tap-requires : tie.Need-tap-requires
-tap-requires c κs = tt
-
-copy-requires : tie.Need-copy-requires
-copy-requires c κs = tt
-
-run-requires : tie.Need-run-requires
-run-requires c κs = tt
+clocked-requires : tie.Need-clocked-requires
+clocked-requires c κs = tt
 
 clear-requires : tie.Need-clear-requires
 clear-requires c κs = tt
 
 same-length-2 : tie.Need-same-length-2
-same-length-2 c =
-    c .before .before .clear .kept .0 ∙ c .before .before .before .before .before .before .run .kept .1 .1 .1 .1 .1 .1 .0
-    ∙ c .before .before .before .before .before .before .before .before .before .before .copy .kept .0
+same-length-2 c = c .before .before .clear .kept .0 ∙ c .before .before .before .before .before .before .clocked .kept .1 .1 .1 .0
 
 returns-2 : tie.Need-returns-2
 returns-2 c =
     let u = c .before .before .before .before .before .before in
-    let k = u .before .before .before .before .copy in
-    let v = u .before .before .before .before .before .before in
-    let a = v .before .before .before .before .before .before .args in
-    frame-taken (a .self) (a .frame .now) (a .output .now) (wayOf (a .back)) (v .tap .result) (u .run .result) (k .last .0)
-    (u .run .last .1 .1 .1 .1 .1 .1 .0) (c .before .before .clear .last .0)
-    (v .tap .ensures) (k .ensures) (u .run .ensures) (c .before .before .clear .ensures)
-    (sym (v .before .before .frame-refusal .ensures) ∙ v .before .if1 .left)
+    let v = u .before .before in
+    let a = v .before .before .before .before .before .args in
+    frame-taken (a .self) (a .frame .now) (a .output .now) (wayOf (a .back)) (u .clocked .result) (u .clocked .last .1 .1 .1 .0)
+    (c .before .before .clear .last .0) (u .clocked .ensures) (c .before .before .clear .ensures)
+    (sym (v .before .frame-refusal .ensures) ∙ v .if1 .left)
 
 pub frame-spec : {M : Type 1} → statement M
 frame-spec =
     tie.close
-    (tie.spec
-    frame-refusal-requires
-    same-length
-    returns
-    tap-requires
-    copy-requires
-    run-requires
-    clear-requires
-    same-length-2
-    returns-2)
+    (tie.spec frame-refusal-requires same-length returns clocked-requires clear-requires same-length-2 returns-2)
