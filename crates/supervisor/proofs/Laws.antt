@@ -89,7 +89,7 @@ each P a b c d e f g h i j k l m n p le =
     top n z = eq-or-lt-of-le z
 
 -- no end has a phase over 13
-pub beyond : (p : ℕ) (b : Bool) (silence : ℕ) → 13 < p → isOf p (cond b (ntu silence) (ltu silence)) ≡ false
+beyond : (p : ℕ) (b : Bool) (silence : ℕ) → 13 < p → isOf p (cond b (ntu silence) (ltu silence)) ≡ false
 beyond p b silence h = go b
   where
     no : (k : ℕ) → k ≤ 13 → eqb p k ≡ false
@@ -133,7 +133,7 @@ pub of-ltu : (b : Bool) (silence p : ℕ) → (p ≡ 2) ⊎ ((p ≡ 4) ⊎ ((p �
 of-ltu true silence p h = ⊎-elim (λ q. rw q) (⊎-elim (λ q. rw q) (⊎-elim (λ q. rw q) (⊎-elim (λ q. rw q) (λ q. rw q)))) h
 of-ltu false silence p h = ⊎-elim (λ q. rw q) (⊎-elim (λ q. rw q) (⊎-elim (λ q. rw q) (⊎-elim (λ q. rw q) (λ q. rw q)))) h
 
-pub of-both : (b : Bool) (silence p : ℕ) → p ≤ 13 → ((p ≡ 1) ⊎ ((p ≡ 3) ⊎ ((p ≡ 7) ⊎ (p ≡ 9))) → ⊥)
+of-both : (b : Bool) (silence p : ℕ) → p ≤ 13 → ((p ≡ 1) ⊎ ((p ≡ 3) ⊎ ((p ≡ 7) ⊎ (p ≡ 9))) → ⊥)
     → ((p ≡ 2) ⊎ ((p ≡ 4) ⊎ ((p ≡ 6) ⊎ ((p ≡ 8) ⊎ (p ≡ 10)))) → ⊥) → true ≡ isOf p (cond b (ntu silence) (ltu silence))
 of-both b silence p h =
     each (λ p. ((p ≡ 1) ⊎ ((p ≡ 3) ⊎ ((p ≡ 7) ⊎ (p ≡ 9))) → ⊥) → ((p ≡ 2) ⊎ ((p ≡ 4) ⊎ ((p ≡ 6) ⊎ ((p ≡ 8) ⊎ (p ≡ 10)))) → ⊥)
@@ -149,6 +149,11 @@ of-both b silence p h =
     go : (b : Bool) (k : ℕ) → true ≡ isOf k (ntu silence) → true ≡ isOf k (ltu silence) → true ≡ isOf k (cond b (ntu silence) (ltu silence))
     go true k n l = n
     go false k n l = l
+
+pub of-rest : (b : Bool) (silence p : ℕ) → ((p ≡ 1) ⊎ ((p ≡ 3) ⊎ ((p ≡ 7) ⊎ (p ≡ 9))) → ⊥)
+    → ((p ≡ 2) ⊎ ((p ≡ 4) ⊎ ((p ≡ 6) ⊎ ((p ≡ 8) ⊎ (p ≡ 10)))) → ⊥) → leb p 13 ≡ isOf p (cond b (ntu silence) (ltu silence))
+of-rest b silence p n l =
+    by-cases (leb p 13) (λ t. t ∙ of-both b silence p (leb-true _ _ t) n l) (λ f. f ∙ sym (beyond p b silence (leb-false _ _ f)))
 
 -- an end's phase is at most 13
 pub within : (p : ℕ) (b : Bool) (silence : ℕ) → isOf p (cond b (ntu silence) (ltu silence)) ≡ true → p ≤ 13

@@ -14,8 +14,8 @@ told-requires c κs = search needs
 told-requires-2 : tie.Need-told-requires-2
 told-requires-2 c κs = search needs
 
-abnormal-requires : tie.Need-abnormal-requires
-abnormal-requires c κs = search needs
+entered-requires : tie.Need-entered-requires
+entered-requires c κs = search needs
 
 returns : tie.Need-returns
 returns c = rw (c .before .before .before .match .keys1) (simp and-true (c .tried .ensures))
@@ -27,7 +27,7 @@ returns-3 : tie.Need-returns-3
 returns-3 c = rw (c .before .before .match .keys3) (simp (leb·zero, and-true) (c .told2 .ensures))
 
 returns-4 : tie.Need-returns-4
-returns-4 c = rw (c .before .match .keys4) (c .abnormal .ensures)
+returns-4 c = rw (c .before .match .keys4) (c .entered .ensures)
 
 returns-5 : tie.Need-returns-5
 returns-5 c =
@@ -35,4 +35,4 @@ returns-5 c =
 
 pub in-sr-spec : {M : Type 1} → statement M
 in-sr-spec =
-    tie.close (tie.spec tried-requires told-requires told-requires-2 abnormal-requires returns returns-2 returns-3 returns-4 returns-5)
+    tie.close (tie.spec tried-requires told-requires told-requires-2 entered-requires returns returns-2 returns-3 returns-4 returns-5)

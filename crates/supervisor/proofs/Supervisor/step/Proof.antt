@@ -6,11 +6,8 @@ use Rattle.supervisor.proofs.Laws.{refused-is}
 use Rattle.supervisor.proofs.Supervisor.step.Statement.{statement}
 use Rattle.supervisor.proofs.Supervisor.step.Tie as tie
 
-refused-requires : tie.Need-refused-requires
-refused-requires c κs = search needs
-
 returns : tie.Need-returns
-returns c = simp (lt-ltb _ _ (c .before .if1 .taken)) (c .refused .ensures)
+returns c = simp (lt-ltb _ _ (c .if1 .taken))
 
 refusal-requires : tie.Need-refusal-requires
 refusal-requires c κs = search needs
@@ -21,9 +18,6 @@ moved-requires c κs = sym (c .before .refusal .ensures) ∙ c .if2 .taken
 answered-requires : tie.Need-answered-requires
 answered-requires c κs = search needs
 
-refused-requires-2 : tie.Need-refused-requires-2
-refused-requires-2 c κs = search needs
-
 returns-2 : tie.Need-returns-2
 returns-2 c =
     simp (le-ltb _ _ (c .before .before .before .before .if1 .left), sym (c .before .before .before .refusal .ensures) ∙ c .before .before .if2 .taken)
@@ -31,18 +25,15 @@ returns-2 c =
 
 returns-3 : tie.Need-returns-3
 returns-3 c =
-    simp (le-ltb _ _ (c .before .before .before .if1 .left), ← c .before .before .refusal .ensures)
-    (c .refused2 .ensures ∙ refused-is _ _ _ (c .before .if2 .left))
+    simp (le-ltb _ _ (c .before .before .if1 .left), ← c .before .refusal .ensures) (refused-is _ _ _ (c .if2 .left))
 
 pub step-spec : {M : Type 1} → statement M
 step-spec =
     tie.close
     (tie.spec
-    refused-requires
     returns
     refusal-requires
     moved-requires
     answered-requires
-    refused-requires-2
     returns-2
     returns-3)
