@@ -6,14 +6,14 @@ use mathlib.Core.Path.{_≡_, refl, sym, ap, subst, _∙_}
 use mathlib.Core.Logic.{_⊎_, inl, inr, ⊎-elim}
 use mathlib.Core.Bool.{Bool, true, false, cond, not, _||_, false≢true}
 use mathlib.Core.List.{[], _∷_}
-use borrow.Author.Tests.{ltb-false, leb-true, leb-false, not-false, ne-eqb}
+use borrow.Author.Tests.{lt-ltb, le-ltb, ltb-false, leb-true, leb-false, not-false, ne-eqb}
 use lib.Dec.{ltb, leb, eqb}
 use Rattle.answer.specs.Answer.{refuse, answer}
 use Rattle.answer.proofs.Laws.{none}
 use Rattle.supervisor.specs.declared.Supervisor.{Supervisor}
 use Rattle.supervisor.specs.declared.Answer.{Answer}
 use Rattle.supervisor.specs.Phases.{Ready, Row, ntu, ltu, phasesOf, isOf, rowOf}
-use Rattle.supervisor.specs.Step.{acted, moved, stateRefusals, answered, none as noState, silenceOf, startRefusals, fresh, startOf}
+use Rattle.supervisor.specs.Step.{acted, moved, stateRefusals, answered, stepOf, none as noState, silenceOf, startRefusals, fresh, startOf}
 
 -- the same either way
 pub same-both : {A : Type 0} (b : Bool) (x : A) → cond b x x ≡ x
@@ -215,6 +215,17 @@ module _ (s : Supervisor) (c p : ℕ) {x : Supervisor} (at : s .phase ≡ p) (ta
 pub refused-is : (n : ℕ) (old new : Supervisor) → (n ≡ 0 → ⊥) → record { answer = n; phase = 0; attempt = 0; state = old } ≡ answered n old new
 refused-is zero old new h = absurd (h refl)
 refused-is (suc n) old new h = refl
+
+module _ (s : Supervisor) (c : ℕ) where
+  -- a step is refused for its code, taken, or refused for its state
+  pub step-unknown : 8 < c → record { answer = 2; phase = 0; attempt = 0; state = s } ≡ stepOf s c
+  step-unknown h = rw (lt-ltb 8 c h)
+
+  pub step-taken : {t : Supervisor} {r : Answer} → c ≤ 8 → answer (stateRefusals s) ≡ 0 → t ≡ moved s c → r ≡ answered 0 t t → r ≡ stepOf s c
+  step-taken h z m g = rw (le-ltb 8 c h, z) (g ∙ ap (λ (u : Supervisor). answered 0 u u) m)
+
+  pub step-refused : {n : ℕ} → c ≤ 8 → n ≡ answer (stateRefusals s) → (n ≡ 0 → ⊥) → record { answer = n; phase = 0; attempt = 0; state = s } ≡ stepOf s c
+  step-refused {n} h e z = rw (le-ltb 8 c h, ← e) (refused-is n s (moved s c) z)
 
 -- a start is refused as its fresh state is
 fresh-refusal : (end silence : ℕ) → answer (stateRefusals (fresh end (silenceOf silence))) ≡ answer (startRefusals end silence)

@@ -84,15 +84,14 @@ impl Supervisor {
     {
         let state = Self::fresh(end, silence);
         let refusal = state.refusal();
-        if refusal == answer::DONE {
-            state.answered()
-        } else {
-            Answer {
+        match refusal {
+            answer::DONE => state.answered(),
+            _ => Answer {
                 answer: refusal,
                 phase: 0,
                 attempt: 0,
                 state: Self::NONE,
-            }
+            },
         }
     }
 
@@ -128,15 +127,14 @@ impl Supervisor {
             };
         }
         let refusal = self.refusal();
-        if refusal == answer::DONE {
-            self.moved(code).answered()
-        } else {
-            Answer {
+        match refusal {
+            answer::DONE => self.moved(code).answered(),
+            _ => Answer {
                 answer: refusal,
                 phase: 0,
                 attempt: 0,
                 state: self,
-            }
+            },
         }
     }
 
@@ -145,9 +143,8 @@ impl Supervisor {
         ensures { λ r. ⌜ r ≡ answer (stateRefusals self) ⌝ }
     {
         if Self::NTU < self.end {
-            return answer::UNKNOWN;
-        }
-        if !Self::has_phase(self.end, self.phase)
+            answer::UNKNOWN
+        } else if !Self::has_phase(self.end, self.phase)
             | Self::outside(self.attempt, self.ticks, self.silence)
         {
             answer::RANGE

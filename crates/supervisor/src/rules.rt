@@ -63,15 +63,16 @@ impl Supervisor {
         self
     }
 
-    // A tick in a phase outside an attempt: the limit is tested first, the hold second.
+    // A tick in a phase outside an attempt: the limit is tested on the count itself, and not on the held one.
     fn waited(self, limit: u32, next: u32) -> Supervisor
         requires { ⌜ self .ticks ≤ mostTicks ⌝ }
         ensures { λ r. ⌜ r ≡ cond (leb limit (self .ticks + 1)) (entered self next 0) (counted self (self .attempt)) ⌝ }
     {
+        let held = self.counted(self.attempt);
         if limit <= self.ticks + 1 {
             self.entered(next, 0)
         } else {
-            self.counted(self.attempt)
+            held
         }
     }
 
@@ -82,10 +83,10 @@ impl Supervisor {
             (cond (heard && leb lasts (self .ticks + 1)) (entered self next (self .attempt + 1)) (counted self (self .attempt + 1))) ⌝ }
     {
         let attempt = self.attempt + 1;
+        let over = heard & (lasts <= self.ticks + 1);
         if Self::ATTEMPT <= attempt {
-            return self.entered(phase::EXCEPTION, 0);
-        }
-        if heard & (lasts <= self.ticks + 1) {
+            self.entered(phase::EXCEPTION, 0)
+        } else if over {
             self.entered(next, attempt)
         } else {
             self.counted(attempt)

@@ -1,15 +1,14 @@
 use borrow.Author.Tests.{ne-eqb}
-use borrow.Author.Needs.{needs}
 use lib.Dec.{leb·zero}
 use Rattle.supervisor.proofs.Laws.{same-both}
 use Rattle.supervisor.proofs.Supervisor.in_await.Statement.{statement}
 use Rattle.supervisor.proofs.Supervisor.in_await.Tie as tie
 
 entered-requires : tie.Need-entered-requires
-entered-requires c κs = search needs
+entered-requires c κs = tt
 
 entered-requires-2 : tie.Need-entered-requires-2
-entered-requires-2 c κs = search needs
+entered-requires-2 c κs = tt
 
 returns : tie.Need-returns
 returns c = rw (c .before .match .keys1) (simp leb·zero (c .entered .ensures))

@@ -1,13 +1,12 @@
 use borrow.Author.Tests.{ne-eqb}
-use borrow.Author.Needs.{needs}
 use Rattle.supervisor.proofs.Supervisor.in_cr.Statement.{statement}
 use Rattle.supervisor.proofs.Supervisor.in_cr.Tie as tie
 
 tried-requires : tie.Need-tried-requires
-tried-requires c κs = search needs
+tried-requires c κs = c .before .pre
 
 entered-requires : tie.Need-entered-requires
-entered-requires c κs = search needs
+entered-requires c κs = tt
 
 returns : tie.Need-returns
 returns c = rw (c .before .match .keys1) (c .tried .ensures)

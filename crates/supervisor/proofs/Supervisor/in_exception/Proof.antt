@@ -1,10 +1,9 @@
 use borrow.Author.Tests.{ne-eqb}
-use borrow.Author.Needs.{needs}
 use Rattle.supervisor.proofs.Supervisor.in_exception.Statement.{statement}
 use Rattle.supervisor.proofs.Supervisor.in_exception.Tie as tie
 
 waited-requires : tie.Need-waited-requires
-waited-requires c κs = search needs
+waited-requires c κs = c .before .pre
 
 returns : tie.Need-returns
 returns c = rw (c .before .match .keys1) (c .waited .ensures)

@@ -1,17 +1,16 @@
 use borrow.Author.Tests.{eq-eqb, ne-eqb}
-use borrow.Author.Needs.{needs}
 use Rattle.supervisor.proofs.Laws.{same-both}
 use Rattle.supervisor.proofs.Supervisor.in_quiet.Statement.{statement}
 use Rattle.supervisor.proofs.Supervisor.in_quiet.Tie as tie
 
 tried-requires : tie.Need-tried-requires
-tried-requires c κs = search needs
+tried-requires c κs = c .before .before .before .pre
 
 tried-requires-2 : tie.Need-tried-requires-2
-tried-requires-2 c κs = search needs
+tried-requires-2 c κs = c .before .before .before .pre
 
 entered-requires : tie.Need-entered-requires
-entered-requires c κs = search needs
+entered-requires c κs = tt
 
 returns : tie.Need-returns
 returns c = rw (c .before .before .before .match .keys1) (simp (eq-eqb _ _ (c .before .if1 .taken)) (c .tried .ensures))

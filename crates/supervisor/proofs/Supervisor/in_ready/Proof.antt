@@ -1,18 +1,17 @@
 use borrow.Author.Tests.{eq-eqb, ne-eqb}
-use borrow.Author.Needs.{needs}
 use lib.Dec.{leb·zero}
 use Rattle.supervisor.proofs.Laws.{same-both}
 use Rattle.supervisor.proofs.Supervisor.in_ready.Statement.{statement}
 use Rattle.supervisor.proofs.Supervisor.in_ready.Tie as tie
 
 entered-requires : tie.Need-entered-requires
-entered-requires c κs = search needs
+entered-requires c κs = tt
 
 entered-requires-2 : tie.Need-entered-requires-2
-entered-requires-2 c κs = search needs
+entered-requires-2 c κs = tt
 
 entered-requires-3 : tie.Need-entered-requires-3
-entered-requires-3 c κs = search needs
+entered-requires-3 c κs = tt
 
 returns : tie.Need-returns
 returns c = rw (c .before .before .before .match .keys1) (simp (leb·zero, eq-eqb _ _ (c .before .if1 .taken)) (c .entered .ensures))

@@ -1,17 +1,16 @@
 use mathlib.Core.Bool.{and-true}
 use borrow.Author.Tests.{ne-eqb}
-use borrow.Author.Needs.{needs}
 use Rattle.supervisor.proofs.Supervisor.in_sc.Statement.{statement}
 use Rattle.supervisor.proofs.Supervisor.in_sc.Tie as tie
 
 tried-requires : tie.Need-tried-requires
-tried-requires c κs = search needs
+tried-requires c κs = c .before .before .pre
 
 told-requires : tie.Need-told-requires
-told-requires c κs = search needs
+told-requires c κs = tt
 
 entered-requires : tie.Need-entered-requires
-entered-requires c κs = search needs
+entered-requires c κs = tt
 
 returns : tie.Need-returns
 returns c = rw (c .before .before .match .keys1) (simp and-true (c .tried .ensures))

@@ -1,13 +1,12 @@
 use borrow.Author.Tests.{ne-eqb}
-use borrow.Author.Needs.{needs}
 use Rattle.supervisor.proofs.Supervisor.in_settling.Statement.{statement}
 use Rattle.supervisor.proofs.Supervisor.in_settling.Tie as tie
 
 waited-requires : tie.Need-waited-requires
-waited-requires c κs = search needs
+waited-requires c κs = c .before .pre
 
 entered-requires : tie.Need-entered-requires
-entered-requires c κs = search needs
+entered-requires c κs = tt
 
 returns : tie.Need-returns
 returns c = rw (c .before .match .keys1) (c .waited .ensures)

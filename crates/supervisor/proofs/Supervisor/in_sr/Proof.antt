@@ -1,21 +1,20 @@
 use mathlib.Core.Bool.{and-true}
 use borrow.Author.Tests.{ne-eqb}
-use borrow.Author.Needs.{needs}
 use lib.Dec.{leb·zero}
 use Rattle.supervisor.proofs.Supervisor.in_sr.Statement.{statement}
 use Rattle.supervisor.proofs.Supervisor.in_sr.Tie as tie
 
 tried-requires : tie.Need-tried-requires
-tried-requires c κs = search needs
+tried-requires c κs = c .before .before .before .pre
 
 told-requires : tie.Need-told-requires
-told-requires c κs = search needs
+told-requires c κs = tt
 
 told-requires-2 : tie.Need-told-requires-2
-told-requires-2 c κs = search needs
+told-requires-2 c κs = tt
 
 entered-requires : tie.Need-entered-requires
-entered-requires c κs = search needs
+entered-requires c κs = tt
 
 returns : tie.Need-returns
 returns c = rw (c .before .before .before .match .keys1) (simp and-true (c .tried .ensures))

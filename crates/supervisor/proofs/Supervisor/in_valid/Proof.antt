@@ -1,11 +1,10 @@
 use borrow.Author.Tests.{ne-eqb}
-use borrow.Author.Needs.{needs}
 use Rattle.supervisor.proofs.Laws.{same-both}
 use Rattle.supervisor.proofs.Supervisor.in_valid.Statement.{statement}
 use Rattle.supervisor.proofs.Supervisor.in_valid.Tie as tie
 
 entered-requires : tie.Need-entered-requires
-entered-requires c κs = search needs
+entered-requires c κs = tt
 
 returns : tie.Need-returns
 returns c = rw (c .before .match .keys1) (c .entered .ensures)

@@ -1,9 +1,8 @@
-use borrow.Author.Needs.{needs}
 use Rattle.supervisor.proofs.Supervisor.told.Statement.{statement}
 use Rattle.supervisor.proofs.Supervisor.told.Tie as tie
 
 entered-requires : tie.Need-entered-requires
-entered-requires c κs = search needs
+entered-requires c κs = tt
 
 returns : tie.Need-returns
 returns c = simp (c .before .if1 .taken) (c .entered .ensures)
