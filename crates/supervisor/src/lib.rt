@@ -58,6 +58,8 @@ impl Supervisor {
     pub const SETTLING: u32 = 1000;
     // The tick since its opening that ends an attempt.
     pub const ATTEMPT: u32 = 15000;
+    // The phase in which an attempt ends well: data mode.
+    const DATA_MODE: u32 = phase::SETTLING;
     // Phase ticks stay here once there.
     pub const MOST_TICKS: u32 = 59999;
     // The silence that 0 stands for.

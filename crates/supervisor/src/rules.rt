@@ -220,8 +220,8 @@ impl Supervisor {
         ensures { λ r. ⌜ r ≡ acted (rowOf Tr (ntu (self .silence))) self code ⌝ }
     {
         match code {
-            code::TICK => self.tried(false, 0, phase::SETTLING),
-            code::F_C_OVER => self.entered(phase::SETTLING, 0),
+            code::TICK => self.tried(false, 0, Self::DATA_MODE),
+            code::F_C_OVER => self.entered(Self::DATA_MODE, 0),
             code::ABNORMAL => self.entered(phase::EXCEPTION, 0),
             _ => self,
         }
@@ -246,8 +246,8 @@ impl Supervisor {
         ensures { λ r. ⌜ r ≡ acted (rowOf Fc (ltu (self .silence))) self code ⌝ }
     {
         match code {
-            code::TICK => self.tried(false, 0, phase::SETTLING),
-            code::F_C_OVER => self.entered(phase::SETTLING, 0),
+            code::TICK => self.tried(false, 0, Self::DATA_MODE),
+            code::F_C_OVER => self.entered(Self::DATA_MODE, 0),
             code::ABNORMAL => self.entered(phase::EXCEPTION, 0),
             _ => self,
         }
