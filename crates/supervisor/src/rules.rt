@@ -63,16 +63,15 @@ impl Supervisor {
         self
     }
 
-    // A tick in a phase outside an attempt: the limit is tested on the count itself, and not on the held one.
+    // A tick in a phase outside an attempt: the limit is tested first, the hold second.
     fn waited(self, limit: u32, next: u32) -> Supervisor
         requires { ⌜ self .ticks ≤ mostTicks ⌝ }
         ensures { λ r. ⌜ r ≡ cond (leb limit (self .ticks + 1)) (entered self next 0) (counted self (self .attempt)) ⌝ }
     {
-        let held = self.counted(self.attempt);
         if limit <= self.ticks + 1 {
             self.entered(next, 0)
         } else {
-            held
+            self.counted(self.attempt)
         }
     }
 
