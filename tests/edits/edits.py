@@ -4,7 +4,10 @@ An edit may hold several wrong programs, each in a function of its own and under
 proved against its own code and its callees' contracts, so one wrong function does not hide another. The prover's log, which rt ci leaves
 in target/must-fail, has to have an error in the proof of each FUNCTION, and one that is not just about another proof that was refused.
 
-An edit of a definition has no such line. The first error in its log has to stand in a proof: one in specs/ would mean that the edited
+Several edits of definitions share a file in the same way, each under a line `# NAME (proofs/MODULE): what is wrong` with the module whose
+laws no longer hold: the log has to have such an error in that module's file.
+
+An edit of one definition has no such line. The first error in its log has to stand in a proof: one in specs/ would mean that the edited
 definition is no definition, as where it names what its crate does not.
 """
 import pathlib
@@ -18,7 +21,9 @@ NAMELESS = r": error: .*(no module is found|can be named from here|has no field|
 
 
 def refused(log, crate, function):
-    """Whether the log has a fact that fails in this function's own proof."""
+    """Whether the log has a fact that fails in this function's own proof, or in this module of proofs/."""
+    if function.startswith("proofs/"):
+        return re.search(rf"/{function}\.antt:\d+:\d+: error: (?!.*was not admitted)", log)
     own = rf"/proofs/{function.replace('::', '/')}/Proof\.antt:\d+:\d+: error: (?!.*was not admitted)"
     searched = rf"^fn {crate}::{function}: no proof: .*`search` does not close"
     named = re.search(rf"^fn {crate}::{function}: (not proved|no proof)", log, re.M)
@@ -28,7 +33,7 @@ def refused(log, crate, function):
 edits = sorted(ROOT.glob("crates/*/must-fail/*.edit"))
 for edit in edits:
     crate = edit.parts[-3]
-    programs = re.findall(r"^# (\w+) \(([\w:]+)\)", edit.read_text(), re.M)
+    programs = re.findall(r"^# (\w+) \(([\w:/]+)\)", edit.read_text(), re.M)
     log = ROOT / "target" / "must-fail" / crate / edit.stem / ".log"
     text = log.read_text() if log.exists() else ""
     nameless = re.search(NAMELESS, text, re.M)

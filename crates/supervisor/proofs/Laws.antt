@@ -6,14 +6,14 @@ use mathlib.Core.Path.{_≡_, refl, sym, ap, subst, _∙_}
 use mathlib.Core.Logic.{_⊎_, inl, inr, ⊎-elim}
 use mathlib.Core.Bool.{Bool, true, false, cond, not, _||_, false≢true}
 use mathlib.Core.List.{[], _∷_}
-use borrow.Author.Tests.{ltb-false, leb-true, leb-false, not-false, ne-eqb}
+use borrow.Author.Tests.{lt-ltb, le-ltb, ltb-false, leb-true, leb-false, not-false, ne-eqb}
 use lib.Dec.{ltb, leb, eqb}
 use Rattle.answer.specs.Answer.{refuse, answer}
 use Rattle.answer.proofs.Laws.{none}
 use Rattle.supervisor.specs.declared.Supervisor.{Supervisor}
 use Rattle.supervisor.specs.declared.Answer.{Answer}
 use Rattle.supervisor.specs.Phases.{Ready, Row, ntu, ltu, phasesOf, isOf, rowOf}
-use Rattle.supervisor.specs.Step.{acted, moved, stateRefusals, answered, none as noState, silenceOf, startRefusals, fresh, startOf}
+use Rattle.supervisor.specs.Step.{acted, moved, stateRefusals, answered, stepOf, none as noState, silenceOf, startRefusals, fresh, startOf}
 
 -- the same either way
 pub same-both : {A : Type 0} (b : Bool) (x : A) → cond b x x ≡ x
@@ -89,7 +89,7 @@ each P a b c d e f g h i j k l m n p le =
     top n z = eq-or-lt-of-le z
 
 -- no end has a phase over 13
-pub beyond : (p : ℕ) (b : Bool) (silence : ℕ) → 13 < p → isOf p (cond b (ntu silence) (ltu silence)) ≡ false
+beyond : (p : ℕ) (b : Bool) (silence : ℕ) → 13 < p → isOf p (cond b (ntu silence) (ltu silence)) ≡ false
 beyond p b silence h = go b
   where
     no : (k : ℕ) → k ≤ 13 → eqb p k ≡ false
@@ -133,7 +133,7 @@ pub of-ltu : (b : Bool) (silence p : ℕ) → (p ≡ 2) ⊎ ((p ≡ 4) ⊎ ((p �
 of-ltu true silence p h = ⊎-elim (λ q. rw q) (⊎-elim (λ q. rw q) (⊎-elim (λ q. rw q) (⊎-elim (λ q. rw q) (λ q. rw q)))) h
 of-ltu false silence p h = ⊎-elim (λ q. rw q) (⊎-elim (λ q. rw q) (⊎-elim (λ q. rw q) (⊎-elim (λ q. rw q) (λ q. rw q)))) h
 
-pub of-both : (b : Bool) (silence p : ℕ) → p ≤ 13 → ((p ≡ 1) ⊎ ((p ≡ 3) ⊎ ((p ≡ 7) ⊎ (p ≡ 9))) → ⊥)
+of-both : (b : Bool) (silence p : ℕ) → p ≤ 13 → ((p ≡ 1) ⊎ ((p ≡ 3) ⊎ ((p ≡ 7) ⊎ (p ≡ 9))) → ⊥)
     → ((p ≡ 2) ⊎ ((p ≡ 4) ⊎ ((p ≡ 6) ⊎ ((p ≡ 8) ⊎ (p ≡ 10)))) → ⊥) → true ≡ isOf p (cond b (ntu silence) (ltu silence))
 of-both b silence p h =
     each (λ p. ((p ≡ 1) ⊎ ((p ≡ 3) ⊎ ((p ≡ 7) ⊎ (p ≡ 9))) → ⊥) → ((p ≡ 2) ⊎ ((p ≡ 4) ⊎ ((p ≡ 6) ⊎ ((p ≡ 8) ⊎ (p ≡ 10)))) → ⊥)
@@ -149,6 +149,11 @@ of-both b silence p h =
     go : (b : Bool) (k : ℕ) → true ≡ isOf k (ntu silence) → true ≡ isOf k (ltu silence) → true ≡ isOf k (cond b (ntu silence) (ltu silence))
     go true k n l = n
     go false k n l = l
+
+pub of-rest : (b : Bool) (silence p : ℕ) → ((p ≡ 1) ⊎ ((p ≡ 3) ⊎ ((p ≡ 7) ⊎ (p ≡ 9))) → ⊥)
+    → ((p ≡ 2) ⊎ ((p ≡ 4) ⊎ ((p ≡ 6) ⊎ ((p ≡ 8) ⊎ (p ≡ 10)))) → ⊥) → leb p 13 ≡ isOf p (cond b (ntu silence) (ltu silence))
+of-rest b silence p n l =
+    by-cases (leb p 13) (λ t. t ∙ of-both b silence p (leb-true _ _ t) n l) (λ f. f ∙ sym (beyond p b silence (leb-false _ _ f)))
 
 -- an end's phase is at most 13
 pub within : (p : ℕ) (b : Bool) (silence : ℕ) → isOf p (cond b (ntu silence) (ltu silence)) ≡ true → p ≤ 13
@@ -210,6 +215,17 @@ module _ (s : Supervisor) (c p : ℕ) {x : Supervisor} (at : s .phase ≡ p) (ta
 pub refused-is : (n : ℕ) (old new : Supervisor) → (n ≡ 0 → ⊥) → record { answer = n; phase = 0; attempt = 0; state = old } ≡ answered n old new
 refused-is zero old new h = absurd (h refl)
 refused-is (suc n) old new h = refl
+
+module _ (s : Supervisor) (c : ℕ) where
+  -- a step is refused for its code, taken, or refused for its state
+  pub step-unknown : 8 < c → record { answer = 2; phase = 0; attempt = 0; state = s } ≡ stepOf s c
+  step-unknown h = rw (lt-ltb 8 c h)
+
+  pub step-taken : {t : Supervisor} {r : Answer} → c ≤ 8 → answer (stateRefusals s) ≡ 0 → t ≡ moved s c → r ≡ answered 0 t t → r ≡ stepOf s c
+  step-taken h z m g = rw (le-ltb 8 c h, z) (g ∙ ap (λ (u : Supervisor). answered 0 u u) m)
+
+  pub step-refused : {n : ℕ} → c ≤ 8 → n ≡ answer (stateRefusals s) → (n ≡ 0 → ⊥) → record { answer = n; phase = 0; attempt = 0; state = s } ≡ stepOf s c
+  step-refused {n} h e z = rw (le-ltb 8 c h, ← e) (refused-is n s (moved s c) z)
 
 -- a start is refused as its fresh state is
 fresh-refusal : (end silence : ℕ) → answer (stateRefusals (fresh end (silenceOf silence))) ≡ answer (startRefusals end silence)

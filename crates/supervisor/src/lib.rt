@@ -1,4 +1,5 @@
 // The start-up supervisor (000, clauses 4.1.2 and 4.1.8): a state by value, and one step for each code.
+ghost use Prim.Native.Nat.{ℕ};
 ghost use mathlib.Core.Path.{_≡_};
 ghost use mathlib.Core.Bool.{_||_};
 ghost use lib.Dec.{ltb};
@@ -57,6 +58,8 @@ impl Supervisor {
     pub const SETTLING: u32 = 1000;
     // The tick since its opening that ends an attempt.
     pub const ATTEMPT: u32 = 15000;
+    // The phase in which an attempt ends well: data mode.
+    const DATA_MODE: u32 = phase::SETTLING;
     // Phase ticks stay here once there.
     pub const MOST_TICKS: u32 = 59999;
     // The silence that 0 stands for.
@@ -66,40 +69,48 @@ impl Supervisor {
     // The longest.
     pub const LONGEST_SILENCE: u32 = 60000;
 
-    // A card that is ready. The end is 2 where unknown, a silence out of its range 4, and then there is no state: all zeros.
+    // No state: every number is 0, which each later step refuses.
+    const NONE: Supervisor = Supervisor {
+        end: 0,
+        phase: 0,
+        ticks: 0,
+        attempt: 0,
+        silence: 0,
+        converged: 0,
+        seen: 0,
+    };
+
+    // A card that is ready. The end is 2 where unknown, a silence out of its range 4, and then there is no state.
     pub fn start(end: u32, silence: u32) -> Answer
         ensures { λ r. ⌜ r ≡ startOf end silence ⌝ }
     {
-        let state = Self::fresh(end, Self::meant(silence));
+        let state = Self::fresh(end, silence);
         let refusal = state.refusal();
-        if refusal == answer::DONE {
-            state.answered()
-        } else {
-            Self::fresh(0, 0).refused(refusal)
+        match refusal {
+            answer::DONE => state.answered(),
+            _ => Answer {
+                answer: refusal,
+                phase: 0,
+                attempt: 0,
+                state: Self::NONE,
+            },
         }
     }
 
-    // The silence that is meant: 0 stands for the default.
-    fn meant(silence: u32) -> u32
-        ensures { λ r. ⌜ r ≡ silenceOf silence ⌝ }
-    {
-        if silence == 0 {
-            Self::DEFAULT_SILENCE
-        } else {
-            silence
-        }
-    }
-
-    // A card that is ready. With 0 and 0 every number is 0: no state, which each later step refuses.
+    // A card that is ready. A silence of 0 stands for the default.
     fn fresh(end: u32, silence: u32) -> Supervisor
-        ensures { λ r. ⌜ r ≡ fresh end silence ⌝ }
+        ensures { λ r. ⌜ r ≡ fresh end (silenceOf silence) ⌝ }
     {
         Supervisor {
             end,
             phase: phase::READY,
             ticks: 0,
             attempt: 0,
-            silence,
+            silence: if silence == 0 {
+                Self::DEFAULT_SILENCE
+            } else {
+                silence
+            },
             converged: 0,
             seen: 0,
         }
@@ -110,13 +121,22 @@ impl Supervisor {
         ensures { λ r. ⌜ r ≡ stepOf self code ⌝ }
     {
         if code::ABNORMAL < code {
-            return self.refused(answer::UNKNOWN);
+            return Answer {
+                answer: answer::UNKNOWN,
+                phase: 0,
+                attempt: 0,
+                state: self,
+            };
         }
         let refusal = self.refusal();
-        if refusal == answer::DONE {
-            self.moved(code).answered()
-        } else {
-            self.refused(refusal)
+        match refusal {
+            answer::DONE => self.moved(code).answered(),
+            _ => Answer {
+                answer: refusal,
+                phase: 0,
+                attempt: 0,
+                state: self,
+            },
         }
     }
 
@@ -125,9 +145,10 @@ impl Supervisor {
         ensures { λ r. ⌜ r ≡ answer (stateRefusals self) ⌝ }
     {
         if Self::NTU < self.end {
-            return answer::UNKNOWN;
-        }
-        if !self.has_phase() | Self::outside(self.attempt, self.ticks, self.silence) {
+            answer::UNKNOWN
+        } else if !Self::has_phase(self.end, self.phase)
+            | Self::outside(self.attempt, self.ticks, self.silence)
+        {
             answer::RANGE
         } else {
             answer::DONE
@@ -145,30 +166,14 @@ impl Supervisor {
     }
 
     // Whether the phase is one of the end's. Both ends have Ready, Quiet, Settling, Valid and Exception.
-    fn has_phase(self) -> bool
-        ensures { λ r. ⌜ r ≡ isOf (self .phase) (phasesOf (self .end) (self .silence)) ⌝ }
+    fn has_phase(end: u32, phase: u32) -> bool
+        ensures { λ r. ⌜ ((silence : ℕ) → r ≡ isOf phase (phasesOf end silence)) ⌝ }
     {
-        let phase = self.phase;
-        if phase::EXCEPTION < phase {
-            return false;
-        }
         match phase {
-            phase::GAP | phase::C_R | phase::S_R | phase::T_R => self.end == Self::NTU,
-            phase::AWAIT | phase::HEARING | phase::S_C | phase::T_C | phase::F_C => self.end
+            phase::GAP | phase::C_R | phase::S_R | phase::T_R => end == Self::NTU,
+            phase::AWAIT | phase::HEARING | phase::S_C | phase::T_C | phase::F_C => end
                 != Self::NTU,
-            _ => true,
-        }
-    }
-
-    // The answer with this number, and the state as it was handed in.
-    fn refused(self, number: u32) -> Answer
-        ensures { λ r. ⌜ r ≡ record { answer = number; phase = 0; attempt = 0; state = self } ⌝ }
-    {
-        Answer {
-            answer: number,
-            phase: 0,
-            attempt: 0,
-            state: self,
+            _ => phase <= phase::EXCEPTION,
         }
     }
 

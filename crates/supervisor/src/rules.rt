@@ -36,49 +36,31 @@ impl Supervisor {
         }
     }
 
-    // Every changed state is built here: the end and the silence stay.
-    fn changed(self, phase: u32, ticks: u32, attempt: u32, converged: u32, seen: u32) -> Supervisor
-        ensures { λ r. ⌜ r ≡ changed self phase ticks attempt converged seen ⌝ }
+    // A phase is entered: its ticks are 0 and its marks unheard, whatever was heard before it. The end and the silence stay.
+    fn entered(self, phase: u32, attempt: u32) -> Supervisor
+        ensures { λ r. ⌜ r ≡ entered self phase attempt ⌝ }
     {
         Supervisor {
             end: self.end,
             phase,
-            ticks,
+            ticks: 0,
             attempt,
             silence: self.silence,
-            converged,
-            seen,
+            converged: 0,
+            seen: 0,
         }
-    }
-
-    // A phase is entered: its ticks are 0 and its marks unheard, whatever was heard before it.
-    fn entered(self, phase: u32, attempt: u32) -> Supervisor
-        ensures { λ r. ⌜ r ≡ entered self phase attempt ⌝ }
-    {
-        self.changed(phase, 0, attempt, 0, 0)
     }
 
     // The phase goes on after a tick, held at 59,999.
-    fn counted(self, attempt: u32) -> Supervisor
+    fn counted(mut self, attempt: u32) -> Supervisor
+        requires { ⌜ self .ticks ≤ mostTicks ⌝ }
         ensures { λ r. ⌜ r ≡ counted self attempt ⌝ }
     {
         if self.ticks < Self::MOST_TICKS {
-            self.changed(
-                self.phase,
-                self.ticks + 1,
-                attempt,
-                self.converged,
-                self.seen,
-            )
-        } else {
-            self.changed(
-                self.phase,
-                Self::MOST_TICKS,
-                attempt,
-                self.converged,
-                self.seen,
-            )
+            self.ticks = self.ticks + 1;
         }
+        self.attempt = attempt;
+        self
     }
 
     // A tick in a phase outside an attempt: the limit is tested first, the hold second.
@@ -100,10 +82,10 @@ impl Supervisor {
             (cond (heard && leb lasts (self .ticks + 1)) (entered self next (self .attempt + 1)) (counted self (self .attempt + 1))) ⌝ }
     {
         let attempt = self.attempt + 1;
+        let over = heard & (lasts <= self.ticks + 1);
         if Self::ATTEMPT <= attempt {
-            return self.entered(phase::EXCEPTION, 0);
-        }
-        if heard & (lasts <= self.ticks + 1) {
+            self.entered(phase::EXCEPTION, 0)
+        } else if over {
             self.entered(next, attempt)
         } else {
             self.counted(attempt)
@@ -111,35 +93,16 @@ impl Supervisor {
     }
 
     // A report that a phase of an attempt awaits: with it the phase is over, or goes on with these marks.
-    fn told(self, over: bool, next: u32, converged: u32, seen: u32) -> Supervisor
+    fn told(mut self, over: bool, next: u32, converged: u32, seen: u32) -> Supervisor
         ensures { λ r. ⌜ r ≡ cond over (entered self next (self .attempt)) (changed self (self .phase) (self .ticks) (self .attempt) converged seen) ⌝ }
     {
         if over {
             self.entered(next, self.attempt)
         } else {
-            self.changed(self.phase, self.ticks, self.attempt, converged, seen)
+            self.converged = converged;
+            self.seen = seen;
+            self
         }
-    }
-
-    // Code 8 starts Exception, from every phase but Exception.
-    fn abnormal(self) -> Supervisor
-        ensures { λ r. ⌜ r ≡ entered self Exception 0 ⌝ }
-    {
-        self.entered(phase::EXCEPTION, 0)
-    }
-
-    // There it starts the silence again: that is no change of phase, so the rest stays as handed in.
-    fn silent_again(self) -> Supervisor
-        ensures { λ r. ⌜ r ≡ changed self (self .phase) 0 (self .attempt) (self .converged) (self .seen) ⌝ }
-    {
-        self.changed(self.phase, 0, self.attempt, self.converged, self.seen)
-    }
-
-    // The attempt ends in data mode.
-    fn data_mode(self) -> Supervisor
-        ensures { λ r. ⌜ r ≡ entered self Settling 0 ⌝ }
-    {
-        self.entered(phase::SETTLING, 0)
     }
 
     // Ready until 1, which starts Gap at the NTU and Await at the LTU.
@@ -153,7 +116,7 @@ impl Supervisor {
             } else {
                 self.entered(phase::AWAIT, 0)
             },
-            code::ABNORMAL => self.abnormal(),
+            code::ABNORMAL => self.entered(phase::EXCEPTION, 0),
             _ => self,
         }
     }
@@ -165,7 +128,7 @@ impl Supervisor {
     {
         match code {
             code::TICK => self.waited(Self::GAP, phase::C_R),
-            code::ABNORMAL => self.abnormal(),
+            code::ABNORMAL => self.entered(phase::EXCEPTION, 0),
             _ => self,
         }
     }
@@ -176,7 +139,7 @@ impl Supervisor {
     {
         match code {
             code::C_R_BEGINS => self.entered(phase::HEARING, 0),
-            code::ABNORMAL => self.abnormal(),
+            code::ABNORMAL => self.entered(phase::EXCEPTION, 0),
             _ => self,
         }
     }
@@ -188,7 +151,7 @@ impl Supervisor {
     {
         match code {
             code::TICK => self.tried(true, Self::C_R, phase::QUIET),
-            code::ABNORMAL => self.abnormal(),
+            code::ABNORMAL => self.entered(phase::EXCEPTION, 0),
             _ => self,
         }
     }
@@ -201,7 +164,7 @@ impl Supervisor {
         match code {
             code::TICK => self.tried(false, 0, phase::QUIET),
             code::C_R_ENDED => self.entered(phase::QUIET, self.attempt),
-            code::ABNORMAL => self.abnormal(),
+            code::ABNORMAL => self.entered(phase::EXCEPTION, 0),
             _ => self,
         }
     }
@@ -218,7 +181,7 @@ impl Supervisor {
             } else {
                 self.tried(true, Self::LTU_QUIET, phase::S_C)
             },
-            code::ABNORMAL => self.abnormal(),
+            code::ABNORMAL => self.entered(phase::EXCEPTION, 0),
             _ => self,
         }
     }
@@ -232,7 +195,7 @@ impl Supervisor {
             code::TICK => self.tried((self.converged != 0) & (self.seen != 0), 0, phase::T_R),
             code::CONVERGED => self.told(self.seen != 0, phase::T_R, 1, self.seen),
             code::T_C_SEEN => self.told(self.converged != 0, phase::T_R, self.converged, 1),
-            code::ABNORMAL => self.abnormal(),
+            code::ABNORMAL => self.entered(phase::EXCEPTION, 0),
             _ => self,
         }
     }
@@ -245,7 +208,7 @@ impl Supervisor {
         match code {
             code::TICK => self.tried(self.converged != 0, Self::S_C, phase::T_C),
             code::CONVERGED => self.told(Self::S_C <= self.ticks, phase::T_C, 1, self.seen),
-            code::ABNORMAL => self.abnormal(),
+            code::ABNORMAL => self.entered(phase::EXCEPTION, 0),
             _ => self,
         }
     }
@@ -256,9 +219,9 @@ impl Supervisor {
         ensures { λ r. ⌜ r ≡ acted (rowOf Tr (ntu (self .silence))) self code ⌝ }
     {
         match code {
-            code::TICK => self.tried(false, 0, phase::SETTLING),
-            code::F_C_OVER => self.data_mode(),
-            code::ABNORMAL => self.abnormal(),
+            code::TICK => self.tried(false, 0, Self::DATA_MODE),
+            code::F_C_OVER => self.entered(Self::DATA_MODE, 0),
+            code::ABNORMAL => self.entered(phase::EXCEPTION, 0),
             _ => self,
         }
     }
@@ -271,7 +234,7 @@ impl Supervisor {
         match code {
             code::TICK => self.tried(false, 0, phase::F_C),
             code::T_R_SEEN => self.entered(phase::F_C, self.attempt),
-            code::ABNORMAL => self.abnormal(),
+            code::ABNORMAL => self.entered(phase::EXCEPTION, 0),
             _ => self,
         }
     }
@@ -282,9 +245,9 @@ impl Supervisor {
         ensures { λ r. ⌜ r ≡ acted (rowOf Fc (ltu (self .silence))) self code ⌝ }
     {
         match code {
-            code::TICK => self.tried(false, 0, phase::SETTLING),
-            code::F_C_OVER => self.data_mode(),
-            code::ABNORMAL => self.abnormal(),
+            code::TICK => self.tried(false, 0, Self::DATA_MODE),
+            code::F_C_OVER => self.entered(Self::DATA_MODE, 0),
+            code::ABNORMAL => self.entered(phase::EXCEPTION, 0),
             _ => self,
         }
     }
@@ -296,7 +259,7 @@ impl Supervisor {
     {
         match code {
             code::TICK => self.waited(Self::SETTLING, phase::VALID),
-            code::ABNORMAL => self.abnormal(),
+            code::ABNORMAL => self.entered(phase::EXCEPTION, 0),
             _ => self,
         }
     }
@@ -306,19 +269,22 @@ impl Supervisor {
         ensures { λ r. ⌜ r ≡ acted (rowOf Valid (ntu (self .silence))) self code ⌝ }
     {
         match code {
-            code::ABNORMAL => self.abnormal(),
+            code::ABNORMAL => self.entered(phase::EXCEPTION, 0),
             _ => self,
         }
     }
 
-    // Exception for the silence.
-    fn in_exception(self, code: u32) -> Supervisor
+    // Exception for the silence. An 8 starts it again: that is no change of phase, so the rest stays as handed in.
+    fn in_exception(mut self, code: u32) -> Supervisor
         requires { ⌜ self .ticks ≤ mostTicks ⌝ }
         ensures { λ r. ⌜ r ≡ acted (rowOf Exception (ntu (self .silence))) self code ⌝ }
     {
         match code {
             code::TICK => self.waited(self.silence, phase::READY),
-            code::ABNORMAL => self.silent_again(),
+            code::ABNORMAL => {
+                self.ticks = 0;
+                self
+            },
             _ => self,
         }
     }

@@ -1,10 +1,9 @@
 use mathlib.Core.Path.{sym, _∙_}
-use borrow.Author.Needs.{needs}
 use Rattle.supervisor.proofs.Supervisor.answered.Statement.{statement}
 use Rattle.supervisor.proofs.Supervisor.answered.Tie as tie
 
 in-attempt-requires : tie.Need-in-attempt-requires
-in-attempt-requires c κs = search needs
+in-attempt-requires c κs = tt
 
 returns : tie.Need-returns
 returns c = simp (sym (c .before .in-attempt .ensures) ∙ c .if1 .taken)

@@ -1,21 +1,20 @@
 use mathlib.Core.Bool.{and-true}
 use borrow.Author.Tests.{ne-eqb}
-use borrow.Author.Needs.{needs}
 use lib.Dec.{leb·zero}
 use Rattle.supervisor.proofs.Supervisor.in_sr.Statement.{statement}
 use Rattle.supervisor.proofs.Supervisor.in_sr.Tie as tie
 
 tried-requires : tie.Need-tried-requires
-tried-requires c κs = search needs
+tried-requires c κs = c .before .before .before .pre
 
 told-requires : tie.Need-told-requires
-told-requires c κs = search needs
+told-requires c κs = tt
 
 told-requires-2 : tie.Need-told-requires-2
-told-requires-2 c κs = search needs
+told-requires-2 c κs = tt
 
-abnormal-requires : tie.Need-abnormal-requires
-abnormal-requires c κs = search needs
+entered-requires : tie.Need-entered-requires
+entered-requires c κs = tt
 
 returns : tie.Need-returns
 returns c = rw (c .before .before .before .match .keys1) (simp and-true (c .tried .ensures))
@@ -27,7 +26,7 @@ returns-3 : tie.Need-returns-3
 returns-3 c = rw (c .before .before .match .keys3) (simp (leb·zero, and-true) (c .told2 .ensures))
 
 returns-4 : tie.Need-returns-4
-returns-4 c = rw (c .before .match .keys4) (c .abnormal .ensures)
+returns-4 c = rw (c .before .match .keys4) (c .entered .ensures)
 
 returns-5 : tie.Need-returns-5
 returns-5 c =
@@ -35,4 +34,4 @@ returns-5 c =
 
 pub in-sr-spec : {M : Type 1} → statement M
 in-sr-spec =
-    tie.close (tie.spec tried-requires told-requires told-requires-2 abnormal-requires returns returns-2 returns-3 returns-4 returns-5)
+    tie.close (tie.spec tried-requires told-requires told-requires-2 entered-requires returns returns-2 returns-3 returns-4 returns-5)

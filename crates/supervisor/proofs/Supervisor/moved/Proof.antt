@@ -1,7 +1,6 @@
 -- Each arm is the rule of the state's phase.
 use native.Mathlib.Nat.{le-antisymm}
 use mathlib.Core.Path.{refl}
-use borrow.Author.Needs.{needs}
 use lib.Dec.{eqb}
 use Rattle.supervisor.specs.Phases.{Ready, Gap, Await, Cr, Hearing, Quiet, Sc, Sr, Tc, Tr, Fc, Settling, Valid, Exception}
 use Rattle.supervisor.proofs.Laws.{legal, within, none-below, by-end, by-either, by-ntu, by-ltu}
@@ -9,13 +8,13 @@ use Rattle.supervisor.proofs.Supervisor.moved.Statement.{statement}
 use Rattle.supervisor.proofs.Supervisor.moved.Tie as tie
 
 in-ready-requires : tie.Need-in-ready-requires
-in-ready-requires c κs = search needs
+in-ready-requires c κs = tt
 
 in-gap-requires : tie.Need-in-gap-requires
 in-gap-requires c κs = legal (c .before .args .self) (c .before .pre) .ticks
 
 in-await-requires : tie.Need-in-await-requires
-in-await-requires c κs = search needs
+in-await-requires c κs = tt
 
 in-cr-requires : tie.Need-in-cr-requires
 in-cr-requires c κs = let h = legal (c .before .args .self) (c .before .pre) in (h .ticks, h .attempt)
@@ -45,7 +44,7 @@ in-settling-requires : tie.Need-in-settling-requires
 in-settling-requires c κs = legal (c .before .args .self) (c .before .pre) .ticks
 
 in-valid-requires : tie.Need-in-valid-requires
-in-valid-requires c κs = search needs
+in-valid-requires c κs = tt
 
 in-exception-requires : tie.Need-in-exception-requires
 in-exception-requires c κs = legal (c .before .args .self) (c .before .pre) .ticks

@@ -1,5 +1,4 @@
 use borrow.Author.Tests.{lt-ltb, le-ltb}
-use borrow.Author.Needs.{needs}
 use Rattle.supervisor.proofs.Laws.{either-gives}
 use Rattle.supervisor.proofs.Supervisor.refusal.Statement.{statement}
 use Rattle.supervisor.proofs.Supervisor.refusal.Tie as tie
@@ -8,10 +7,10 @@ returns : tie.Need-returns
 returns c = simp (lt-ltb _ _ (c .if1 .taken))
 
 has-phase-requires : tie.Need-has-phase-requires
-has-phase-requires c κs = search needs
+has-phase-requires c κs = tt
 
 outside-requires : tie.Need-outside-requires
-outside-requires c κs = search needs
+outside-requires c κs = tt
 
 returns-2 : tie.Need-returns-2
 returns-2 c =
@@ -34,4 +33,4 @@ returns-3 c =
     )
 
 pub refusal-spec : {M : Type 1} → statement M
-refusal-spec = tie.close (tie.spec returns has-phase-requires outside-requires returns-2 returns-3)
+refusal-spec = tie.close (tie.spec has-phase-requires outside-requires returns returns-2 returns-3)

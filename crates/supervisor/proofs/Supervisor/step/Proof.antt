@@ -1,48 +1,40 @@
-use mathlib.Core.Path.{sym, ap, _∙_}
-use borrow.Author.Tests.{lt-ltb, le-ltb}
-use borrow.Author.Needs.{needs}
-use Rattle.supervisor.specs.Step.{answered}
-use Rattle.supervisor.proofs.Laws.{refused-is}
+use mathlib.Core.Path.{sym, _∙_}
+use Rattle.supervisor.proofs.Laws.{step-unknown, step-taken, step-refused}
 use Rattle.supervisor.proofs.Supervisor.step.Statement.{statement}
 use Rattle.supervisor.proofs.Supervisor.step.Tie as tie
 
-refused-requires : tie.Need-refused-requires
-refused-requires c κs = search needs
-
 returns : tie.Need-returns
-returns c = simp (lt-ltb _ _ (c .before .if1 .taken)) (c .refused .ensures)
+returns c = let a = c .before .args in step-unknown (a .self) (a .code) (c .if1 .taken)
 
 refusal-requires : tie.Need-refusal-requires
-refusal-requires c κs = search needs
+refusal-requires c κs = tt
 
 moved-requires : tie.Need-moved-requires
-moved-requires c κs = sym (c .before .refusal .ensures) ∙ c .if2 .taken
+moved-requires c κs = sym (c .before .refusal .ensures) ∙ c .match .keys1
 
 answered-requires : tie.Need-answered-requires
-answered-requires c κs = search needs
-
-refused-requires-2 : tie.Need-refused-requires-2
-refused-requires-2 c κs = search needs
+answered-requires c κs = tt
 
 returns-2 : tie.Need-returns-2
 returns-2 c =
-    simp (le-ltb _ _ (c .before .before .before .before .if1 .left), sym (c .before .before .before .refusal .ensures) ∙ c .before .before .if2 .taken)
-    (c .answered .ensures ∙ ap (λ s. answered 0 s s) (c .before .moved .ensures))
+    let a = c .before .before .before .before .before .args in
+    step-taken (a .self) (a .code) (c .before .before .before .before .if1 .left)
+    (sym (c .before .before .before .refusal .ensures) ∙ c .before .before .match .keys1)
+    (c .before .moved .ensures)
+    (c .answered .ensures)
 
 returns-3 : tie.Need-returns-3
 returns-3 c =
-    simp (le-ltb _ _ (c .before .before .before .if1 .left), ← c .before .before .refusal .ensures)
-    (c .refused2 .ensures ∙ refused-is _ _ _ (c .before .if2 .left))
+    let a = c .before .before .before .args in
+    step-refused (a .self) (a .code) (c .before .before .if1 .left) (c .before .refusal .ensures) (c .match .rest .1)
 
 pub step-spec : {M : Type 1} → statement M
 step-spec =
     tie.close
     (tie.spec
-    refused-requires
     returns
     refusal-requires
     moved-requires
     answered-requires
-    refused-requires-2
     returns-2
     returns-3)

@@ -7,7 +7,7 @@ add-if1 : tie.Need-add-if1
 add-if1 c = search needs
 
 entered-requires : tie.Need-entered-requires
-entered-requires c κs = search needs
+entered-requires c κs = tt
 
 counted-requires : tie.Need-counted-requires
 counted-requires c κs = search needs
