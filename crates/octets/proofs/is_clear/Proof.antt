@@ -1,11 +1,14 @@
 -- `octets::is_clear` meets its contract. The k bits passed have the value 0.
 use borrow.Author.Needs.{needs}
-use mathlib.Core.Path.{_≡_, refl, sym, ap, subst, _∙_}
-use Prim.Native.Nat.{ℕ, _+_, _-_, _≤_, min}
+use mathlib.Core.Path.{_≡_, refl, sym, ap, ap₂, _∙_}
+use Prim.Native.Nat.{ℕ, _+_, _-_, _%_, _≤_}
 use native.Mathlib.Omega.{arith}
-use borrow.Author.Tests.{eq-eqb, ne-eqb}
+use borrow.Author.Tests.{ne-eqb}
+use lib.Dec.{eqb}
+use lib.Pow.{pow-pos}
 use Rattle.octets.specs.Bits.{bitsOf, valueOf, part}
-use Rattle.octets.proofs.Laws.{clear-next, clear-not}
+use Rattle.octets.proofs.Laws.{clear-next, clear-not, clear-last}
+use Rattle.octets.proofs.Words.{size-is, front-value}
 use Rattle.octets.proofs.is_clear.Statement.{statement}
 use Rattle.octets.proofs.is_clear.Tie as tie
 
@@ -19,53 +22,56 @@ loop-holds : tie.Need-loop-holds Inv-loop μ-loop
 unfolding valueOf
 loop-holds c = (omega arith, refl)
 
-sub-taken : tie.Need-sub-taken Inv-loop μ-loop
-sub-taken c = omega arith
+sub-loop : tie.Need-sub-loop Inv-loop μ-loop
+sub-loop c = omega arith
 
-taken-requires : tie.Need-taken-requires Inv-loop μ-loop
-taken-requires c κs = search needs
-
-bits-requires : tie.Need-bits-requires Inv-loop μ-loop
-bits-requires c κs = search needs
-
--- what is read of the m bits
-read : (c : tie.After-bits Inv-loop μ-loop)
-    → c .bits .result
-    ≡ valueOf (part (c .before .before .before .before .before .args .at + c .before .before .before .loop .k) (c .before .taken .result) (bitsOf (c .before .before .before .before .before .args .s .now)))
-read c =
-    let a = c .before .before .before .before .before .args in
-    let m = c .before .taken in
-    let few : min (m .result) 56 ≡ m .result = omega (arith, m .ensures) in
-    c .bits .ensures ∙ ap (λ (j : ℕ). valueOf (part (a .at + c .before .before .before .loop .k) j (bitsOf (a .s .now)))) few
+long-requires : tie.Need-long-requires Inv-loop μ-loop
+long-requires c κs = search needs
 
 returns : tie.Need-returns Inv-loop μ-loop
 returns c =
-    let t = c .before .before in
-    let l = t .before .before .loop in
-    let a = t .before .before .before .before .args in
-    let m = t .taken in
-    sym (ne-eqb _ _ (clear-not (a .s .now) (a .at) (l .k) (m .result) (a .n) (omega (arith, m .ensures)) (λ z. c .if1 .taken (read (c .before) ∙ z))))
+    let l = c .before .before .before .loop in
+    let a = c .before .before .before .before .before .args in
+    sym (ne-eqb _ _ (clear-not (a .s .now) (a .at) (l .k) 64 (a .n) (omega arith) (λ z. c .if1 .taken (c .before .long .ensures ∙ z))))
 
 add-k : tie.Need-add-k Inv-loop μ-loop
-add-k c = omega (arith, c .before .before .taken .ensures)
+add-k c = omega arith
 
 loop-less : tie.Need-loop-less Inv-loop μ-loop
-loop-less c = omega (arith, c .before .before .taken .ensures)
+loop-less c = omega arith
 
 loop-again : tie.Need-loop-again Inv-loop μ-loop
 loop-again c =
-    let t = c .before .before in
-    let l = t .before .before .loop in
-    let a = t .before .before .before .before .args in
-    let m = t .taken in
-    (omega (arith, m .ensures), clear-next (a .s .now) (a .at) (l .k) (m .result) (l .inv .1) (sym (read (c .before)) ∙ c .if1 .left))
+    let l = c .before .before .before .loop in
+    let a = c .before .before .before .before .before .args in
+    (omega arith, clear-next (a .s .now) (a .at) (l .k) 64 (l .inv .1) (sym (c .before .long .ensures) ∙ c .if1 .left))
+
+long-requires-2 : tie.Need-long-requires-2 Inv-loop μ-loop
+long-requires-2 c κs = search needs
+
+sub-result : tie.Need-sub-result Inv-loop μ-loop
+sub-result c = omega arith
+
+cast-result : tie.Need-cast-result Inv-loop μ-loop
+cast-result c = omega arith
+
+shl-result : tie.Need-shl-result Inv-loop μ-loop
+shl-result c = omega arith
+
+rem-result : tie.Need-rem-result Inv-loop μ-loop
+rem-result c =
+    let m = c .before .before .before .before .args .n - c .before .before .loop .k in
+    omega (arith, size-is m (omega arith), pow-pos m)
 
 returns-2 : tie.Need-returns-2 Inv-loop μ-loop
 returns-2 c =
-    let a = c .before .before .before .args in
-    let l = c .before .loop in
-    let e : l .k ≡ a .n = omega arith in
-    sym (eq-eqb _ _ (subst (λ (k : ℕ). valueOf (part (a .at) k (bitsOf (a .s .now))) ≡ 0) e (l .inv .1)))
+    let l = c .before .before .loop in
+    let a = c .before .before .before .before .args in
+    let m = a .n - l .k in
+    let e : l .k + m ≡ a .n = omega arith in
+    ap (λ (x : ℕ). eqb x 0) (ap₂ (λ (x y : ℕ). x % y) (c .long2 .ensures) (size-is m (omega arith)) ∙ front-value (a .s .now) (a .at + l .k) m (omega arith))
+    ∙ clear-last (a .s .now) (a .at) (l .k) m (l .inv .1)
+    ∙ ap (λ (k : ℕ). eqb (valueOf (part (a .at) k (bitsOf (a .s .now)))) 0) e
 
 pub is-clear-spec : {M : Type 1} → statement M
 is-clear-spec =
@@ -74,11 +80,15 @@ is-clear-spec =
     Inv-loop
     μ-loop
     loop-holds
-    sub-taken
-    taken-requires
-    bits-requires
+    sub-loop
+    long-requires
     returns
     add-k
     loop-less
     loop-again
+    long-requires-2
+    sub-result
+    cast-result
+    shl-result
+    rem-result
     returns-2)

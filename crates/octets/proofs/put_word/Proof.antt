@@ -1,4 +1,4 @@
--- `octets::put_word` meets its contract: the eight octets are there, or they are put one by one.
+-- `octets::put_word` meets its contract: the eight octets are there, or as many as there are are put one by one.
 use borrow.Author.Needs.{needs}
 use mathlib.Core.Path.{_∙_}
 use Prim.Native.Nat.{_+_, _≤_}
@@ -19,7 +19,7 @@ put-eight-requires : tie.Need-put-eight-requires
 put-eight-requires c κs = there (c .before)
 
 put-octets-requires : tie.Need-put-octets-requires
-put-octets-requires c κs = search needs
+put-octets-requires c κs = omega (arith, c .before .before .starts .ensures)
 
 same-length : tie.Need-same-length
 same-length c = search needs
@@ -29,13 +29,16 @@ returns c =
     let t = c .before .before .before .before in
     let a = t .before .before .before .before .args in
     c .before .before .put-eight .ensures
-    ∙ word-laid (a .s .now) (a .i) (a .v) (λ n. omega (arith, t .before .before .before .slice-known .given n)) (there t)
+    ∙ word-laid (a .s .now) (a .i) (a .v) (λ n. omega (arith, t .before .before .before .slice-known .given n))
 
 same-length-2 : tie.Need-same-length-2
 same-length-2 c = search needs
 
 returns-2 : tie.Need-returns-2
-returns-2 c = search needs
+returns-2 c =
+    let t = c .before .before .before .before in
+    let a = t .before .before .before .before .args in
+    c .before .before .put-octets .ensures ∙ word-laid (a .s .now) (a .i) (a .v) (λ n. omega (arith, t .before .before .before .slice-known .given n))
 
 pub put-word-spec : {M : Type 1} → statement M
 put-word-spec =

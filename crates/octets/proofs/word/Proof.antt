@@ -1,6 +1,6 @@
 -- `octets::word` meets its contract: the eight octets are there, or they are read one by one.
 use borrow.Author.Needs.{needs}
-use mathlib.Core.Path.{_≡_, sym, ap, _∙_}
+use mathlib.Core.Path.{sym, ap, _∙_}
 use native.Mathlib.Nat.{mod-eq-of-lt}
 use native.Mathlib.Omega.{arith}
 use Rattle.octets.specs.Bits.{valueOf}
@@ -15,7 +15,7 @@ eight-requires : tie.Need-eight-requires
 eight-requires c κs = omega (arith, c .before .starts .ensures)
 
 by-octets-requires : tie.Need-by-octets-requires
-by-octets-requires c κs = search needs
+by-octets-requires c κs = omega (arith, c .before .starts .ensures)
 
 returns : tie.Need-returns
 returns c = let e = c .eight in sym (mod-eq-of-lt (e .ensures .0)) ∙ sym (value-digits 64 (e .result)) ∙ ap valueOf (e .ensures .1)
