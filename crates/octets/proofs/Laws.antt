@@ -7,8 +7,8 @@ use native.Mathlib.Nat.{le-of-suc-le-suc, not-suc-le-zero, zero-add, suc-add, ad
 use native.Mathlib.Numerals.{add-one}
 use native.Mathlib.Omega.{arith}
 use native.Mathlib.Decide.{decLt}
-use borrow.Author.Tests.{lt-ltb, le-ltb, eq-eqb, ne-eqb}
-use lib.Dec.{eqb, ltb}
+use borrow.Author.Tests.{lt-ltb, le-ltb}
+use lib.Dec.{ltb}
 use lib.Pow.{pow-pos}
 use lib.ListN.{length, getD, take, drop, set, length-append, List·getD-append, length-take, length-drop, take-append-drop, drop-of-length-le}
 use lib.Seq.{getD-append-add, getD-set-other, getD-drop, getD-take, length-take-le, sets, length-sets, sets-eq, take-at, drop-at, take-suc, take-all, take-add, drop-drop}
@@ -228,15 +228,3 @@ module _ (s : List ℕ) (at k m : ℕ) where
       none : (b p v : ℕ) → 0 < p → b * p + v ≡ 0 → b ≡ 0
       none zero p v h e = refl
       none (suc b) p v h e = absurd (omega (arith, suc-mul b p))
-
-  -- with what is left
-  pub clear-last : valueOf seen ≡ 0 → eqb (valueOf (part (at + k) m (bitsOf s))) 0 ≡ eqb (valueOf (part at (k + m) (bitsOf s))) 0
-  clear-last e = pick (decLt 0 (valueOf (part (at + k) m (bitsOf s))))
-    where
-      pick : Dec (0 < valueOf (part (at + k) m (bitsOf s))) → eqb (valueOf (part (at + k) m (bitsOf s))) 0 ≡ eqb (valueOf (part at (k + m) (bitsOf s))) 0
-      pick (yes h) =
-          let z : valueOf (part (at + k) m (bitsOf s)) ≡ 0 → ⊥ = λ z. omega arith in
-          ne-eqb _ _ z ∙ sym (ne-eqb _ _ (clear-not (k + m) (omega arith) z))
-      pick (no h) =
-          let z : valueOf (part (at + k) m (bitsOf s)) ≡ 0 = omega arith in
-          eq-eqb _ _ z ∙ sym (eq-eqb _ _ (clear-next e z))

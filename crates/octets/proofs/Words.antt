@@ -242,7 +242,7 @@ value-at l j h =
     first (x ∷ m) k = digits-mod (valueOf m) (k 0)
 
 -- of 64 bits from a place on, the first n
-pub front-value : (s : List ℕ) (p n : ℕ) → n ≤ 64 → valueOf (part p 64 (bitsOf s)) % 2 ^ n ≡ valueOf (part p n (bitsOf s))
+front-value : (s : List ℕ) (p n : ℕ) → n ≤ 64 → valueOf (part p 64 (bitsOf s)) % 2 ^ n ≡ valueOf (part p n (bitsOf s))
 front-value s p n h =
     let L = drop p (bitsOf s) in
     sym (value-take n (take 64 L) (take-bits 64 L (drop-bits p (bitsOf s) (bits-bits s)))) ∙ ap valueOf (take-take n 64 L h)
@@ -256,6 +256,15 @@ shl-mod a j k w e =
     ap (λ (n : ℕ). a * 2 ^ k % 2 ^ n) e ∙ mod-pow-add (a * 2 ^ k) j k
     ∙ ap₂ (λ (x y : ℕ). x % 2 ^ j * 2 ^ k + y) (shl-shr a k) (ap (λ (x : ℕ). x % 2 ^ k) (sym z) ∙ low a k (pow-pos k))
     ∙ omega arith
+
+-- of 64 bits from a place on, the first m, shifted to the top
+pub front-shifted : (s : List ℕ) (p m : ℕ) → m ≤ 64 → valueOf (part p 64 (bitsOf s)) * 2 ^ (64 - m) % 2 ^ 64 ≡ valueOf (part p m (bitsOf s)) * 2 ^ (64 - m)
+front-shifted s p m h =
+    shl-mod (valueOf (part p 64 (bitsOf s))) m (64 - m) 64 (omega arith) ∙ ap (λ (x : ℕ). x * 2 ^ (64 - m)) (front-value s p m h)
+
+-- what is 0 shifted was 0
+pub front-none : (x k : ℕ) → x * 2 ^ k ≡ 0 → x ≡ 0
+front-none x k e = sym (shl-shr x k) ∙ ap (λ (y : ℕ). y / 2 ^ k) e ∙ div-eq-of-lt (pow-pos k)
 
 module _ (x r : ℕ) (h : r < 64) where
   -- what goes to the top of the word, as the code shifts it: by 64 - r, which may be all 64

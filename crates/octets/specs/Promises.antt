@@ -35,7 +35,7 @@ BitsPut s at k n v exit = exit ≡ laid s (at + k) (digitsOf (min n 56) v)
 
 -- put_front
 abbrev pub FrontPut : List ℕ → ℕ → ℕ → ℕ → List ℕ → Type 0
-FrontPut s i n v exit = exit ≡ laid s (8 * i) (digitsOf (min n 63) v)
+FrontPut s i n v exit = exit ≡ laid s (8 * i) (digitsOf (min n 64) v)
 
 -- copy
 abbrev pub Copied : List ℕ → ℕ → List ℕ → ℕ → ℕ → List ℕ → Type 0

@@ -129,10 +129,8 @@ pub fn put_word(s: &mut [u8], i: usize, v: u64)
     }
 }
 
-// The bits of eight octets; the most of them that leave some behind; the most that they hold at every place.
+// The bits of eight octets, and how many they hold at every place.
 const WORD: u32 = 64;
-
-const FRONT: u32 = 63;
 
 const LONGEST: u32 = 56;
 
@@ -157,13 +155,25 @@ fn replaced(x: u64, r: u32, n: u32, v: u64) -> u64
     (after << (r + n)) | ((field << r) | before)
 }
 
-// The n bits from the one r places behind the first of octet i on become the low digits of v: one load and one store.
+// The 64 bits from octet i on, where the n from the one r places behind the first on are the low digits of v. All 64 are not loaded.
+fn changed(s: &[u8], i: usize, r: u32, n: u32, v: u64) -> u64
+    requires { ⌜ r + n ≤ 64 - min r 1 ⌝ }
+    ensures { λ y. ⌜ laid (now (s .entry)) (8 * i) (digitsOf 64 y) ≡ laid (now (s .entry)) (8 * i + r) (digitsOf n v) ⌝ }
+{
+    if n == WORD {
+        v
+    } else {
+        replaced(word(s, i), r, n, v)
+    }
+}
+
+// Those n bits become the low digits of v.
 fn put_part(s: &mut [u8], i: usize, r: u32, n: u32, v: u64)
-    requires { ⌜ r + n ≤ 63 ⌝ }
+    requires { ⌜ r + n ≤ 64 - min r 1 ⌝ }
     ensures { λ y. ⌜ now (s .exit) ≡ laid (now (s .entry)) (8 * i + r) (digitsOf n v) ⌝ }
 {
-    let x = word(s, i);
-    put_word(s, i, replaced(x, r, n, v));
+    let y = changed(s, i, r, n, v);
+    put_word(s, i, y);
 }
 
 // The n bits from the one k places behind place `at` on as one number, the first lowest; no more than 56.
@@ -183,18 +193,13 @@ pub fn bit(s: &[u8], at: usize, k: u32) -> u8
     bits(s, at, k, 1) as u8
 }
 
-// The n bits from the one k places behind place `at` on become the low digits of v. 64 bits from an octet on are stored and not loaded.
+// The n bits from the one k places behind place `at` on become the low digits of v.
 fn put_at(s: &mut [u8], at: usize, k: u32, n: u32, v: u64)
     requires { ⌜ (at + k) % 8 + n ≤ 64 - min ((at + k) % 8) 1 ⌝ }
     ensures { λ r. ⌜ now (s .exit) ≡ laid (now (s .entry)) (at + k) (digitsOf n v) ⌝ }
 {
     let j = at % 8 + (k as usize);
-    let i = at / 8 + j / 8;
-    if n == WORD {
-        put_word(s, i, v);
-    } else {
-        put_part(s, i, (j % 8) as u32, n, v);
-    }
+    put_part(s, at / 8 + j / 8, (j % 8) as u32, n, v);
 }
 
 // The n bits from the one k places behind place `at` on become the low digits of v, the lowest first; no more than 56.
@@ -204,11 +209,11 @@ pub fn put_bits(s: &mut [u8], at: usize, k: u32, n: u32, v: u64)
     put_at(s, at, k, least(n, LONGEST), v);
 }
 
-// The n bits from octet i on become the low digits of v, the lowest first; no more than 63.
+// The n bits from octet i on become the low digits of v, the lowest first; no more than 64.
 pub fn put_front(s: &mut [u8], i: usize, n: u32, v: u64)
     ensures { λ r. ⌜ FrontPut (now (s .entry)) i n v (now (s .exit)) ⌝ }
 {
-    put_part(s, i, 0, least(n, FRONT), v);
+    put_part(s, i, 0, least(n, WORD), v);
 }
 
 // The 64 bits from the one k places behind place `at` on as one number, the first lowest.
@@ -276,13 +281,14 @@ pub fn is_clear(s: &[u8], at: usize, n: u32) -> bool
     ensures { λ r. ⌜ IsClear (now (s .entry)) at n r ⌝ }
 {
     let mut k: u32 = 0;
-    while WORD <= n - k {
-        if long(s, at, k) != 0 {
+    while k < n {
+        let m = least(n - k, WORD);
+        if long(s, at, k) << (WORD - m) != 0 {
             return false;
         }
-        k += WORD;
+        k += m;
     }
-    long(s, at, k) % (1u64 << (n - k)) == 0
+    true
 }
 
 // The whole number that the w low digits of n stand for in two's complement; a width over 32 counts as 32.

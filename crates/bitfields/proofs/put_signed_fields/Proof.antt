@@ -139,7 +139,7 @@ returns c =
     let Z = firstOf (a .n) (a .numbers .now) in
     let N = numberBits w (take (l .k) Z) in
     let k : l .k ≡ a .n = omega (arith, l .inv .0) in
-    let few : min (l .window .count) 63 ≡ l .window .count = omega (arith, l .inv .2 .few) in
+    let few : min (l .window .count) 64 ≡ l .window .count = omega (arith, l .inv .2 .few) in
     let place : 8 * i + length B ≡ a .at = ap (λ (x : ℕ). 8 * i + x) (digits-length r x₀) ∙ omega arith in
     let ok = digits-bits r x₀ in
     holds-all s (8 * i) (B ++ N) (l .s) (l .window) (c .before .before .put-front .last .0) (append-bits B N ok (number-bits w (take (l .k) Z))) (l .inv .2)
