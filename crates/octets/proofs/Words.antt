@@ -109,38 +109,12 @@ field-digits s at n h =
     let e : length P ≡ n = length-take-le n (drop at (bitsOf s)) (omega (arith, length-drop at (bitsOf s), bits-length s)) in
     ap (λ (k : ℕ). digitsOf k (valueOf P)) (sym e) ∙ digits-value P (take-bits n (drop at (bitsOf s)) (drop-bits at (bitsOf s) (bits-bits s)))
 
--- ---- octets as one number: n digits above k, and where they stand
+-- ---- octets one by one, as one number
 
 octet-digits : (s : List ℕ) (i : ℕ) → i < length s → digitsOf 8 (getD s i 0) ≡ part (8 * i) 8 (bitsOf s)
 unfolding bitsOf
 octet-digits s i h =
     sym (append-nil (digitsOf 8 (getD s i 0))) ∙ ap bitsOf (sym (ap (take 1) (drop-cons s i 0 h))) ∙ octets-part s i 1 (omega arith)
-
-module _ (s : List ℕ) (k n m p q hi lo : ℕ) (e : m ≡ k + n) (h : m ≤ 64) (hh : hi < 2 ^ n) (hl : lo < 2 ^ k) (e′ : p + k ≡ q)
-    (f : digitsOf k lo ≡ part p k (bitsOf s)) (g : digitsOf n hi ≡ part q n (bitsOf s)) where
-  -- as the code joins them
-  abbrev joined : ℕ
-  joined = bitOr (hi * 2 ^ k % 2 ^ 64) lo
-
-  joined-is : joined ≡ hi * 2 ^ k + lo
-  joined-is = ap (λ (x : ℕ). bitOr x lo) (shl-exact n k 64 hh (omega arith)) ∙ or-shifted hi k lo hl
-
-  pub joined-digits : (joined < 2 ^ m) × (digitsOf m joined ≡ part p m (bitsOf s))
-  joined-digits =
-      let c : n + k ≡ m = omega arith in (
-        subst (λ (x : ℕ). x < 2 ^ m) (sym joined-is) (subst (λ (i : ℕ). hi * 2 ^ k + lo < 2 ^ i) c (subst (λ (x : ℕ). hi * 2 ^ k + lo < x) (sym (pow-add 2 n k)) (digits-lt hh hl))),
-        ap (digitsOf m) joined-is ∙ digits-join k n m hi lo e hl
-            ∙ ap₂ (λ (x y : List ℕ). x ++ y) f (g ∙ ap (λ (i : ℕ). part i n (bitsOf s)) (sym e′))
-            ∙ part-more (bitsOf s) p k n m (sym e),
-      )
-
--- two octets
-pub two-octets : (s : List ℕ) (i : ℕ) → Octets s → i + 2 ≤ length s
-    → (bitOr (getD s (i + 1) 0 * 2 ^ 8 % 2 ^ 64) (getD s i 0) < 2 ^ 16)
-    × (digitsOf 16 (bitOr (getD s (i + 1) 0 * 2 ^ 8 % 2 ^ 64) (getD s i 0)) ≡ part (8 * i) 16 (bitsOf s))
-two-octets s i o h =
-    let e : 8 * i + 8 ≡ 8 * (i + 1) = omega arith in
-    joined-digits s 8 8 16 (8 * i) (8 * (i + 1)) (getD s (i + 1) 0) (getD s i 0) refl (lit≤ tt) (o (i + 1)) (o i) e (octet-digits s i (omega arith)) (octet-digits s (i + 1) (omega arith))
 
 -- ---- and back
 
@@ -168,10 +142,6 @@ sets-more s i m n v =
 one-octet : (v : ℕ) → octetsOf 1 (digitsOf 8 v) ≡ bitAnd v 255 ∷ []
 unfolding octetsOf
 one-octet v = ap (λ (l : List ℕ). valueOf l ∷ []) (digits-take 8 8 v (lit≤ tt)) ∙ ap (λ (x : ℕ). x ∷ []) (value-digits 8 v ∙ sym (and-mask v 8))
-
-pub two-put : (s : List ℕ) (i v : ℕ) → set (set s i (bitAnd v 255)) (i + 1) (bitAnd (v / 2 ^ 8) 255) ≡ sets s i (octetsOf 2 (digitsOf 16 v))
-two-put s i v =
-    sym (ap₂ (λ (x y : List ℕ). sets (sets s i x) (i + 1) y) (one-octet v) (one-octet (v / 2 ^ 8))) ∙ sets-more s i 1 1 v
 
 -- one octet more, behind the low m of v that are put; rest is what is left of v
 pub octets-more : (s₀ : List ℕ) (i m v k : ℕ) {rest : ℕ} {s : List ℕ} → i + m ≡ k → rest ≡ v / 2 ^ (8 * m) → s ≡ sets s₀ i (octetsOf m (digitsOf (8 * m) v))
@@ -402,7 +372,7 @@ laid-own s p n o =
 
 -- ---- octets one by one: past the end an octet reads 0 and is not written
 
-part-none : (s : List ℕ) (at n : ℕ) → 8 * length s ≤ at → part at n (bitsOf s) ≡ []
+pub part-none : (s : List ℕ) (at n : ℕ) → 8 * length s ≤ at → part at n (bitsOf s) ≡ []
 part-none s at n h = ap (take n) (drop-of-length-le (bitsOf s) {i = at} (omega (arith, bits-length s))) ∙ take-nil n
 
 -- one octet more, before those that were read

@@ -2,7 +2,7 @@
 // (n-1) mod 8 in octet (n-1)/8. Every function takes every input: what lies past the end reads 0 and is not written.
 ghost use mathlib.Core.Path.{_≡_};
 ghost use mathlib.Core.List.{_++_};
-ghost use Prim.Native.Nat.{_+_, _-_, _*_, _%_, _^_, _<_, _≤_, min};
+ghost use Prim.Native.Nat.{_+_, _-_, _*_, _%_, _<_, _≤_, min};
 ghost use lib.ListN.{length, take, drop};
 ghost use lib.Seq.{sets};
 ghost use Rattle.octets.specs.Bits.{digitsOf, valueOf, bitsOf, octetsOf, part, laid};
@@ -22,85 +22,28 @@ fn starts(s: &[u8]) -> usize
     if s.len() < 7 { 0 } else { s.len() - 7 }
 }
 
-// The two octets from octet i on as one number, the first lowest.
-fn two(s: &[u8], i: usize) -> u64
-    requires { ⌜ i + 2 ≤ length (now s) ⌝ }
-    ensures { λ r. ⌜ (r < 2 ^ 16) × (digitsOf 16 r ≡ part (8 * i) 16 (bitsOf (now (s .entry)))) ⌝ }
-{
-    let low = s[i] as u64;
-    let high = s[i + 1] as u64;
-    (high << 8) | low
-}
-
-// The four octets from octet i on.
-fn four(s: &[u8], i: usize) -> u64
-    requires { ⌜ i + 4 ≤ length (now s) ⌝ }
-    ensures { λ r. ⌜ (r < 2 ^ 32) × (digitsOf 32 r ≡ part (8 * i) 32 (bitsOf (now (s .entry)))) ⌝ }
-{
-    let low = two(s, i);
-    let high = two(s, i + 2);
-    (high << 16) | low
-}
-
-// The eight octets from octet i on.
-fn eight(s: &[u8], i: usize) -> u64
-    requires { ⌜ i + 8 ≤ length (now s) ⌝ }
-    ensures { λ r. ⌜ (r < 2 ^ 64) × (digitsOf 64 r ≡ part (8 * i) 64 (bitsOf (now (s .entry)))) ⌝ }
-{
-    let low = four(s, i);
-    let high = four(s, i + 4);
-    (high << 32) | low
-}
-
-// The two octets from octet i on become the two low ones of v.
-fn put_two(s: &mut [u8], i: usize, v: u64)
-    requires { ⌜ i + 2 ≤ length (now s) ⌝ }
-    ensures { λ r. ⌜ now (s .exit) ≡ sets (now (s .entry)) i (octetsOf 2 (digitsOf 16 v)) ⌝ }
-{
-    s[i] = (v & 0xff) as u8;
-    s[i + 1] = ((v >> 8) & 0xff) as u8;
-}
-
-// The four octets from octet i on become the four low ones of v.
-fn put_four(s: &mut [u8], i: usize, v: u64)
-    requires { ⌜ i + 4 ≤ length (now s) ⌝ }
-    ensures { λ r. ⌜ now (s .exit) ≡ sets (now (s .entry)) i (octetsOf 4 (digitsOf 32 v)) ⌝ }
-{
-    put_two(s, i, v);
-    put_two(s, i + 2, v >> 16);
-}
-
-// The eight octets from octet i on become those of v.
-fn put_eight(s: &mut [u8], i: usize, v: u64)
-    requires { ⌜ i + 8 ≤ length (now s) ⌝ }
-    ensures { λ r. ⌜ now (s .exit) ≡ sets (now (s .entry)) i (octetsOf 8 (digitsOf 64 v)) ⌝ }
-{
-    put_four(s, i, v);
-    put_four(s, i + 4, v >> 32);
-}
-
-// The eight octets from octet i on where there are fewer, from the last on.
-fn by_octets(s: &[u8], i: usize) -> u64
-    requires { ⌜ length (now s) < i + 8 ⌝ }
+// The octets from octet i to before octet `end` as one number, the first lowest. Of eight octets the compiler makes one load.
+fn by_octets(s: &[u8], i: usize, end: usize) -> u64
+    requires { ⌜ (i ≤ end) × (end ≡ min (i + 8) (length (now s))) ⌝ }
     ensures { λ r. ⌜ WordRead (now (s .entry)) i r ⌝ }
 {
     let mut v: u64 = 0;
-    let mut k = s.len();
-    while i < k {
+    let mut k = end;
+    while k != i {
         k -= 1;
         v = (v << 8) | (s[k] as u64);
     }
     v
 }
 
-// The eight octets from octet i on where there are fewer become those of v.
-fn put_octets(s: &mut [u8], i: usize, v: u64)
-    requires { ⌜ length (now s) < i + 8 ⌝ }
+// Those octets become the low ones of v. Of eight octets the compiler makes one store.
+fn put_octets(s: &mut [u8], i: usize, end: usize, v: u64)
+    requires { ⌜ end ≡ min (i + 8) (length (now s)) ⌝ }
     ensures { λ r. ⌜ now (s .exit) ≡ sets (now (s .entry)) i (octetsOf 8 (digitsOf 64 v)) ⌝ }
 {
     let mut rest = v;
     let mut k = i;
-    while k < s.len() {
+    while k < end {
         s[k] = (rest & 0xff) as u8;
         rest = rest >> 8;
         k += 1;
@@ -112,10 +55,12 @@ pub fn word(s: &[u8], i: usize) -> u64
     ensures { λ r. ⌜ WordRead (now (s .entry)) i r ⌝ }
 {
     if i < starts(s) {
-        eight(s, i)
-    } else {
-        by_octets(s, i)
+        return by_octets(s, i, i + 8);
     }
+    if i < s.len() {
+        return by_octets(s, i, s.len());
+    }
+    0
 }
 
 // The 64 bits from octet i on become those of v: one store where there are eight octets.
@@ -123,9 +68,10 @@ pub fn put_word(s: &mut [u8], i: usize, v: u64)
     ensures { λ r. ⌜ WordPut (now (s .entry)) i v (now (s .exit)) ⌝ }
 {
     if i < starts(s) {
-        put_eight(s, i, v);
+        put_octets(s, i, i + 8, v);
     } else {
-        put_octets(s, i, v);
+        let end = s.len();
+        put_octets(s, i, end, v);
     }
 }
 
