@@ -57,10 +57,10 @@ pub fn word(s: &[u8], i: usize) -> u64
     if i < starts(s) {
         return by_octets(s, i, i + 8);
     }
-    if i < s.len() {
-        return by_octets(s, i, s.len());
+    if s.len() <= i {
+        return 0;
     }
-    0
+    by_octets(s, i, s.len())
 }
 
 // The 64 bits from octet i on become those of v: one store where there are eight octets.
@@ -75,7 +75,7 @@ pub fn put_word(s: &mut [u8], i: usize, v: u64)
     }
 }
 
-// The bits of eight octets, and how many they hold at every place.
+// The bits of eight octets, and the longest part that they hold at every place.
 const WORD: u32 = 64;
 
 const LONGEST: u32 = 56;
@@ -101,7 +101,7 @@ fn replaced(x: u64, r: u32, n: u32, v: u64) -> u64
     (after << (r + n)) | ((field << r) | before)
 }
 
-// The 64 bits from octet i on, where the n from the one r places behind the first on are the low digits of v. All 64 are not loaded.
+// The 64 bits from octet i on, with the n from the one r places behind the first on made the low digits of v. For all 64 nothing is loaded.
 fn changed(s: &[u8], i: usize, r: u32, n: u32, v: u64) -> u64
     requires { ⌜ r + n ≤ 64 - min r 1 ⌝ }
     ensures { λ y. ⌜ laid (now (s .entry)) (8 * i) (digitsOf 64 y) ≡ laid (now (s .entry)) (8 * i + r) (digitsOf n v) ⌝ }

@@ -1,6 +1,6 @@
 -- `octets::put_octets` meets its contract. The octets before octet k are put, and `rest` is what is left of v.
-use mathlib.Core.List.{List}
 use mathlib.Core.Path.{_≡_, sym, ap, _∙_}
+use mathlib.Core.List.{List}
 use Prim.Native.Nat.{ℕ, _+_, _-_, _*_, _/_, _^_, _≤_, min, max}
 use native.Mathlib.Nat.{div-one}
 use native.Mathlib.Decide.{decLe}

@@ -20,17 +20,17 @@ by-octets-requires c κs = search needs
 returns : tie.Need-returns
 returns c = search needs
 
+returns-2 : tie.Need-returns-2
+unfolding valueOf
+returns-2 c =
+    let a = c .before .before .before .before .args in
+    sym (ap valueOf (part-none (a .s .now) (8 * a .i) 64 (omega arith)))
+
 by-octets-requires-2 : tie.Need-by-octets-requires-2
 by-octets-requires-2 c κs = search needs
 
-returns-2 : tie.Need-returns-2
-returns-2 c = search needs
-
 returns-3 : tie.Need-returns-3
-unfolding valueOf
-returns-3 c =
-    let a = c .before .before .before .before .args in
-    sym (ap valueOf (part-none (a .s .now) (8 * a .i) 64 (omega arith)))
+returns-3 c = search needs
 
 pub word-spec : {M : Type 1} → statement M
 word-spec =
@@ -40,6 +40,6 @@ word-spec =
     add-by-octets
     by-octets-requires
     returns
-    by-octets-requires-2
     returns-2
+    by-octets-requires-2
     returns-3)
