@@ -1,7 +1,7 @@
 -- A window over octets: what stands in memory and what is held are together the bits so far. Assumes nothing.
 use mathlib.Core.Path.{_≡_, refl, sym, ap, ap₂, subst, _∙_}
-use mathlib.Core.Logic.{_⊎_, inl, inr}
-use mathlib.Core.List.{List, [], _∷_, _++_, append-nil}
+use mathlib.Core.Logic.{inl, inr}
+use mathlib.Core.List.{List, _++_}
 use Prim.Native.Nat.{ℕ, zero, suc, _+_, _-_, _*_, _/_, _%_, _^_, _≤_, _<_}
 use native.Mathlib.Nat.{mod-lt, mod-eq-of-lt}
 use native.Mathlib.Decide.{decLt}
@@ -10,10 +10,10 @@ use lib.Arith.{digits-lt}
 use lib.Bits.{bitOr, or-mod, or-shifted}
 use lib.IntN.{ℤ, pos}
 use lib.ListN.{length, getD, take, drop, replicate, length-append, length-take, length-replicate, take-append-drop, List·getD-append, List·getD-eq-default}
-use lib.Pow.{pow-add, pow-pos, pow-mono, high, shr-shr, shr-lt, shl-exact}
+use lib.Pow.{pow-add, pow-pos, pow-mono, high, shr-shr, shr-lt}
 use lib.Seq.{take-append-le, drop-append-le, take-add, drop-drop, length-take-le, take-all, getD-take, getD-append-add}
 use Rattle.octets.specs.Bits.{digitsOf, laid}
-use Rattle.octets.proofs.Digits.{Bits, append-bits, take-bits, digits-bits, digits-length, digits-take, digits-mod-pow}
+use Rattle.octets.proofs.Digits.{Bits, take-bits, digits-length, digits-take, digits-mod-pow}
 use Rattle.octets.proofs.Laws.{Octets, laid-none, laid-next}
 use Rattle.octets.proofs.Words.{digits-drop, digits-join}
 use Rattle.bitfields.specs.declared.Window.{Window}
@@ -134,16 +134,6 @@ holds-none s₀ bits a c h e o =
       laid-part = laid-none s₀ p o ∙ ap (λ (k : ℕ). laid s₀ p (take k bits)) n;
       held-part = sym e ∙ ap (λ (k : ℕ). drop k bits) n;
     }
-
--- what is held and what lies behind it, as the code joins them for the last store
-pub last-digits : (x c h : ℕ) → c < 64 → x < 2 ^ 64 → h < 2 ^ c
-    → digitsOf 64 (bitOr (x / 2 ^ c * 2 ^ c % 2 ^ 64) h) ≡ digitsOf c h ++ drop c (digitsOf 64 x)
-last-digits x c h l hx hh =
-    let e : 64 ≡ c + (64 - c) = omega arith in
-    let d : 64 - c + c ≡ 64 = omega arith in
-    let lt : x / 2 ^ c < 2 ^ (64 - c) = shr-lt (64 - c) c (subst (λ (k : ℕ). x < 2 ^ k) (sym d) hx) in
-    ap (digitsOf 64) (ap (λ (y : ℕ). bitOr y h) (shl-exact (64 - c) c 64 lt (omega arith)) ∙ or-shifted (x / 2 ^ c) c h hh)
-    ∙ digits-join c (64 - c) 64 (x / 2 ^ c) h e hh ∙ ap (λ (l : List ℕ). digitsOf c h ++ l) (sym (digits-drop c (64 - c) 64 x e))
 
 -- ---- the first n numbers
 

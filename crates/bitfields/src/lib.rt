@@ -4,8 +4,7 @@ ghost use mathlib.Core.Path.{_≡_};
 ghost use Prim.Native.Nat.{_*_, _/_, _%_, _^_, _<_, _≤_, min};
 ghost use lib.IntN.{pos};
 ghost use lib.ListN.{getD};
-ghost use Rattle.octets.specs.Bits.{digitsOf, valueOf, bitsOf, part, laid};
-ghost use Rattle.octets.specs.Signed.{signedOf, twosOf};
+ghost use Rattle.octets.specs.Bits.{valueOf, bitsOf, part};
 ghost use Rattle.bitfields.specs.Fields.{Pushed};
 ghost use Rattle.bitfields.specs.Promises.{FieldRead, FieldPut, SignedRead, SignedFieldsPut, Turned, Behind};
 
@@ -36,37 +35,11 @@ pub fn put_field(s: &mut [u8], at: usize, w: u32, v: u32)
     octets::put_bits(s, at, 0, width(w), v as u64);
 }
 
-// The whole number that w digits of value n stand for in two's complement.
-fn signed(w: u32, n: u32) -> i32
-    requires { ⌜ (w ≤ 32) × (n < 2 ^ w) ⌝ }
-    ensures { λ r. ⌜ r ≡ signedOf w n ⌝ }
-{
-    if w == 0 {
-        return 0;
-    }
-    let half = 1u32 << (w - 1);
-    if n < half {
-        return n as i32;
-    }
-    -1 - ((half - 1 - (n - half)) as i32)
-}
-
-// The value of the 32 digits of v in two's complement.
-fn twos(v: i32) -> u32
-    ensures { λ r. ⌜ r ≡ twosOf 32 v ⌝ }
-{
-    if v < 0 {
-        4294967295 - ((-1 - v) as u32)
-    } else {
-        v as u32
-    }
-}
-
 // The field of w bits from place `at` on, in two's complement.
 pub fn signed_field(s: &[u8], at: usize, w: u32) -> i32
     ensures { λ r. ⌜ SignedRead (now (s .entry)) at w r ⌝ }
 {
-    signed(width(w), field(s, at, w))
+    octets::signed(w, field(s, at, w))
 }
 
 // Bits that are not in memory yet, the first lowest: so many of them, and the octet that they begin at.
@@ -100,17 +73,6 @@ fn pushed(s: &mut [u8], window: Window, w: u32, v: u32) -> Window
     }
 }
 
-// What a window still holds goes to memory; the bits behind stay.
-fn finished(s: &mut [u8], window: Window)
-    requires { ⌜ (window .count < 64) × (window .held < 2 ^ window .count) ⌝ }
-    ensures { λ r. ⌜ now (s .exit) ≡ laid (now (s .entry)) (8 * window .octet) (digitsOf (window .count) (window .held)) ⌝ }
-{
-    let octet = window.octet;
-    let count = window.count;
-    let behind = octets::word(s, octet) >> count;
-    octets::put_word(s, octet, (behind << count) | window.held);
-}
-
 // The number at an index; past the end 0.
 fn number(numbers: &[i32], k: usize) -> i32
     ensures { λ r. ⌜ r ≡ getD (now (numbers .entry)) k (pos 0) ⌝ }
@@ -139,11 +101,11 @@ pub fn put_signed_fields(s: &mut [u8], at: usize, w: u32, numbers: &[i32], n: u3
     let mut window = opened(s, at);
     let mut k: u32 = 0;
     while k < n {
-        let v = twos(number(numbers, k as usize));
+        let v = octets::twos(number(numbers, k as usize));
         window = pushed(s, window, width, v);
         k += 1;
     }
-    finished(s, window);
+    octets::put_front(s, window.octet, window.count, window.held);
 }
 
 // The w low digits of v in the opposite order: the lowest becomes the highest.

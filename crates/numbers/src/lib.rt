@@ -2,7 +2,6 @@
 // frame").
 ghost use mathlib.Core.Path.{_≡_};
 ghost use Prim.Native.Nat.{_<_};
-ghost use Rattle.octets.specs.Signed.{signedOf, twosOf};
 ghost use Rattle.numbers.specs.Promises.{NumberRead, NumberPut, NumbersRead, NumbersPut};
 
 // The octets of a number, and of as many as there are coefficients and remembered outputs: 720.
@@ -10,32 +9,14 @@ pub const NUMBER_OCTETS: usize = 4;
 
 pub const COEFFICIENT_OCTETS: usize = NUMBER_OCTETS * ranges::COEFFICIENTS;
 
+// The bits of a number.
+const NUMBER_BITS: u32 = 32;
+
 // An octet as a wider number.
 fn wide(octet: u8) -> u32
     ensures { λ r. ⌜ (r ≡ octet) × (r < 256) ⌝ }
 {
     octet as u32
-}
-
-// The number that 32 bits stand for in two's complement.
-fn to_signed(n: u32) -> i32
-    ensures { λ r. ⌜ r ≡ signedOf 32 n ⌝ }
-{
-    if n < 0x8000_0000 {
-        return n as i32;
-    }
-    -1 - (0xffff_ffff - n) as i32
-}
-
-// The 32 bits of a number in two's complement.
-fn to_unsigned(z: i32) -> u32
-    ensures { λ r. ⌜ r ≡ twosOf 32 z ⌝ }
-{
-    if z < 0 {
-        0xffff_ffff - ((-1 - z) as u32)
-    } else {
-        z as u32
-    }
 }
 
 // Number k of octets, the first being number 0; where there is none it is 0.
@@ -48,7 +29,7 @@ pub fn number(octets: &[u8], k: usize) -> i32
     let at = NUMBER_OCTETS * k;
     let low = wide(octets[at]) + wide(octets[at + 1]) * 256;
     let high = wide(octets[at + 2]) * 65_536 + wide(octets[at + 3]) * 16_777_216;
-    to_signed(low + high)
+    octets::signed(NUMBER_BITS, low + high)
 }
 
 // Number k of octets becomes z; where there is none, nothing changes.
@@ -59,7 +40,7 @@ pub fn put_number(octets: &mut [u8], k: usize, z: i32)
         return;
     }
     let at = NUMBER_OCTETS * k;
-    let n = to_unsigned(z);
+    let n = octets::twos(z);
     octets[at] = (n % 256) as u8;
     octets[at + 1] = (n / 256 % 256) as u8;
     octets[at + 2] = (n / 65_536 % 256) as u8;

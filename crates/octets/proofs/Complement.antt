@@ -8,7 +8,7 @@ use native.Mathlib.Omega.{arith}
 use borrow.Author.Tests.{lt-ltb, le-ltb, ltb-true}
 use lib.IntN.{ℤ, pos, negsuc, _-ℤ_}
 use lib.Arith.{digits-mod}
-use lib.Pow.{pow-pos, pow-mono, pow-add, split, shr-lt, mod-mod-pow}
+use lib.Pow.{pow-pos, pow-add, split, shr-lt, mod-mod-pow}
 use lib.Signed.{mag, ltZ}
 use mir.Syntax.{w32}
 use mir.Val.{SFits, toZ, ofZ}
@@ -41,9 +41,14 @@ module _ (w n : ℕ) where
 
 -- ---- as the code computes it
 
--- half of 2^w, as the code shifts it
-pub half-is : (w : ℕ) → 1 ≤ w → w ≤ 32 → 1 * 2 ^ (w - 1) % 2 ^ 32 ≡ 2 ^ (w - 1)
-half-is w h l = let k : w - 1 ≤ 31 = omega arith in omega (arith, pow-mono k)
+-- where the highest digit is 0, as the code asks it: no more than half of 2^w; a number of no digits is 0
+pub low-half : (w n : ℕ) → n + n < 2 ^ w → n < 2 ^ (w - 1)
+low-half zero n h = omega arith
+low-half (suc w) n h = omega (arith, twice (suc w) (omega arith))
+
+pub high-half : (w n : ℕ) → 2 ^ w ≤ n + n → n < 2 ^ w → 2 ^ (w - 1) ≤ n
+high-half zero n h l = absurd (omega arith)
+high-half (suc w) n h l = omega (arith, twice (suc w) (omega arith))
 
 pub less-one : (d : ℕ) → negsuc 0 -ℤ pos d ≡ negsuc d
 less-one zero = refl

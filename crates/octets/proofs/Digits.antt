@@ -7,10 +7,8 @@ use native.Mathlib.Numerals.{add-one}
 use native.Mathlib.Omega.{arith}
 use lib.Arith.{digits-div, digits-mod, mod-mul}
 use lib.Pow.{pow-pos}
-use lib.Bits.{bitXor, differ, xor-step, xor-zero-r, shifted-half, shifted-even}
-use lib.ListN.{length, getD, take, drop, set, length-reverse, replicate}
+use lib.ListN.{length, getD, take, drop, length-reverse, replicate}
 use lib.Seq.{getD-drop, take-nil}
-use Rattle.octets.proofs.Xor.{differ-lt}
 use Rattle.octets.specs.Bits.{digitsOf, valueOf}
 
 -- every element of l is a bit
@@ -78,34 +76,6 @@ unfolding digitsOf
 digits-more zero n = ap (λ (x : ℕ). x % 2 ∷ []) (sym (div-one n))
 digits-more (suc k) n =
     ap (λ (l : List ℕ). n % 2 ∷ l) (digits-more k (n / 2) ∙ ap (λ (x : ℕ). digitsOf k (n / 2) ++ (x % 2 ∷ [])) (shr-suc n k))
-
--- digit k of o, against d, is flipped by a xor with d at place k
-pub flip : (n o k d : ℕ) → d < 2 → k < n → digitsOf n (bitXor o (d * 2 ^ k)) ≡ set (digitsOf n o) k (differ (o / 2 ^ k % 2) d)
-unfolding digitsOf
-flip zero o k d hd h = absurd (not-suc-le-zero h)
-flip (suc n) o zero d hd h =
-    let e : bitXor o (d * 1) ≡ o / 2 * 2 + differ (o % 2) d =
-    xor-step o (d * 1)
-    ∙ ap₂ (λ (x y : ℕ). bitXor (o / 2) x * 2 + differ (o % 2) y) (omega arith) (omega arith)
-    ∙ ap (λ (x : ℕ). x * 2 + differ (o % 2) d) (xor-zero-r (o / 2)) in
-    let lt : differ (o % 2) d < 2 = differ-lt (o % 2) d (mod-lt o (suc-le-suc zero-le)) hd in
-    ap (λ (x : ℕ). x % 2 ∷ digitsOf n (x / 2)) e
-    ∙ ap₂ (λ (x : ℕ) (y : ℕ). x ∷ digitsOf n y) (digits-mod (o / 2) lt) (digits-div (o / 2) lt)
-    ∙ ap (λ (x : ℕ). differ (x % 2) d ∷ digitsOf n (o / 2)) (sym (div-one o))
-flip (suc n) o (suc k) d hd h =
-    let e : bitXor o (d * 2 ^ suc k) ≡ bitXor (o / 2) (d * 2 ^ k) * 2 + o % 2 =
-    xor-step o (d * 2 ^ suc k)
-    ∙ ap₂ (λ (x y : ℕ). bitXor (o / 2) x * 2 + differ (o % 2) y) (shifted-half d k) (shifted-even d k)
-    ∙ ap (λ (y : ℕ). bitXor (o / 2) (d * 2 ^ k) * 2 + y) (differ-zero (o % 2)) in
-    let lt : o % 2 < 2 = mod-lt o (suc-le-suc zero-le) in
-    ap (λ (x : ℕ). x % 2 ∷ digitsOf n (x / 2)) e
-    ∙ ap₂ (λ (x : ℕ) (y : ℕ). x ∷ digitsOf n y) (digits-mod (bitXor (o / 2) (d * 2 ^ k)) lt) (digits-div (bitXor (o / 2) (d * 2 ^ k)) lt)
-    ∙ ap (λ (l : List ℕ). o % 2 ∷ l) (flip n (o / 2) k d hd (le-of-suc-le-suc h))
-    ∙ ap (λ (x : ℕ). o % 2 ∷ set (digitsOf n (o / 2)) k (differ (x % 2) d)) (shr-suc o k)
-  where
-    differ-zero : (x : ℕ) → differ x zero ≡ x
-    differ-zero zero = refl
-    differ-zero (suc x) = refl
 
 pub digits-mod-pow : (n x : ℕ) → digitsOf n (x % 2 ^ n) ≡ digitsOf n x
 unfolding digitsOf
@@ -181,10 +151,6 @@ pub value-one : (a b : List ℕ) → Bits a → Bits b → length a ≡ length b
 value-one a b h k e f = sym (digits-value a h) ∙ ap₂ digitsOf e f ∙ digits-value b k
 
 -- ---- a loop that takes the digits of v from the lowest on: rest is what is left after k
-
-pub digits-none : (v : ℕ) → [] ≡ digitsOf 0 v
-unfolding digitsOf
-digits-none v = refl
 
 pub digits-next : {rest : ℕ} (v k : ℕ) → rest ≡ v / 2 ^ k → digitsOf k v ++ (rest % 2 ∷ []) ≡ digitsOf (k + 1) v
 digits-next v k e =

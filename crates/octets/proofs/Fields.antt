@@ -1,13 +1,13 @@
 -- What is put is read back, and every other bit stays: once over the bits that are put, so for a field of any width. Assumes nothing.
 use mathlib.Core.Path.{_≡_, refl, sym, ap, _∙_}
-use mathlib.Core.List.{List, [], _∷_, _++_, append-assoc}
+use mathlib.Core.List.{List, _++_, append-assoc}
 use mathlib.Core.Logic.{_⊎_, inl, inr}
-use Prim.Native.Nat.{ℕ, suc, _+_, _-_, _*_, _%_, _^_, _≤_, _<_, min}
+use Prim.Native.Nat.{ℕ, _+_, _-_, _*_, _%_, _^_, _≤_, _<_, min}
 use native.Mathlib.Nat.{mod-eq-of-lt}
 use native.Mathlib.Omega.{arith}
 use lib.IntN.{ℤ}
-use lib.ListN.{length, getD, take, drop, set, length-take, length-drop}
-use lib.Seq.{sets, sets-eq, length-take-le, take-at, drop-at, drop-append-add, drop-append-le, take-append-le, take-take, drop-drop, getD-take, getD-drop, ext-getD}
+use lib.ListN.{length, getD, take, drop, length-take, length-drop}
+use lib.Seq.{sets-eq, length-take-le, take-at, drop-at, drop-append-add, drop-append-le, take-append-le, take-take, drop-drop, getD-take, getD-drop, ext-getD}
 use lib.Signed.{mag}
 use Rattle.octets.specs.Bits.{digitsOf, valueOf, bitsOf, bitOf, part, laid}
 use Rattle.octets.specs.Signed.{signedOf, twosOf}

@@ -1,21 +1,19 @@
 -- Laws of bits in octets, of laying bits over them, and of reading what was laid. Assumes nothing.
 use mathlib.Core.Path.{_≡_, refl, sym, ap, ap₂, _∙_}
 use mathlib.Core.List.{List, [], _∷_, _++_, append-nil}
-use mathlib.Core.Bool.{true, false}
 use mathlib.Core.Logic.{_⊎_, inl, inr}
 use Prim.Native.Nat.{ℕ, zero, suc, _+_, _-_, _*_, _/_, _%_, _^_, _≤_, _<_, zero-le, suc-le-suc, min}
-use native.Mathlib.Nat.{le-of-suc-le-suc, not-suc-le-zero, mod-lt, zero-add, suc-add, add-zero, add-suc, suc-mul}
+use native.Mathlib.Nat.{le-of-suc-le-suc, not-suc-le-zero, zero-add, suc-add, add-zero, add-suc, suc-mul}
 use native.Mathlib.Numerals.{add-one}
 use native.Mathlib.Omega.{arith}
 use native.Mathlib.Decide.{decLt}
-use borrow.Author.Tests.{lt-ltb, le-ltb, ltb-true, ltb-false}
+use borrow.Author.Tests.{lt-ltb, le-ltb}
 use lib.Dec.{ltb}
-use lib.Pow.{pow-pos, shl-exact}
-use lib.Bits.{bitAnd, bitXor, differ, and-mask, xor-lt}
-use lib.ListN.{length, getD, take, drop, set, length-append, List·getD-append, List·getD-eq-default, length-set, length-take, length-drop, take-append-drop, drop-of-length-le}
-use lib.Seq.{getD-append-add, set-append-left, set-out, getD-set-other, getD-drop, getD-take, length-take-le, sets, length-sets, sets-eq, take-at, drop-at, take-suc, take-all, take-add, drop-drop}
+use lib.Pow.{pow-pos}
+use lib.ListN.{length, getD, take, drop, set, length-append, List·getD-append, length-take, length-drop, take-append-drop, drop-of-length-le}
+use lib.Seq.{getD-append-add, getD-set-other, getD-drop, getD-take, length-take-le, sets, length-sets, sets-eq, take-at, drop-at, take-suc, take-all, take-add, drop-drop}
 use Rattle.octets.specs.Bits.{digitsOf, valueOf, bitsOf, octetsOf, bitOf, part, laid}
-use Rattle.octets.proofs.Digits.{Bits, append-bits, take-bits, drop-bits, digits-length, digits-bits, digits-at, flip, digits-value, value-digits, value-part, value-append, value-grows}
+use Rattle.octets.proofs.Digits.{Bits, append-bits, take-bits, drop-bits, digits-length, digits-bits, digits-at, digits-value, value-digits, value-part, value-append, value-grows}
 
 -- every element of s is an octet
 abbrev pub Octets : List ℕ → Type 0
@@ -51,93 +49,18 @@ weight s n h l =
     ∙ bits-at s ((n - 1) / 8) ((n - 1) % 8) (omega arith) (omega arith)
     ∙ digits-at 8 (getD s ((n - 1) / 8) 0) ((n - 1) % 8) (omega arith)
 
-set-append-add : (xs ys : List ℕ) (n a : ℕ) → set (xs ++ ys) (length xs + n) a ≡ xs ++ set ys n a
-set-append-add [] ys n a = ap (λ (k : ℕ). set ys k a) (zero-add n)
-set-append-add (x ∷ xs) ys n a =
-    ap (λ (k : ℕ). set (x ∷ (xs ++ ys)) k a) (suc-add (length xs) n) ∙ ap (λ (l : List ℕ). x ∷ l) (set-append-add xs ys n a)
+-- ---- whether there is a bit k places behind place `at`, as the code asks it
 
-bits-set : (s : List ℕ) (j k v b : ℕ) → j < length s → k < 8 → digitsOf 8 v ≡ set (digitsOf 8 (getD s j 0)) k b
-    → bitsOf (set s j v) ≡ set (bitsOf s) (j * 8 + k) b
-unfolding bitsOf
-bits-set [] j k v b h l e = absurd (not-suc-le-zero h)
-bits-set (o ∷ os) zero k v b h l e =
-    ap (λ (x : List ℕ). x ++ bitsOf os) e
-    ∙ sym (set-append-left (digitsOf 8 o) (bitsOf os) k b (omega (arith, digits-length 8 o)))
-    ∙ ap (λ (x : ℕ). set (digitsOf 8 o ++ bitsOf os) x b) (sym (zero-add k))
-bits-set (o ∷ os) (suc j) k v b h l e =
-    ap (λ (x : List ℕ). digitsOf 8 o ++ x) (bits-set os j k v b (le-of-suc-le-suc h) l e)
-    ∙ sym (set-append-add (digitsOf 8 o) (bitsOf os) (j * 8 + k) b)
-    ∙ ap (λ (x : ℕ). set (digitsOf 8 o ++ bitsOf os) x b) (omega (arith, digits-length 8 o))
+-- the octet that holds it
+abbrev holder : ℕ → ℕ → ℕ
+holder at k = at / 8 + (at % 8 + k) / 8
 
-and-one : (x : ℕ) → bitAnd x 1 ≡ x % 2
-and-one x = and-mask x 1
-
--- ---- one bit, as the code reads and writes it, k places behind place `at`
-
-module _ (s : List ℕ) (at k : ℕ) where
-  -- how far the bit lies behind the first bit of its place's octet, and the octet that holds it
-  abbrev behind : ℕ
-  behind = at % 8 + k
-
-  abbrev pub holder : ℕ
-  holder = at / 8 + behind / 8
-
-  pub read : holder < length s → bitAnd (getD s holder 0 / 2 ^ (behind % 8)) 1 ≡ bitOf s (at + k)
-  read h =
-      and-one (getD s holder 0 / 2 ^ (behind % 8))
-      ∙ sym (digits-at 8 (getD s holder 0) (behind % 8) (omega arith))
-      ∙ sym (bits-at s holder (behind % 8) h (omega arith))
-      ∙ ap (λ (x : ℕ). getD (bitsOf s) x 0) (omega arith)
-
-  pub read-past : length s ≤ holder → 0 ≡ bitOf s (at + k)
-  read-past h = sym (List·getD-eq-default (bitsOf s) 0 (omega (arith, bits-length s)))
-
-  -- the octet with that bit made b, as the code makes it
-  abbrev pub changed : ℕ → ℕ
-  changed b = bitXor (getD s holder 0) (bitXor (bitAnd (getD s holder 0 / 2 ^ (behind % 8)) 1) b * 2 ^ (behind % 8) % 2 ^ 8)
-
-  pub write : (b : ℕ) → b < 2 → holder < length s → bitsOf (set s holder (changed b)) ≡ set (bitsOf s) (at + k) b
-  write b l h =
-      let o = getD s holder 0 in
-      let m = behind % 8 in
-      let hm : m < 8 = omega arith in
-      let x = o / 2 ^ m % 2 in
-      let hx : x < 2 = mod-lt (o / 2 ^ m) (suc-le-suc zero-le) in
-      let d = bitXor x b in
-      let hd : d < 2 = xor-lt 1 x b hx l in
-      let fit : d * 2 ^ m % 2 ^ 8 ≡ d * 2 ^ m = shl-exact 1 m 8 hd (omega arith) in
-      bits-set s holder m (changed b) b h hm
-      (ap (λ (y : ℕ). digitsOf 8 (bitXor o (bitXor y b * 2 ^ m % 2 ^ 8))) (and-one (o / 2 ^ m))
-      ∙ ap (λ (y : ℕ). digitsOf 8 (bitXor o y)) fit
-      ∙ flip 8 o m d hd hm
-      ∙ ap (λ (y : ℕ). set (digitsOf 8 o) m y) (differ-twice x b hx l))
-      ∙ ap (λ (y : ℕ). set (bitsOf s) y b) (omega arith)
-    where
-      differ-twice : (c b : ℕ) → c < 2 → b < 2 → differ c (bitXor c b) ≡ b
-      differ-twice zero b h l = refl
-      differ-twice (suc zero) zero h l = refl
-      differ-twice (suc zero) (suc zero) h l = refl
-      differ-twice (suc zero) (suc (suc b)) h l = absurd (not-suc-le-zero (le-of-suc-le-suc (le-of-suc-le-suc l)))
-      differ-twice (suc (suc c)) b h l = absurd (not-suc-le-zero (le-of-suc-le-suc (le-of-suc-le-suc h)))
-
-  changed-octet : Octets s → (b : ℕ) → changed b < 256
-  changed-octet h b =
-      xor-lt 8 (getD s holder 0) (bitXor (bitAnd (getD s holder 0 / 2 ^ (behind % 8)) 1) b * 2 ^ (behind % 8) % 2 ^ 8) (h holder)
-      (mod-lt (bitXor (bitAnd (getD s holder 0 / 2 ^ (behind % 8)) 1) b * 2 ^ (behind % 8)) (pow-pos 8))
-
-pub has-bit : (s : List ℕ) (at k : ℕ) → ltb (holder s at k) (length s) ≡ ltb (at + k) (length (bitsOf s))
-has-bit s at k = pick (decLt (holder s at k) (length s))
+pub has-bit : (s : List ℕ) (at k : ℕ) → ltb (holder at k) (length s) ≡ ltb (at + k) (length (bitsOf s))
+has-bit s at k = pick (decLt (holder at k) (length s))
   where
-    pick : Dec (holder s at k < length s) → ltb (holder s at k) (length s) ≡ ltb (at + k) (length (bitsOf s))
-    pick (yes h) = lt-ltb (holder s at k) (length s) h ∙ sym (lt-ltb (at + k) (length (bitsOf s)) (omega (arith, bits-length s)))
-    pick (no h) = le-ltb (holder s at k) (length s) (omega arith) ∙ sym (le-ltb (at + k) (length (bitsOf s)) (omega (arith, bits-length s)))
-
--- where there is such a bit, its octet is one of s; else it lies past the end
-pub held-in : (s : List ℕ) (at k : ℕ) → ltb (at + k) (length (bitsOf s)) ≡ true → holder s at k < length s
-held-in s at k e = ltb-true (holder s at k) (length s) (has-bit s at k ∙ e)
-
-pub held-out : (s : List ℕ) (at k : ℕ) → ltb (at + k) (length (bitsOf s)) ≡ false → length s ≤ holder s at k
-held-out s at k e = ltb-false (holder s at k) (length s) (has-bit s at k ∙ e)
+    pick : Dec (holder at k < length s) → ltb (holder at k) (length s) ≡ ltb (at + k) (length (bitsOf s))
+    pick (yes h) = lt-ltb (holder at k) (length s) h ∙ sym (lt-ltb (at + k) (length (bitsOf s)) (omega (arith, bits-length s)))
+    pick (no h) = le-ltb (holder at k) (length s) (omega arith) ∙ sym (le-ltb (at + k) (length (bitsOf s)) (omega (arith, bits-length s)))
 
 -- any part of the bits of octets is bits
 pub part-bits : (s : List ℕ) (at n k : ℕ) → Bits (take k (part at n (bitsOf s)))
@@ -246,22 +169,6 @@ laid-end s at bs e =
     ∙ ap (λ (l : List ℕ). take at B ++ bs ++ l) (drop-of-length-le B {i = at + length bs} (omega (arith, bits-length s)))
     ∙ append-nil (take at B ++ bs))
 
-module _ (s : List ℕ) (at k b : ℕ) (o : Octets s) (hb : b < 2) where
-  pub written : holder s at k < length s → set s (holder s at k) (changed s at k b) ≡ laid s (at + k) (b ∷ [])
-  unfolding laid
-  written h =
-      let t = set s (holder s at k) (changed s at k b) in
-      octets-are t (set (bitsOf s) (at + k) b) (length s) (length-set s (holder s at k) (changed s at k b))
-      (sets-below 256 s (holder s at k) (changed s at k b ∷ []) o (only (changed-octet s at k o b))) (write s at k b hb h)
-    where
-      only : {v : ℕ} → v < 256 → Octets (v ∷ [])
-      only h zero = h
-      only h (suc i) = suc-le-suc zero-le
-
-  pub unwritten : length s ≤ holder s at k → s ≡ laid s (at + k) (b ∷ [])
-  unfolding laid
-  unwritten h = sym (octets-bits s o) ∙ ap (octetsOf (length s)) (sym (set-out (bitsOf s) (at + k) b (omega (arith, bits-length s))))
-
 -- ---- a part of the bits of octets, taken one after the other
 
 module _ (source : List ℕ) (from n : ℕ) where
@@ -270,9 +177,6 @@ module _ (source : List ℕ) (from n : ℕ) where
 
   given-length : length given ≡ min n (8 * length source - from)
   given-length = length-take n (drop from (bitsOf source)) ∙ ap (min n) (length-drop from (bitsOf source) ∙ ap (λ (k : ℕ). k - from) (bits-length source))
-
-  pub part-length : (k : ℕ) → k ≤ n → from + k ≤ 8 * length source → length (take k given) ≡ k
-  part-length k h l = length-take-le k given (omega (arith, given-length))
 
   pub part-next : (k b : ℕ) → k < n → from + k < 8 * length source → b ≡ bitOf source (from + k)
       → take k given ++ (b ∷ []) ≡ take (k + 1) given

@@ -3,7 +3,8 @@ use mathlib.Core.Path.{_≡_, sym, _∙_}
 use mathlib.Core.Bool.{Bool}
 use mathlib.Core.List.{List}
 use Prim.Native.Nat.{ℕ}
-use Rattle.octets.specs.Promises.{BitRead, HasBit, WordRead, WordPut, BitsRead, BitsPut, Copied, Cleared, IsClear}
+use lib.IntN.{ℤ}
+use Rattle.octets.specs.Promises.{BitRead, HasBit, WordRead, WordPut, BitsRead, BitsPut, FrontPut, Copied, Cleared, IsClear, Signed, Twos}
 
 -- two that are equal to a third
 pub both : {A : Type 0} {x y z : A} → x ≡ z → y ≡ z → x ≡ y
@@ -27,6 +28,9 @@ bits-one s at k n r r′ p q = both p q
 pub put-bits-one : (s : List ℕ) (at k n v : ℕ) (t t′ : List ℕ) → BitsPut s at k n v t → BitsPut s at k n v t′ → t ≡ t′
 put-bits-one s at k n v t t′ p q = both p q
 
+pub put-front-one : (s : List ℕ) (i n v : ℕ) (t t′ : List ℕ) → FrontPut s i n v t → FrontPut s i n v t′ → t ≡ t′
+put-front-one s i n v t t′ p q = both p q
+
 pub copy-one : (s : List ℕ) (at : ℕ) (source : List ℕ) (from n : ℕ) (t t′ : List ℕ) → Copied s at source from n t → Copied s at source from n t′ → t ≡ t′
 copy-one s at source from n t t′ p q = both p q
 
@@ -35,3 +39,9 @@ clear-one s at n t t′ p q = both p q
 
 pub is-clear-one : (s : List ℕ) (at n : ℕ) (r r′ : Bool) → IsClear s at n r → IsClear s at n r′ → r ≡ r′
 is-clear-one s at n r r′ p q = both p q
+
+pub signed-one : (w n : ℕ) (r r′ : ℤ) → Signed w n r → Signed w n r′ → r ≡ r′
+signed-one w n r r′ p q = both p q
+
+pub twos-one : (z : ℤ) (r r′ : ℕ) → Twos z r → Twos z r′ → r ≡ r′
+twos-one z r r′ p q = both p q

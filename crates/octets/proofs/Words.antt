@@ -1,16 +1,14 @@
 -- Many bits at once: octets as one number, digits in parts, and a field put into them. Assumes nothing.
 use mathlib.Core.Path.{_≡_, refl, sym, ap, ap₂, _∙_, subst}
-use mathlib.Core.Bool.{false}
 use mathlib.Core.Logic.{inr}
 use mathlib.Core.List.{List, [], _∷_, _++_, append-assoc, append-nil}
 use Prim.Native.Nat.{ℕ, zero, suc, _+_, _-_, _*_, _/_, _%_, _^_, _≤_, _<_, zero-le, suc-le-suc}
-use native.Mathlib.Nat.{div-one, zero-add, suc-add, add-zero, mod-lt, mod-one, mod-eq-of-lt, div-eq-of-lt, pow-suc}
+use native.Mathlib.Nat.{div-one, zero-add, suc-add, add-zero, mul-assoc, mod-lt, mod-one, mod-eq-of-lt, div-eq-of-lt, pow-suc}
 use native.Mathlib.Decide.{decLe, decLt}
 use native.Mathlib.Omega.{arith}
 use lib.Arith.{digits-lt, digits-div, digits-mod, mod-mul}
-use borrow.Author.Tests.{lt-ltb, le-ltb}
-use lib.Dec.{lit≤, ltb}
-use lib.Pow.{high, low, pow-pos, pow-mono, pow-add, shl-exact, shr-lt}
+use lib.Dec.{lit≤}
+use lib.Pow.{field, high, low, mod-mod-pow, mod-pow-add, pow-pos, pow-mono, pow-add, shl-exact, shl-shr, shr-lt, shr-shr}
 use lib.Bits.{bitAnd, bitOr, and-mask, or-shifted}
 use lib.ListN.{length, getD, take, drop, set, length-append, length-drop, take-append-drop, drop-of-length-le, List·getD-eq-default}
 use lib.Seq.{length-take-le, take-nil, take-at, drop-at, take-take, drop-drop, take-add, take-append-le, drop-append-le, drop-cons, getD-take, getD-drop, set-out, set-getD, sets, length-sets, sets-eq}
@@ -36,6 +34,20 @@ digits-join k n m hi lo e h =
     digits-cut k n m (hi * 2 ^ k + lo) e
     ∙ ap₂ (λ (a : List ℕ) (b : ℕ). a ++ digitsOf n b) (sym (digits-mod-pow k (hi * 2 ^ k + lo)) ∙ ap (digitsOf k) (low hi k h)) (high hi k h)
 
+-- elements that are there already
+sets-own : (l : List ℕ) (at : ℕ) (bs : List ℕ) → ((i : ℕ) → i < length bs → at + i < length l → getD bs i 0 ≡ getD l (at + i) 0) → sets l at bs ≡ l
+sets-own l at [] h = refl
+sets-own l at (b ∷ bs) h =
+    ap (λ (m : List ℕ). sets m (suc at) bs) one ∙ sets-own l (suc at) bs (λ i p q. h (suc i) (suc-le-suc p) (omega arith) ∙ ap (λ (k : ℕ). getD l k 0) (omega arith))
+  where
+    one : set l at b ≡ l
+    one = pick (decLe (length l) at)
+      where
+        pick : Dec (length l ≤ at) → set l at b ≡ l
+        pick (yes p) = set-out l at b p
+        pick (no p) =
+            ap (set l at) (h 0 (suc-le-suc zero-le) (omega arith) ∙ ap (λ (k : ℕ). getD l k 0) (add-zero at)) ∙ set-getD l at 0
+
 -- ---- octets in parts
 
 bits-append : (a b : List ℕ) → bitsOf (a ++ b) ≡ bitsOf a ++ bitsOf b
@@ -58,8 +70,8 @@ octets-part s i n h =
     bits-parts (drop i s) n (omega (arith, length-drop i s)) .0 ∙ ap (take (8 * n)) (bits-parts s i (omega arith) .1)
 
 -- octets put over others, from octet i on
-bits-sets : (s os : List ℕ) (i : ℕ) → i + length os ≤ length s → bitsOf (sets s i os) ≡ sets (bitsOf s) (8 * i) (bitsOf os)
-bits-sets s os i h =
+bits-sets-in : (s os : List ℕ) (i : ℕ) → i + length os ≤ length s → bitsOf (sets s i os) ≡ sets (bitsOf s) (8 * i) (bitsOf os)
+bits-sets-in s os i h =
     let n : 8 * (i + length os) ≡ 8 * i + length (bitsOf os) = omega (arith, bits-length os) in
     ap bitsOf (sets-eq os s i h)
     ∙ bits-append (take i s ++ os) (drop (i + length os) s)
@@ -67,6 +79,21 @@ bits-sets s os i h =
     (bits-append (take i s) os ∙ ap (λ (l : List ℕ). l ++ bitsOf os) (bits-parts s i (omega arith) .0))
     (bits-parts s (i + length os) h .1 ∙ ap (λ (k : ℕ). drop k (bitsOf s)) n)
     ∙ sym (sets-eq (bitsOf os) (bitsOf s) (8 * i) (omega (arith, bits-length os, bits-length s)))
+
+-- the same where some would lie past the end
+bits-sets : (s os : List ℕ) (i : ℕ) → bitsOf (sets s i os) ≡ sets (bitsOf s) (8 * i) (bitsOf os)
+unfolding bitsOf
+bits-sets s [] i = refl
+bits-sets s (o ∷ os) i =
+    let p : 8 * suc i ≡ 8 * i + length (digitsOf 8 o) = omega (arith, digits-length 8 o) in
+    bits-sets (set s i o) os (suc i)
+    ∙ ap₂ (λ (l : List ℕ) (k : ℕ). sets l k (bitsOf os)) (one (decLt i (length s)) ∙ ap (sets (bitsOf s) (8 * i)) (append-nil (digitsOf 8 o))) p
+    ∙ sym (sets-append (bitsOf s) (8 * i) (digitsOf 8 o) (bitsOf os))
+  where
+    one : Dec (i < length s) → bitsOf (set s i o) ≡ sets (bitsOf s) (8 * i) (bitsOf (o ∷ []))
+    one (yes h) = bits-sets-in s (o ∷ []) i (omega arith)
+    one (no h) =
+        ap bitsOf (set-out s i o (omega arith)) ∙ sym (sets-own (bitsOf s) (8 * i) (bitsOf (o ∷ [])) (λ j p q. absurd (omega (arith, bits-length s))))
 
 -- ---- bits taken n at a time
 
@@ -82,38 +109,12 @@ field-digits s at n h =
     let e : length P ≡ n = length-take-le n (drop at (bitsOf s)) (omega (arith, length-drop at (bitsOf s), bits-length s)) in
     ap (λ (k : ℕ). digitsOf k (valueOf P)) (sym e) ∙ digits-value P (take-bits n (drop at (bitsOf s)) (drop-bits at (bitsOf s) (bits-bits s)))
 
--- ---- octets as one number: n digits above k, and where they stand
+-- ---- octets one by one, as one number
 
 octet-digits : (s : List ℕ) (i : ℕ) → i < length s → digitsOf 8 (getD s i 0) ≡ part (8 * i) 8 (bitsOf s)
 unfolding bitsOf
 octet-digits s i h =
     sym (append-nil (digitsOf 8 (getD s i 0))) ∙ ap bitsOf (sym (ap (take 1) (drop-cons s i 0 h))) ∙ octets-part s i 1 (omega arith)
-
-module _ (s : List ℕ) (k n m p q hi lo : ℕ) (e : m ≡ k + n) (h : m ≤ 64) (hh : hi < 2 ^ n) (hl : lo < 2 ^ k) (e′ : p + k ≡ q)
-    (f : digitsOf k lo ≡ part p k (bitsOf s)) (g : digitsOf n hi ≡ part q n (bitsOf s)) where
-  -- as the code joins them
-  abbrev joined : ℕ
-  joined = bitOr (hi * 2 ^ k % 2 ^ 64) lo
-
-  joined-is : joined ≡ hi * 2 ^ k + lo
-  joined-is = ap (λ (x : ℕ). bitOr x lo) (shl-exact n k 64 hh (omega arith)) ∙ or-shifted hi k lo hl
-
-  pub joined-digits : (joined < 2 ^ m) × (digitsOf m joined ≡ part p m (bitsOf s))
-  joined-digits =
-      let c : n + k ≡ m = omega arith in (
-        subst (λ (x : ℕ). x < 2 ^ m) (sym joined-is) (subst (λ (i : ℕ). hi * 2 ^ k + lo < 2 ^ i) c (subst (λ (x : ℕ). hi * 2 ^ k + lo < x) (sym (pow-add 2 n k)) (digits-lt hh hl))),
-        ap (digitsOf m) joined-is ∙ digits-join k n m hi lo e hl
-            ∙ ap₂ (λ (x y : List ℕ). x ++ y) f (g ∙ ap (λ (i : ℕ). part i n (bitsOf s)) (sym e′))
-            ∙ part-more (bitsOf s) p k n m (sym e),
-      )
-
--- two octets
-pub two-octets : (s : List ℕ) (i : ℕ) → Octets s → i + 2 ≤ length s
-    → (bitOr (getD s (i + 1) 0 * 2 ^ 8 % 2 ^ 64) (getD s i 0) < 2 ^ 16)
-    × (digitsOf 16 (bitOr (getD s (i + 1) 0 * 2 ^ 8 % 2 ^ 64) (getD s i 0)) ≡ part (8 * i) 16 (bitsOf s))
-two-octets s i o h =
-    let e : 8 * i + 8 ≡ 8 * (i + 1) = omega arith in
-    joined-digits s 8 8 16 (8 * i) (8 * (i + 1)) (getD s (i + 1) 0) (getD s i 0) refl (lit≤ tt) (o (i + 1)) (o i) e (octet-digits s i (omega arith)) (octet-digits s (i + 1) (omega arith))
 
 -- ---- and back
 
@@ -142,9 +143,14 @@ one-octet : (v : ℕ) → octetsOf 1 (digitsOf 8 v) ≡ bitAnd v 255 ∷ []
 unfolding octetsOf
 one-octet v = ap (λ (l : List ℕ). valueOf l ∷ []) (digits-take 8 8 v (lit≤ tt)) ∙ ap (λ (x : ℕ). x ∷ []) (value-digits 8 v ∙ sym (and-mask v 8))
 
-pub two-put : (s : List ℕ) (i v : ℕ) → set (set s i (bitAnd v 255)) (i + 1) (bitAnd (v / 2 ^ 8) 255) ≡ sets s i (octetsOf 2 (digitsOf 16 v))
-two-put s i v =
-    sym (ap₂ (λ (x y : List ℕ). sets (sets s i x) (i + 1) y) (one-octet v) (one-octet (v / 2 ^ 8))) ∙ sets-more s i 1 1 v
+-- one octet more, behind the low m of v that are put; rest is what is left of v
+pub octets-more : (s₀ : List ℕ) (i m v k : ℕ) {rest : ℕ} {s : List ℕ} → i + m ≡ k → rest ≡ v / 2 ^ (8 * m) → s ≡ sets s₀ i (octetsOf m (digitsOf (8 * m) v))
+    → set s k (bitAnd rest 255) ≡ sets s₀ i (octetsOf (m + 1) (digitsOf (8 * (m + 1)) v))
+octets-more s₀ i m v k {rest} {s} e f g =
+    ap (sets s k) (sym (one-octet rest))
+    ∙ ap₂ (λ (l : List ℕ) (j : ℕ). sets l j (octetsOf 1 (digitsOf 8 rest))) g (sym e)
+    ∙ ap (λ (x : ℕ). sets (sets s₀ i (octetsOf m (digitsOf (8 * m) v))) (i + m) (octetsOf 1 (digitsOf 8 x))) f
+    ∙ sets-more s₀ i m 1 v
 
 -- what bits make are octets
 pub octets-octets : (n : ℕ) (bs : List ℕ) → Bits bs → Octets (octetsOf n bs)
@@ -153,14 +159,21 @@ octets-octets zero bs h i = suc-le-suc zero-le
 octets-octets (suc n) bs h zero = value-part 8 bs h
 octets-octets (suc n) bs h (suc i) = octets-octets n (drop 8 bs) (drop-bits 8 bs h) i
 
+-- octets put, where no more are there than the first m
+pub sets-rest : (s : List ℕ) (i m n v : ℕ) → length s ≤ i + m
+    → sets s i (octetsOf m (digitsOf (8 * m) v)) ≡ sets s i (octetsOf (m + n) (digitsOf (8 * (m + n)) v))
+sets-rest s i m n v h =
+    let S = sets s i (octetsOf m (digitsOf (8 * m) v)) in
+    sym (sets-own S (i + m) (octetsOf n (digitsOf (8 * n) (v / 2 ^ (8 * m)))) (λ j p q. absurd (omega (arith, length-sets s i (octetsOf m (digitsOf (8 * m) v))))))
+    ∙ sets-more s i m n v
+
 -- whole octets of bits put over octets
-octets-laid : (s bs : List ℕ) (i n : ℕ) → Octets s → Bits bs → length bs ≡ 8 * n → i + n ≤ length s → sets s i (octetsOf n bs) ≡ laid s (8 * i) bs
+octets-laid : (s bs : List ℕ) (i n : ℕ) → Octets s → Bits bs → length bs ≡ 8 * n → sets s i (octetsOf n bs) ≡ laid s (8 * i) bs
 unfolding laid
-octets-laid s bs i n o h e l =
+octets-laid s bs i n o h e =
     let O = octetsOf n bs in
-    let f : i + length O ≤ length s = omega (arith, octets-length n bs) in
     octets-are (sets s i O) (sets (bitsOf s) (8 * i) bs) (length s) (length-sets s i O) (sets-below 256 s i O o (octets-octets n bs h))
-    (bits-sets s O i f ∙ ap (sets (bitsOf s) (8 * i)) (bits-octets n bs e h))
+    (bits-sets s O i ∙ ap (sets (bitsOf s) (8 * i)) (bits-octets n bs e h))
 
 -- ---- a field read and put, by what stands in the eight octets that hold it
 
@@ -198,21 +211,74 @@ value-at l j h =
     first [] k = refl
     first (x ∷ m) k = digits-mod (valueOf m) (k 0)
 
--- ---- bits read and put, by what stands in the eight octets that hold them. What lies past the end reads 0 and is not written
+-- of 64 bits from a place on, the first n
+front-value : (s : List ℕ) (p n : ℕ) → n ≤ 64 → valueOf (part p 64 (bitsOf s)) % 2 ^ n ≡ valueOf (part p n (bitsOf s))
+front-value s p n h =
+    let L = drop p (bitsOf s) in
+    sym (value-take n (take 64 L) (take-bits 64 L (drop-bits p (bitsOf s) (bits-bits s)))) ∙ ap valueOf (take-take n 64 L h)
 
--- elements that are there already
-sets-own : (l : List ℕ) (at : ℕ) (bs : List ℕ) → ((i : ℕ) → i < length bs → at + i < length l → getD bs i 0 ≡ getD l (at + i) 0) → sets l at bs ≡ l
-sets-own l at [] h = refl
-sets-own l at (b ∷ bs) h =
-    ap (λ (m : List ℕ). sets m (suc at) bs) one ∙ sets-own l (suc at) bs (λ i p q. h (suc i) (suc-le-suc p) (omega arith) ∙ ap (λ (k : ℕ). getD l k 0) (omega arith))
-  where
-    one : set l at b ≡ l
-    one = pick (decLe (length l) at)
-      where
-        pick : Dec (length l ≤ at) → set l at b ≡ l
-        pick (yes p) = set-out l at b p
-        pick (no p) =
-            ap (set l at) (h 0 (suc-le-suc zero-le) (omega arith) ∙ ap (λ (k : ℕ). getD l k 0) (add-zero at)) ∙ set-getD l at 0
+-- ---- 64 bits at any place, by the two words that hold them
+
+-- a number shifted out of its word at the top
+shl-mod : (a j k w : ℕ) → w ≡ j + k → a * 2 ^ k % 2 ^ w ≡ a % 2 ^ j * 2 ^ k
+shl-mod a j k w e =
+    let z : a * 2 ^ k + 0 ≡ a * 2 ^ k = omega arith in
+    ap (λ (n : ℕ). a * 2 ^ k % 2 ^ n) e ∙ mod-pow-add (a * 2 ^ k) j k
+    ∙ ap₂ (λ (x y : ℕ). x % 2 ^ j * 2 ^ k + y) (shl-shr a k) (ap (λ (x : ℕ). x % 2 ^ k) (sym z) ∙ low a k (pow-pos k))
+    ∙ omega arith
+
+-- of 64 bits from a place on, the first m, shifted to the top
+pub front-shifted : (s : List ℕ) (p m : ℕ) → m ≤ 64 → valueOf (part p 64 (bitsOf s)) * 2 ^ (64 - m) % 2 ^ 64 ≡ valueOf (part p m (bitsOf s)) * 2 ^ (64 - m)
+front-shifted s p m h =
+    shl-mod (valueOf (part p 64 (bitsOf s))) m (64 - m) 64 (omega arith) ∙ ap (λ (x : ℕ). x * 2 ^ (64 - m)) (front-value s p m h)
+
+-- what is 0 shifted was 0
+pub front-none : (x k : ℕ) → x * 2 ^ k ≡ 0 → x ≡ 0
+front-none x k e = sym (shl-shr x k) ∙ ap (λ (y : ℕ). y / 2 ^ k) e ∙ div-eq-of-lt (pow-pos k)
+
+module _ (x r : ℕ) (h : r < 64) where
+  -- what goes to the top of the word, as the code shifts it: by 64 - r, which may be all 64
+  top : (y : ℕ) → y * 2 ^ (63 - r) % 2 ^ 64 * 2 ^ 1 % 2 ^ 64 ≡ y % 2 ^ r * 2 ^ (64 - r)
+  top y =
+      let c : 63 - r + 1 ≡ 64 - r = omega arith in
+      ap (λ (z : ℕ). z * 2 ^ 1 % 2 ^ 64) (shl-mod y (1 + r) (63 - r) 64 (omega arith))
+      ∙ ap (λ (z : ℕ). z % 2 ^ 64) (mul-assoc (y % 2 ^ (1 + r)) (2 ^ (63 - r)) (2 ^ 1) ∙ ap (λ (z : ℕ). y % 2 ^ (1 + r) * z) (sym (pow-add 2 (63 - r) 1) ∙ ap (λ (k : ℕ). 2 ^ k) c))
+      ∙ shl-mod (y % 2 ^ (1 + r)) r (64 - r) 64 (omega arith)
+      ∙ ap (λ (z : ℕ). z * 2 ^ (64 - r)) (mod-mod-pow y 1 r)
+
+  two-words : bitOr (x / 2 ^ 64 % 2 ^ 64 * 2 ^ (63 - r) % 2 ^ 64 * 2 ^ 1 % 2 ^ 64) (x % 2 ^ 64 / 2 ^ r) ≡ x / 2 ^ r % 2 ^ 64
+  two-words =
+      let d : 64 ≡ 64 - r + r = omega arith in
+      let e : 64 ≡ r + (64 - r) = omega arith in
+      let hi = x / 2 ^ 64 % 2 ^ r in
+      let lo = x / 2 ^ r % 2 ^ (64 - r) in
+      ap₂ bitOr
+      (top (x / 2 ^ 64 % 2 ^ 64) ∙ ap (λ (z : ℕ). z * 2 ^ (64 - r)) (ap (λ (k : ℕ). x / 2 ^ 64 % 2 ^ k % 2 ^ r) d ∙ mod-mod-pow (x / 2 ^ 64) (64 - r) r))
+      (ap (λ (k : ℕ). x % 2 ^ k / 2 ^ r) d ∙ field x (64 - r) r)
+      ∙ or-shifted hi (64 - r) lo (mod-lt (x / 2 ^ r) (pow-pos (64 - r)))
+      ∙ ap (λ (k : ℕ). x / 2 ^ k % 2 ^ r * 2 ^ (64 - r) + lo) e
+      ∙ ap (λ (z : ℕ). z % 2 ^ r * 2 ^ (64 - r) + lo) (sym (shr-shr x r (64 - r)))
+      ∙ sym (ap (λ (k : ℕ). x / 2 ^ r % 2 ^ k) e ∙ mod-pow-add (x / 2 ^ r) r (64 - r))
+
+-- 64 bits k behind place q
+from-value : (s : List ℕ) (q k p : ℕ) → q + k ≡ p → valueOf (part p 64 (bitsOf s)) ≡ valueOf (drop q (bitsOf s)) / 2 ^ k % 2 ^ 64
+from-value s q k p e =
+    let L = drop q (bitsOf s) in
+    let ok : Bits L = drop-bits q (bitsOf s) (bits-bits s) in
+    ap (λ (l : List ℕ). valueOf (take 64 l)) (ap (λ (i : ℕ). drop i (bitsOf s)) (sym e) ∙ sym (drop-drop k q (bitsOf s)))
+    ∙ value-take 64 (drop k L) (drop-bits k L ok) ∙ ap (λ (x : ℕ). x % 2 ^ 64) (value-drop k L ok)
+
+pub long-is : (s : List ℕ) (i r at : ℕ) → r < 8 → 8 * i + r ≡ at
+    → bitOr (valueOf (part (8 * (i + 8)) 64 (bitsOf s)) * 2 ^ (63 - r) % 2 ^ 64 * 2 ^ 1 % 2 ^ 64) (valueOf (part (8 * i) 64 (bitsOf s)) / 2 ^ r)
+    ≡ valueOf (part at 64 (bitsOf s))
+long-is s i r at h e =
+    let L = drop (8 * i) (bitsOf s) in
+    ap₂ (λ (y z : ℕ). bitOr (y * 2 ^ (63 - r) % 2 ^ 64 * 2 ^ 1 % 2 ^ 64) (z / 2 ^ r))
+    (from-value s (8 * i) 64 (8 * (i + 8)) (omega arith)) (value-take 64 L (drop-bits (8 * i) (bitsOf s) (bits-bits s)))
+    ∙ two-words (valueOf L) r (omega arith)
+    ∙ sym (from-value s (8 * i) r at e)
+
+-- ---- bits read and put, by what stands in the eight octets that hold them. What lies past the end reads 0 and is not written
 
 module _ (B : List ℕ) (ok : Bits B) (first r n at : ℕ) (e : first + r ≡ at) (h : r + n ≤ 64) where
   abbrev eight-bits : List ℕ
@@ -260,15 +326,27 @@ module _ (B : List ℕ) (ok : Bits B) (first r n at : ℕ) (e : first + r ≡ at
       let f : first + (r + n + i) ≡ at + n + i = omega arith in
       getD-drop (r + n) D i 0 ∙ eight-at (r + n + i) lt ∙ ap (λ (k : ℕ). getD B k 0) f ∙ sym (sets-other B at ds (at + n + i) (inr (omega arith))))
 
+-- the first n of 64 bits from a place on
+pub front-digits : (s : List ℕ) (p n v : ℕ) → n ≤ 64 → n ≤ 8 * length s - p → v ≡ valueOf (part p 64 (bitsOf s)) → digitsOf n v ≡ part p n (bitsOf s)
+unfolding digitsOf
+front-digits s p zero v h l e = refl
+front-digits s p (suc n) v h l e =
+    sym (digits-mod-pow (suc n) v) ∙ ap (digitsOf (suc n)) (ap (λ (x : ℕ). x % 2 ^ suc n) e ∙ front-value s p (suc n) h) ∙ field-digits s p (suc n) (omega arith)
+
+-- the first m of 64 bits from a place on, laid behind the k before them
+pub part-laid : (s₀ : List ℕ) (at : ℕ) (source : List ℕ) (from k m : ℕ) {s t : List ℕ} {v : ℕ} → m ≤ 64 → k + m ≤ 8 * length source - from
+    → s ≡ laid s₀ at (part from k (bitsOf source)) → v ≡ valueOf (part (from + k) 64 (bitsOf source)) → t ≡ laid s (at + k) (digitsOf m v)
+    → t ≡ laid s₀ at (part from (k + m) (bitsOf source))
+part-laid s₀ at source from k m {s} {t} {v} h l e f g =
+    let B = bitsOf source in
+    let size : length (part from k B) ≡ k = length-take-le k (drop from B) (omega (arith, length-drop from B, bits-length source)) in
+    laid-next s₀ at (part from k B) (part (from + k) m B) (at + k) (take-bits k (drop from B) (drop-bits from B (bits-bits source))) (ap (λ (j : ℕ). at + j) size) e
+    (g ∙ ap (laid s (at + k)) (front-digits source (from + k) m v h (omega arith) f))
+    ∙ ap (laid s₀ at) (part-more B from k m (k + m) refl)
+
 -- the first n bits of a word
 pub word-front : (s : List ℕ) (i n v : ℕ) → n ≤ 64 → 8 * i + n ≤ 8 * length s → v ≡ valueOf (part (8 * i) 64 (bitsOf s)) → digitsOf n v ≡ part (8 * i) n (bitsOf s)
-word-front s i n v h l e =
-    let P = part (8 * i) 64 (bitsOf s) in
-    sym (digits-mod-pow n v)
-    ∙ ap (digitsOf n)
-    (ap (λ (x : ℕ). x % 2 ^ n) e ∙ sym (value-take n P (take-bits 64 (drop (8 * i) (bitsOf s)) (drop-bits (8 * i) (bitsOf s) (bits-bits s))))
-    ∙ ap valueOf (take-take n 64 (drop (8 * i) (bitsOf s)) h))
-    ∙ field-digits s (8 * i) n l
+word-front s i n v h l e = front-digits s (8 * i) n v h (omega arith) e
 
 -- the eight octets from an octet on, with bits replaced, are those bits laid
 pub bits-laid : (s : List ℕ) (i r n at v y : ℕ) → 8 * i + r ≡ at → r + n ≤ 64
@@ -294,7 +372,7 @@ laid-own s p n o =
 
 -- ---- octets one by one: past the end an octet reads 0 and is not written
 
-part-none : (s : List ℕ) (at n : ℕ) → 8 * length s ≤ at → part at n (bitsOf s) ≡ []
+pub part-none : (s : List ℕ) (at n : ℕ) → 8 * length s ≤ at → part at n (bitsOf s) ≡ []
 part-none s at n h = ap (take n) (drop-of-length-le (bitsOf s) {i = at} (omega (arith, bits-length s))) ∙ take-nil n
 
 -- one octet more, before those that were read
@@ -317,32 +395,13 @@ value-octet s j m o = pick (decLe (length s) j)
         ∙ value-append (digitsOf 8 (getD s j 0)) P
         ∙ ap₂ (λ (k x : ℕ). valueOf P * 2 ^ k + x) (digits-length 8 (getD s j 0)) (value-digits 8 (getD s j 0) ∙ mod-eq-of-lt (o j)))
 
--- bits laid past the end
-pub laid-past : (s : List ℕ) (at : ℕ) (bs : List ℕ) → Octets s → 8 * length s ≤ at → s ≡ laid s at bs
-unfolding laid
-laid-past s at bs o h = sym (octets-bits s o) ∙ ap (octetsOf (length s)) (sym (sets-own (bitsOf s) at bs (λ i p q. absurd (omega (arith, bits-length s)))))
-
--- one octet written
-pub octet-laid : (s : List ℕ) (j v : ℕ) → Octets s → j < length s → set s j (bitAnd v 255) ≡ laid s (8 * j) (digitsOf 8 v)
-octet-laid s j v o h =
-    sym (ap (sets s j) (one-octet v)) ∙ octets-laid s (digitsOf 8 v) j 1 o (digits-bits 8 v) (digits-length 8 v) (omega arith)
-
--- eight octets written
-pub word-laid : (s : List ℕ) (i v : ℕ) → Octets s → i + 8 ≤ length s → sets s i (octetsOf 8 (digitsOf 64 v)) ≡ laid s (8 * i) (digitsOf 64 v)
-word-laid s i v o h = octets-laid s (digitsOf 64 v) i 8 o (digits-bits 64 v) (digits-length 64 v) h
-
--- the digits laid so far, and eight more
-pub octet-more : (s₀ : List ℕ) (i v k : ℕ) {rest : ℕ} {s t : List ℕ} → rest ≡ v / 2 ^ (8 * k) → s ≡ laid s₀ (8 * i) (digitsOf (8 * k) v)
-    → t ≡ laid s (8 * (i + k)) (digitsOf 8 rest) → t ≡ laid s₀ (8 * i) (digitsOf (8 * (k + 1)) v)
-octet-more s₀ i v k {rest} e f g =
-    let p : 8 * i + length (digitsOf (8 * k) v) ≡ 8 * (i + k) = ap (λ (n : ℕ). 8 * i + n) (digits-length (8 * k) v) ∙ omega arith in
-    laid-next s₀ (8 * i) (digitsOf (8 * k) v) (digitsOf 8 rest) (8 * (i + k)) (digits-bits (8 * k) v) p f g
-    ∙ ap (laid s₀ (8 * i))
-    (ap (λ (x : ℕ). digitsOf (8 * k) v ++ digitsOf 8 x) e ∙ sym (digits-cut (8 * k) 8 (8 * (k + 1)) v (omega arith)))
+-- eight octets written, or as many as there are
+pub word-laid : (s : List ℕ) (i v : ℕ) → Octets s → sets s i (octetsOf 8 (digitsOf 64 v)) ≡ laid s (8 * i) (digitsOf 64 v)
+word-laid s i v o = octets-laid s (digitsOf 64 v) i 8 o (digits-bits 64 v) (digits-length 64 v)
 
 -- ---- the digits of a number with a field of them replaced, as the code does it
 
-module _ (x r n v : ℕ) (hr : r < 8) (hn : n ≤ 56) (hx : x < 2 ^ 64) where
+module _ (x r n v : ℕ) (h : r + n ≤ 63) (hx : x < 2 ^ 64) where
   abbrev lower : ℕ
   lower = bitOr (v % 2 ^ n * 2 ^ r % 2 ^ 64) (x % 2 ^ r)
 
@@ -369,18 +428,6 @@ module _ (x r n v : ℕ) (hr : r < 8) (hn : n ≤ 56) (hx : x < 2 ^ 64) where
       (ap (digitsOf k) lower-is ∙ digits-join r n k (v % 2 ^ n) (x % 2 ^ r) refl (mod-lt x (pow-pos r))
       ∙ ap₂ (λ (a b : List ℕ). a ++ b) (digits-mod-pow r x ∙ sym (digits-take r 64 x (omega arith))) (digits-mod-pow n v))
       (sym (digits-drop k (64 - k) 64 x q))
-
--- ---- whether there is an octet k places behind octet i, as the code asks it
-
-pub octet-not : (i k n : ℕ) → n ≤ i → false ≡ ltb (i + k) n
-octet-not i k n h = sym (le-ltb (i + k) n (omega arith))
-
-pub octet-there : (i k n : ℕ) → i < n → ltb k (n - i) ≡ ltb (i + k) n
-octet-there i k n h = pick (decLt k (n - i))
-  where
-    pick : Dec (k < n - i) → ltb k (n - i) ≡ ltb (i + k) n
-    pick (yes l) = lt-ltb k (n - i) l ∙ sym (lt-ltb (i + k) n (omega arith))
-    pick (no l) = le-ltb k (n - i) (omega arith) ∙ sym (le-ltb (i + k) n (omega arith))
 
 -- ---- a power of two, as the code shifts it
 

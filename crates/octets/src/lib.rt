@@ -2,40 +2,17 @@
 // (n-1) mod 8 in octet (n-1)/8. Every function takes every input: what lies past the end reads 0 and is not written.
 ghost use mathlib.Core.Path.{_≡_};
 ghost use mathlib.Core.List.{_++_};
-ghost use Prim.Native.Nat.{_+_, _-_, _*_, _^_, _<_, _≤_, min};
-ghost use lib.Dec.{ltb};
-ghost use lib.ListN.{length, getD, take, drop};
+ghost use Prim.Native.Nat.{_+_, _-_, _*_, _%_, _<_, _≤_, min};
+ghost use lib.ListN.{length, take, drop};
 ghost use lib.Seq.{sets};
-ghost use Rattle.octets.specs.Bits.{digitsOf, bitsOf, octetsOf, part, laid};
-ghost use Rattle.octets.specs.Promises.{BitRead, HasBit, WordRead, WordPut, BitsRead, BitsPut, Copied, Cleared, IsClear};
+ghost use Rattle.octets.specs.Bits.{digitsOf, valueOf, bitsOf, octetsOf, part, laid};
+ghost use Rattle.octets.specs.Promises.{BitRead, HasBit, WordRead, WordPut, BitsRead, BitsPut, FrontPut, Copied, Cleared, IsClear, Signed, Twos};
 
 // Whether there is a bit k places behind place `at`.
 pub fn has(s: &[u8], at: usize, k: u32) -> bool
     ensures { λ r. ⌜ HasBit (now (s .entry)) at k r ⌝ }
 {
     at / 8 + (at % 8 + (k as usize)) / 8 < s.len()
-}
-
-// The bit k places behind place `at`.
-pub fn bit(s: &[u8], at: usize, k: u32) -> u8
-    ensures { λ r. ⌜ BitRead (now (s .entry)) at k r ⌝ }
-{
-    if has(s, at, k) {
-        let j = at % 8 + (k as usize);
-        (s[at / 8 + j / 8] >> (j % 8)) & 1
-    } else {
-        0
-    }
-}
-
-// Whether there is an octet k places behind octet i.
-fn has_octet(s: &[u8], i: usize, k: usize) -> bool
-    ensures { λ r. ⌜ r ≡ ltb (i + k) (length (now (s .entry))) ⌝ }
-{
-    if s.len() <= i {
-        return false;
-    }
-    k < s.len() - i
 }
 
 // At how many octets eight octets begin. A loop asks this once.
@@ -45,105 +22,29 @@ fn starts(s: &[u8]) -> usize
     if s.len() < 7 { 0 } else { s.len() - 7 }
 }
 
-// The two octets from octet i on as one number, the first lowest.
-fn two(s: &[u8], i: usize) -> u64
-    requires { ⌜ i + 2 ≤ length (now s) ⌝ }
-    ensures { λ r. ⌜ (r < 2 ^ 16) × (digitsOf 16 r ≡ part (8 * i) 16 (bitsOf (now (s .entry)))) ⌝ }
-{
-    let low = s[i] as u64;
-    let high = s[i + 1] as u64;
-    (high << 8) | low
-}
-
-// The four octets from octet i on.
-fn four(s: &[u8], i: usize) -> u64
-    requires { ⌜ i + 4 ≤ length (now s) ⌝ }
-    ensures { λ r. ⌜ (r < 2 ^ 32) × (digitsOf 32 r ≡ part (8 * i) 32 (bitsOf (now (s .entry)))) ⌝ }
-{
-    let low = two(s, i);
-    let high = two(s, i + 2);
-    (high << 16) | low
-}
-
-// The eight octets from octet i on.
-fn eight(s: &[u8], i: usize) -> u64
-    requires { ⌜ i + 8 ≤ length (now s) ⌝ }
-    ensures { λ r. ⌜ (r < 2 ^ 64) × (digitsOf 64 r ≡ part (8 * i) 64 (bitsOf (now (s .entry)))) ⌝ }
-{
-    let low = four(s, i);
-    let high = four(s, i + 4);
-    (high << 32) | low
-}
-
-// The two octets from octet i on become the two low ones of v.
-fn put_two(s: &mut [u8], i: usize, v: u64)
-    requires { ⌜ i + 2 ≤ length (now s) ⌝ }
-    ensures { λ r. ⌜ now (s .exit) ≡ sets (now (s .entry)) i (octetsOf 2 (digitsOf 16 v)) ⌝ }
-{
-    s[i] = (v & 0xff) as u8;
-    s[i + 1] = ((v >> 8) & 0xff) as u8;
-}
-
-// The four octets from octet i on become the four low ones of v.
-fn put_four(s: &mut [u8], i: usize, v: u64)
-    requires { ⌜ i + 4 ≤ length (now s) ⌝ }
-    ensures { λ r. ⌜ now (s .exit) ≡ sets (now (s .entry)) i (octetsOf 4 (digitsOf 32 v)) ⌝ }
-{
-    put_two(s, i, v);
-    put_two(s, i + 2, v >> 16);
-}
-
-// The eight octets from octet i on become those of v.
-fn put_eight(s: &mut [u8], i: usize, v: u64)
-    requires { ⌜ i + 8 ≤ length (now s) ⌝ }
-    ensures { λ r. ⌜ now (s .exit) ≡ sets (now (s .entry)) i (octetsOf 8 (digitsOf 64 v)) ⌝ }
-{
-    put_four(s, i, v);
-    put_four(s, i + 4, v >> 32);
-}
-
-// The octet k places behind octet i; past the end 0.
-fn octet(s: &[u8], i: usize, k: usize) -> u64
-    ensures { λ r. ⌜ r ≡ getD (now (s .entry)) (i + k) 0 ⌝ }
-{
-    if has_octet(s, i, k) {
-        s[i + k] as u64
-    } else {
-        0
-    }
-}
-
-// The eight octets from octet i on, one by one from the last on.
-fn by_octets(s: &[u8], i: usize) -> u64
+// The octets from octet i to before octet `end` as one number, the first lowest. Of eight octets the compiler makes one load.
+fn by_octets(s: &[u8], i: usize, end: usize) -> u64
+    requires { ⌜ (i ≤ end) × (end ≡ min (i + 8) (length (now s))) ⌝ }
     ensures { λ r. ⌜ WordRead (now (s .entry)) i r ⌝ }
 {
     let mut v: u64 = 0;
-    let mut k: usize = 8;
-    while 0 < k {
-        let o = octet(s, i, k - 1);
-        v = (v << 8) | o;
+    let mut k = end;
+    while k != i {
         k -= 1;
+        v = (v << 8) | (s[k] as u64);
     }
     v
 }
 
-// The octet k places behind octet i becomes the low one of v.
-fn put_octet(s: &mut [u8], i: usize, k: usize, v: u64)
-    ensures { λ r. ⌜ now (s .exit) ≡ laid (now (s .entry)) (8 * (i + k)) (digitsOf 8 v) ⌝ }
-{
-    if has_octet(s, i, k) {
-        s[i + k] = (v & 0xff) as u8;
-    }
-}
-
-// The eight octets from octet i on become those of v, one by one.
-fn put_octets(s: &mut [u8], i: usize, v: u64)
-    ensures { λ r. ⌜ WordPut (now (s .entry)) i v (now (s .exit)) ⌝ }
+// Those octets become the low ones of v. Of eight octets the compiler makes one store.
+fn put_octets(s: &mut [u8], i: usize, end: usize, v: u64)
+    requires { ⌜ end ≡ min (i + 8) (length (now s)) ⌝ }
+    ensures { λ r. ⌜ now (s .exit) ≡ sets (now (s .entry)) i (octetsOf 8 (digitsOf 64 v)) ⌝ }
 {
     let mut rest = v;
-    let mut k: usize = 0;
-    while k < 8 {
-        put_octet(s, i, k, rest);
+    let mut k = i;
+    while k < end {
+        s[k] = (rest & 0xff) as u8;
         rest = rest >> 8;
         k += 1;
     }
@@ -154,10 +55,12 @@ pub fn word(s: &[u8], i: usize) -> u64
     ensures { λ r. ⌜ WordRead (now (s .entry)) i r ⌝ }
 {
     if i < starts(s) {
-        eight(s, i)
-    } else {
-        by_octets(s, i)
+        return by_octets(s, i, i + 8);
     }
+    if s.len() <= i {
+        return 0;
+    }
+    by_octets(s, i, s.len())
 }
 
 // The 64 bits from octet i on become those of v: one store where there are eight octets.
@@ -165,25 +68,31 @@ pub fn put_word(s: &mut [u8], i: usize, v: u64)
     ensures { λ r. ⌜ WordPut (now (s .entry)) i v (now (s .exit)) ⌝ }
 {
     if i < starts(s) {
-        put_eight(s, i, v);
+        put_octets(s, i, i + 8, v);
     } else {
-        put_octets(s, i, v);
+        let end = s.len();
+        put_octets(s, i, end, v);
     }
 }
 
-// The longest part that eight octets hold at every place.
+// The bits of eight octets, and the longest part that they hold at every place.
+const WORD: u32 = 64;
+
 const LONGEST: u32 = 56;
 
-// A part's length as it counts.
-fn taken(n: u32) -> u32
-    ensures { λ r. ⌜ r ≡ min n 56 ⌝ }
+// The widest number in two's complement.
+const WIDEST: u32 = 32;
+
+// The lesser of two numbers.
+fn least(n: u32, most: u32) -> u32
+    ensures { λ r. ⌜ r ≡ min n most ⌝ }
 {
-    if n < LONGEST { n } else { LONGEST }
+    if n < most { n } else { most }
 }
 
 // The 64 digits of x, where those of v stand from place r on, n of them.
 fn replaced(x: u64, r: u32, n: u32, v: u64) -> u64
-    requires { ⌜ (r < 8) × (n ≤ 56) ⌝ }
+    requires { ⌜ r + n ≤ 63 ⌝ }
     ensures { λ y. ⌜ digitsOf 64 y ≡ take r (digitsOf 64 x) ++ digitsOf n v ++ drop (r + n) (digitsOf 64 x) ⌝ }
 {
     let before = x % (1u64 << r);
@@ -192,42 +101,100 @@ fn replaced(x: u64, r: u32, n: u32, v: u64) -> u64
     (after << (r + n)) | ((field << r) | before)
 }
 
+// The 64 bits from octet i on, with the n from the one r places behind the first on made the low digits of v. For all 64 nothing is loaded.
+fn changed(s: &[u8], i: usize, r: u32, n: u32, v: u64) -> u64
+    requires { ⌜ r + n ≤ 64 - min r 1 ⌝ }
+    ensures { λ y. ⌜ laid (now (s .entry)) (8 * i) (digitsOf 64 y) ≡ laid (now (s .entry)) (8 * i + r) (digitsOf n v) ⌝ }
+{
+    if n == WORD {
+        v
+    } else {
+        replaced(word(s, i), r, n, v)
+    }
+}
+
+// Those n bits become the low digits of v.
+fn put_part(s: &mut [u8], i: usize, r: u32, n: u32, v: u64)
+    requires { ⌜ r + n ≤ 64 - min r 1 ⌝ }
+    ensures { λ y. ⌜ now (s .exit) ≡ laid (now (s .entry)) (8 * i + r) (digitsOf n v) ⌝ }
+{
+    let y = changed(s, i, r, n, v);
+    put_word(s, i, y);
+}
+
 // The n bits from the one k places behind place `at` on as one number, the first lowest; no more than 56.
 pub fn bits(s: &[u8], at: usize, k: u32, n: u32) -> u64
     ensures { λ r. ⌜ BitsRead (now (s .entry)) at k n r ⌝ }
 {
-    let m = taken(n);
+    let m = least(n, LONGEST);
     let j = at % 8 + (k as usize);
     let x = word(s, at / 8 + j / 8) >> (j % 8);
     x % (1u64 << m)
+}
+
+// The bit k places behind place `at`.
+pub fn bit(s: &[u8], at: usize, k: u32) -> u8
+    ensures { λ r. ⌜ BitRead (now (s .entry)) at k r ⌝ }
+{
+    bits(s, at, k, 1) as u8
+}
+
+// The n bits from the one k places behind place `at` on become the low digits of v.
+fn put_at(s: &mut [u8], at: usize, k: u32, n: u32, v: u64)
+    requires { ⌜ (at + k) % 8 + n ≤ 64 - min ((at + k) % 8) 1 ⌝ }
+    ensures { λ r. ⌜ now (s .exit) ≡ laid (now (s .entry)) (at + k) (digitsOf n v) ⌝ }
+{
+    let j = at % 8 + (k as usize);
+    put_part(s, at / 8 + j / 8, (j % 8) as u32, n, v);
 }
 
 // The n bits from the one k places behind place `at` on become the low digits of v, the lowest first; no more than 56.
 pub fn put_bits(s: &mut [u8], at: usize, k: u32, n: u32, v: u64)
     ensures { λ r. ⌜ BitsPut (now (s .entry)) at k n v (now (s .exit)) ⌝ }
 {
-    let m = taken(n);
+    put_at(s, at, k, least(n, LONGEST), v);
+}
+
+// The n bits from octet i on become the low digits of v, the lowest first; no more than 64.
+pub fn put_front(s: &mut [u8], i: usize, n: u32, v: u64)
+    ensures { λ r. ⌜ FrontPut (now (s .entry)) i n v (now (s .exit)) ⌝ }
+{
+    put_part(s, i, 0, least(n, WORD), v);
+}
+
+// The 64 bits from the one k places behind place `at` on as one number, the first lowest.
+fn long(s: &[u8], at: usize, k: u32) -> u64
+    ensures { λ r. ⌜ r ≡ valueOf (part (at + k) 64 (bitsOf (now (s .entry)))) ⌝ }
+{
     let j = at % 8 + (k as usize);
     let i = at / 8 + j / 8;
-    let x = word(s, i);
-    let y = replaced(x, (j % 8) as u32, m, v);
-    put_word(s, i, y);
+    let r = j % 8;
+    ((word(s, i + 8) << (63 - r)) << 1) | (word(s, i) >> r)
 }
 
 // How many of the n bits from place `from` on are there.
 fn there(s: &[u8], from: usize, n: u32) -> u32
     ensures { λ r. ⌜ r ≡ min n (8 * length (now (s .entry)) - from) ⌝ }
 {
-    if n == 0 {
-        return 0;
-    }
-    if has(s, from, n - 1) {
+    if has(s, from, n) {
         return n;
     }
     if s.len() <= from / 8 {
         return 0;
     }
     ((s.len() - from / 8) * 8 - from % 8) as u32
+}
+
+// How many of n bits go next, from the one k places behind place `at` on: those before the next octet; at an octet 64, or what is left.
+fn step(at: usize, k: u32, n: u32) -> u32
+    ensures { λ r. ⌜ (r ≤ n) × (min n 1 ≤ r) × ((at + k) % 8 + r ≤ 64 - min ((at + k) % 8) 1) ⌝ }
+{
+    let r = ((at % 8 + (k as usize)) % 8) as u32;
+    if r == 0 {
+        least(n, WORD)
+    } else {
+        least(n, 8 - r)
+    }
 }
 
 // The n bits from place `at` on become those of the source from place `from` on; past the source's end they stay.
@@ -237,9 +204,8 @@ pub fn copy(s: &mut [u8], at: usize, source: &[u8], from: usize, n: u32)
     let all = there(source, from, n);
     let mut k: u32 = 0;
     while k < all {
-        let m = taken(all - k);
-        let v = bits(source, from, k, m);
-        put_bits(s, at, k, m, v);
+        let m = step(at, k, all - k);
+        put_at(s, at, k, m, long(source, from, k));
         k += m;
     }
 }
@@ -250,8 +216,8 @@ pub fn clear(s: &mut [u8], at: usize, n: u32)
 {
     let mut k: u32 = 0;
     while k < n {
-        let m = taken(n - k);
-        put_bits(s, at, k, m, 0);
+        let m = step(at, k, n - k);
+        put_at(s, at, k, m, 0);
         k += m;
     }
 }
@@ -262,11 +228,34 @@ pub fn is_clear(s: &[u8], at: usize, n: u32) -> bool
 {
     let mut k: u32 = 0;
     while k < n {
-        let m = taken(n - k);
-        if bits(s, at, k, m) != 0 {
+        let m = least(n - k, WORD);
+        if long(s, at, k) << (WORD - m) != 0 {
             return false;
         }
         k += m;
     }
     true
+}
+
+// The whole number that the w low digits of n stand for in two's complement; a width over 32 counts as 32.
+pub fn signed(w: u32, n: u32) -> i32
+    ensures { λ r. ⌜ Signed w n r ⌝ }
+{
+    let size = 1u64 << least(w, WIDEST);
+    let v = (n as u64) % size;
+    if v + v < size {
+        return v as i32;
+    }
+    -1 - ((size - 1 - v) as i32)
+}
+
+// The value of the 32 digits of a whole number in two's complement.
+pub fn twos(v: i32) -> u32
+    ensures { λ r. ⌜ Twos v r ⌝ }
+{
+    if v < 0 {
+        4294967295 - ((-1 - v) as u32)
+    } else {
+        v as u32
+    }
 }

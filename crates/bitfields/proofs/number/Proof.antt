@@ -1,7 +1,6 @@
 -- `bitfields::number` meets its contract.
 use borrow.Author.Needs.{needs}
 use mathlib.Core.Path.{sym}
-use native.Mathlib.Omega.{arith}
 use lib.IntN.{pos}
 use lib.ListN.{List·getD-eq-default}
 use Rattle.bitfields.proofs.number.Statement.{statement}

@@ -1,13 +1,12 @@
 -- `bitfields::put_signed_fields` meets its contract. After k turns the window and memory hold the fields of the first k numbers.
 use borrow.Author.Needs.{needs}
-use mathlib.Core.Path.{_≡_, refl, sym, ap, ap₂, subst, _∙_}
-use mathlib.Core.Logic.{_⊎_, inl, inr}
+use mathlib.Core.Path.{_≡_, refl, sym, ap, subst, _∙_}
+use mathlib.Core.Logic.{inl, inr}
 use mathlib.Core.List.{List, [], _++_, append-assoc, append-nil}
-use Prim.Native.Nat.{ℕ, _+_, _-_, _*_, _/_, _%_, _^_, _≤_, _<_, min}
+use Prim.Native.Nat.{ℕ, _+_, _-_, _*_, _/_, _%_, _≤_, _<_, min}
 use native.Mathlib.Omega.{arith}
-use lib.IntN.{ℤ, pos}
+use lib.IntN.{pos}
 use lib.ListN.{length, getD, take}
-use mir.Facts.{toZ-ofZ}
 use Rattle.octets.specs.Bits.{digitsOf, valueOf, bitsOf, part, laid}
 use Rattle.octets.specs.Signed.{twosOf, numberBits}
 use Rattle.octets.proofs.Complement.{read-i32, twos-digits}
@@ -114,14 +113,14 @@ loop-again c =
           (append-bits B N (digits-bits (a .at % 8) (valueOf (part (8 * (a .at / 8)) (a .at % 8) (bitsOf s)))) (number-bits w (take (l .k) Z))) le (l .inv .2) (push .ensures)),
     )
 
-finished-requires : tie.Need-finished-requires Inv-loop μ-loop
-finished-requires c κs = let h = c .before .before .loop .inv .2 in (h .few, h .small)
+put-front-requires : tie.Need-put-front-requires Inv-loop μ-loop
+put-front-requires c κs = search needs
 
 same-length : tie.Need-same-length Inv-loop μ-loop
 same-length c =
     let l = c .before .before .before .before .before .loop in
     let a = c .before .before .before .before .before .before .before .before .before .before .args in
-    ap length (c .before .before .finished .ensures) ∙ laid-length (l .s) (8 * l .window .octet) _ ∙ ap length (l .inv .2 .laid-part)
+    ap length (c .before .before .put-front .ensures) ∙ laid-length (l .s) (8 * l .window .octet) _ ∙ ap length (l .inv .2 .laid-part)
     ∙ laid-length (a .s .now) (8 * (a .at / 8)) _
 
 returns : tie.Need-returns Inv-loop μ-loop
@@ -140,10 +139,11 @@ returns c =
     let Z = firstOf (a .n) (a .numbers .now) in
     let N = numberBits w (take (l .k) Z) in
     let k : l .k ≡ a .n = omega (arith, l .inv .0) in
+    let few : min (l .window .count) 64 ≡ l .window .count = omega (arith, l .inv .2 .few) in
     let place : 8 * i + length B ≡ a .at = ap (λ (x : ℕ). 8 * i + x) (digits-length r x₀) ∙ omega arith in
     let ok = digits-bits r x₀ in
-    holds-all s (8 * i) (B ++ N) (l .s) (l .window) (c .before .before .finished .last .0) (append-bits B N ok (number-bits w (take (l .k) Z))) (l .inv .2)
-    (c .before .before .finished .ensures)
+    holds-all s (8 * i) (B ++ N) (l .s) (l .window) (c .before .before .put-front .last .0) (append-bits B N ok (number-bits w (take (l .k) Z))) (l .inv .2)
+    (c .before .before .put-front .ensures ∙ ap (λ (x : ℕ). laid (l .s) (8 * l .window .octet) (digitsOf x (l .window .held))) few)
     ∙ sym (laid-next s (8 * i) B N (a .at) ok place (sym (laid-own s (8 * i) r (λ n. omega (arith, u .before .before .before .before .slice-known .given n)))) refl)
     ∙ ap (laid s (a .at)) (ap (λ (x : ℕ). numberBits w (take x Z)) k ∙ ap (numberBits w) (first-all (a .n) (a .numbers .now)) ∙ ap (λ (x : ℕ). numberBits x Z) (wide .ensures))
 
@@ -163,6 +163,6 @@ put-signed-fields-spec =
     add-k
     loop-less
     loop-again
-    finished-requires
+    put-front-requires
     same-length
     returns)

@@ -1,9 +1,10 @@
 -- `numbers::number` meets its contract. Assumes nothing.
 use borrow.Author.Needs.{needs}
 use mathlib.Core.Path.{_≡_, sym, ap, _∙_}
-use Prim.Native.Nat.{_+_, _*_, _≤_}
+use Prim.Native.Nat.{_+_, _*_, _^_, _≤_, _<_}
 use lib.IntN.{pos}
 use lib.ListN.{length, getD, List·getD-eq-default}
+use native.Mathlib.Nat.{mod-eq-of-lt}
 use native.Mathlib.Omega.{arith}
 use mir.Facts.{toZ-ofZ}
 use Rattle.octets.specs.Signed.{signedOf}
@@ -69,11 +70,11 @@ mul-high-2 c = search needs
 add-high : tie.Need-add-high
 add-high c = search needs
 
-add-to-signed : tie.Need-add-to-signed
-add-to-signed c = search needs
+add-signed : tie.Need-add-signed
+add-signed c = search needs
 
-to-signed-requires : tie.Need-to-signed-requires
-to-signed-requires c κs = search needs
+signed-requires : tie.Need-signed-requires
+signed-requires c κs = search needs
 
 returns-2 : tie.Need-returns-2
 returns-2 c =
@@ -89,7 +90,9 @@ returns-2 c =
     let e : o .result + p .result * 256 + (q .result * 65536 + r .result * 16777216)
     ≡ getD os at 0 + 256 * getD os (at + 1) 0 + 65536 * getD os (at + 2) 0 + 16777216 * getD os (at + 3) 0 =
     omega (arith, o .ensures .0, p .ensures .0, q .ensures .0, r .ensures .0) in
-    toZ-ofZ (record { sfits = c .to-signed .ok }) ∙ c .to-signed .ensures ∙ ap (signedOf 32) e ∙ sym (number-at os (a .k) (λ i. omega (arith, known i)) room)
+    let fit : o .result + p .result * 256 + (q .result * 65536 + r .result * 16777216) < 2 ^ 32 = omega (arith, o .ensures .1, p .ensures .1, q .ensures .1, r .ensures .1) in
+    toZ-ofZ (record { sfits = c .signed .ok }) ∙ c .signed .ensures
+    ∙ ap (signedOf 32) (mod-eq-of-lt fit ∙ e) ∙ sym (number-at os (a .k) (λ i. omega (arith, known i)) room)
 
 pub number-spec : {M : Type 1} → statement M
 number-spec =
@@ -113,6 +116,6 @@ number-spec =
     wide-requires-4
     mul-high-2
     add-high
-    add-to-signed
-    to-signed-requires
+    add-signed
+    signed-requires
     returns-2)

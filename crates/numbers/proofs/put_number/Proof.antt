@@ -18,8 +18,8 @@ returns c = rw (le-ltb _ _ (c .if1 .taken))
 mul-at : tie.Need-mul-at
 mul-at c = search needs
 
-to-unsigned-requires : tie.Need-to-unsigned-requires
-to-unsigned-requires c κs = search needs
+twos-requires : tie.Need-twos-requires
+twos-requires c κs = search needs
 
 cast-octets : tie.Need-cast-octets
 cast-octets c = search needs
@@ -60,7 +60,7 @@ same-length c = search needs
 returns-2 : tie.Need-returns-2
 returns-2 c =
     let a = c .before .before .before .args in
-    let e = c .to-unsigned .ensures ∙ ap (twosOf 32) (toZ-ofZ (c .before .before .before .fits .z)) in
+    let e = c .twos .ensures ∙ ap (twosOf 32) (toZ-ofZ (c .before .before .before .fits .z)) in
     let room : 4 * a .k + 4 ≤ length (a .octets .now) = omega (arith, c .before .if1 .left) in
     rw e (four-stores (a .octets .now) (4 * a .k) (a .z) room) ∙ sym (with-is (a .octets .now) (a .k) (a .z) room)
 
@@ -70,7 +70,7 @@ put-number-spec =
     (tie.spec
     returns
     mul-at
-    to-unsigned-requires
+    twos-requires
     cast-octets
     slice-write-octets
     cast-octets-2

@@ -1,47 +1,28 @@
 -- `octets::bit` meets its contract.
 use borrow.Author.Needs.{needs}
-use mathlib.Core.Path.{sym, _∙_}
-use Rattle.octets.proofs.Laws.{read, read-past, held-in, held-out}
+use mathlib.Core.Path.{_≡_, sym, _∙_}
+use Prim.Native.Nat.{_+_, _*_}
+use native.Mathlib.Omega.{arith}
+use Rattle.octets.specs.Bits.{valueOf, bitsOf, bitOf}
+use Rattle.octets.proofs.Digits.{value-head}
+use Rattle.octets.proofs.Laws.{part-lt}
 use Rattle.octets.proofs.bit.Statement.{statement}
 use Rattle.octets.proofs.bit.Tie as tie
 
-has-requires : tie.Need-has-requires
-has-requires c κs = search needs
-
-add-j : tie.Need-add-j
-add-j c = search needs
-
-add-result : tie.Need-add-result
-add-result c = search needs
-
-shared-slice-read-result : tie.Need-shared-slice-read-result
-shared-slice-read-result c = let a = c .before .before .before .before .args in held-in (a .s .now) (a .at) (a .k) (sym (c .before .before .has .ensures) ∙ c .before .if1 .taken)
+bits-requires : tie.Need-bits-requires
+bits-requires c κs = search needs
 
 cast-result : tie.Need-cast-result
-cast-result c = search needs
-
-shr-result : tie.Need-shr-result
-shr-result c = search needs
+cast-result c =
+    let a = c .before .before .args in
+    omega (arith, c .bits .ensures, part-lt (a .s .now) (a .at + a .k) 1)
 
 returns : tie.Need-returns
+unfolding valueOf
 returns c =
-    let a = c .before .before .before .before .args in
-    read (a .s .now) (a .at) (a .k) (held-in (a .s .now) (a .at) (a .k) (sym (c .before .before .has .ensures) ∙ c .before .if1 .taken))
-
-returns-2 : tie.Need-returns-2
-returns-2 c =
-    let a = c .before .before .before .args in
-    read-past (a .s .now) (a .at) (a .k) (held-out (a .s .now) (a .at) (a .k) (sym (c .before .has .ensures) ∙ c .if1 .left))
+    let a = c .before .before .args in
+    let e : 0 * 2 + bitOf (a .s .now) (a .at + a .k) ≡ bitOf (a .s .now) (a .at + a .k) = omega arith in
+    c .bits .ensures ∙ sym (value-head (bitsOf (a .s .now)) (a .at + a .k) 0) ∙ e
 
 pub bit-spec : {M : Type 1} → statement M
-bit-spec =
-    tie.close
-    (tie.spec
-    has-requires
-    add-j
-    add-result
-    shared-slice-read-result
-    cast-result
-    shr-result
-    returns
-    returns-2)
+bit-spec = tie.close (tie.spec bits-requires cast-result returns)

@@ -10,8 +10,8 @@ use Rattle.octets.proofs.Words.{size-is, bits-in}
 use Rattle.octets.proofs.bits.Statement.{statement}
 use Rattle.octets.proofs.bits.Tie as tie
 
-taken-requires : tie.Need-taken-requires
-taken-requires c κs = search needs
+least-requires : tie.Need-least-requires
+least-requires c κs = search needs
 
 add-j : tie.Need-add-j
 add-j c = search needs
@@ -32,17 +32,17 @@ shl-result : tie.Need-shl-result
 shl-result c = search needs
 
 -- the size that the length gives
-size : (c : tie.After-word) → 1 * 2 ^ c .before .taken .result % 2 ^ 64 ≡ 2 ^ c .before .taken .result
-size c = size-is (c .before .taken .result) (omega (arith, c .before .taken .ensures))
+size : (c : tie.After-word) → 1 * 2 ^ c .before .least .result % 2 ^ 64 ≡ 2 ^ c .before .least .result
+size c = size-is (c .before .least .result) (omega (arith, c .before .least .ensures))
 
 rem-result : tie.Need-rem-result
-rem-result c = omega (arith, size c, pow-pos (c .before .taken .result))
+rem-result c = omega (arith, size c, pow-pos (c .before .least .result))
 
 returns : tie.Need-returns
 returns c =
     let a = c .before .before .before .args in
     let s = a .s .now in
-    let m = c .before .taken in
+    let m = c .before .least in
     let j = a .at % 8 + a .k in
     let i = a .at / 8 + j / 8 in
     let le : m .result ≤ 56 = omega (arith, m .ensures) in
@@ -55,7 +55,7 @@ pub bits-spec : {M : Type 1} → statement M
 bits-spec =
     tie.close
     (tie.spec
-    taken-requires
+    least-requires
     add-j
     add-word
     word-requires

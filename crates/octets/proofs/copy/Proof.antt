@@ -1,14 +1,12 @@
 -- `octets::copy` meets its contract. The first k of the bits that are there are laid.
 use borrow.Author.Needs.{needs}
-use mathlib.Core.Path.{_≡_, refl, ap, ap₂, _∙_}
-use Prim.Native.Nat.{ℕ, _+_, _-_, _*_, _≤_, min}
+use mathlib.Core.Path.{_≡_, ap, _∙_}
+use Prim.Native.Nat.{ℕ, _+_, _-_, _*_, _≤_, _<_, min}
 use native.Mathlib.Omega.{arith}
-use lib.ListN.{length, length-drop, drop}
-use lib.Seq.{length-take-le}
-use Rattle.octets.specs.Bits.{digitsOf, valueOf, bitsOf, part, laid}
-use Rattle.octets.proofs.Digits.{take-bits, drop-bits}
-use Rattle.octets.proofs.Laws.{laid-none, laid-next, laid-length, bits-bits, bits-length, part-clipped}
-use Rattle.octets.proofs.Words.{part-more, field-digits}
+use lib.ListN.{length}
+use Rattle.octets.specs.Bits.{bitsOf, part, laid}
+use Rattle.octets.proofs.Laws.{laid-none, laid-length, part-clipped}
+use Rattle.octets.proofs.Words.{part-laid}
 use Rattle.octets.proofs.copy.Statement.{statement}
 use Rattle.octets.proofs.copy.Tie as tie
 
@@ -26,50 +24,45 @@ loop-holds c =
     let a = c .before .before .before .args in
     (omega arith, laid-none (a .s .now) (a .at) (λ i. omega (arith, c .before .before .slice-known .given i)))
 
-sub-taken : tie.Need-sub-taken Inv-loop μ-loop
-sub-taken c = omega arith
+sub-step : tie.Need-sub-step Inv-loop μ-loop
+sub-step c = omega arith
 
-taken-requires : tie.Need-taken-requires Inv-loop μ-loop
-taken-requires c κs = search needs
+step-requires : tie.Need-step-requires Inv-loop μ-loop
+step-requires c κs = search needs
 
-bits-requires : tie.Need-bits-requires Inv-loop μ-loop
-bits-requires c κs = search needs
+long-requires : tie.Need-long-requires Inv-loop μ-loop
+long-requires c κs = search needs
 
-put-bits-requires : tie.Need-put-bits-requires Inv-loop μ-loop
-put-bits-requires c κs = search needs
+put-at-requires : tie.Need-put-at-requires Inv-loop μ-loop
+put-at-requires c κs = c .before .before .step .ensures .2
 
 add-k : tie.Need-add-k Inv-loop μ-loop
-add-k c = omega (arith, c .before .before .before .before .before .taken .ensures)
+add-k c = omega (arith, c .before .before .before .before .before .step .ensures)
+
+-- a step goes on
+on : (all k m : ℕ) → k < all → min (all - k) 1 ≤ m → all - (k + m) < all - k
+on all k m h l = omega arith
 
 loop-less : tie.Need-loop-less Inv-loop μ-loop
-loop-less c = omega (arith, c .before .before .before .before .before .taken .ensures)
+loop-less c =
+    let t = c .before .before .before .before .before in
+    on (t .before .before .before .there .result) (t .before .before .loop .k) (t .step .result) (t .before .loop-test .taken) (t .step .ensures .1)
 
 loop-again : tie.Need-loop-again Inv-loop μ-loop
 loop-again c =
-    let put = c .before .before .put-bits in
-    let v = c .before .before .before .before .bits in
+    let word = c .before .before .before .long in
     let t = c .before .before .before .before .before in
-    let m = t .taken in
+    let m = t .step .result in
     let l = t .before .before .loop in
     let all = t .before .before .before .there in
-    let a = t .before .before .before .before .before .before .args in
-    let B = bitsOf (a .source .now) in
-    let p = a .from + l .k in
-    let few : min (m .result) 56 ≡ m .result = omega (arith, m .ensures) in
-    let fits : p + m .result ≤ 8 * length (a .source .now) = omega (arith, m .ensures, all .ensures) in
-    let size : length (part (a .from) (l .k) B) ≡ l .k =
-    length-take-le (l .k) (drop (a .from) B) (omega (arith, all .ensures, length-drop (a .from) B, bits-length (a .source .now))) in
-    let digits : digitsOf (min (m .result) 56) (v .result) ≡ part p (m .result) B =
-    ap₂ (λ (j x : ℕ). digitsOf j x) few (v .ensures ∙ ap (λ (j : ℕ). valueOf (part p j B)) few) ∙ field-digits (a .source .now) p (m .result) fits in (
-      omega (arith, m .ensures),
-      laid-next (a .s .now) (a .at) (part (a .from) (l .k) B) (part p (m .result) B) (a .at + l .k)
-          (take-bits (l .k) (drop (a .from) B) (drop-bits (a .from) B (bits-bits (a .source .now)))) (ap (λ (j : ℕ). a .at + j) size) (l .inv .1)
-          (put .ensures ∙ ap (laid (l .s) (a .at + l .k)) digits)
-          ∙ ap (laid (a .s .now) (a .at)) (part-more B (a .from) (l .k) (m .result) (l .k + m .result) refl),
+    let a = t .before .before .before .before .before .before .args in (
+      omega (arith, t .step .ensures),
+      part-laid (a .s .now) (a .at) (a .source .now) (a .from) (l .k) m (omega (arith, t .step .ensures)) (omega (arith, t .step .ensures, all .ensures))
+          (l .inv .1) (word .ensures) (c .before .before .put-at .ensures),
     )
 
 same-length : tie.Need-same-length Inv-loop μ-loop
-same-length c = let a = c .before .before .before .before .before .args in ap length (c .before .loop .inv .1) ∙ laid-length (a .s .now) (a .at) _
+same-length c = ap length (c .before .loop .inv .1) ∙ simp laid-length
 
 returns : tie.Need-returns Inv-loop μ-loop
 returns c =
@@ -86,10 +79,10 @@ copy-spec =
     μ-loop
     there-requires
     loop-holds
-    sub-taken
-    taken-requires
-    bits-requires
-    put-bits-requires
+    sub-step
+    step-requires
+    long-requires
+    put-at-requires
     add-k
     loop-less
     loop-again

@@ -49,7 +49,7 @@ returns c =
     let h : a .r ≤ 63 = omega arith in
     ap₂ (λ (p q : ℕ). digitsOf 64 (bitOr (a .x / 2 ^ (a .r + a .n) * 2 ^ (a .r + a .n) % 2 ^ 64) (bitOr (a .v % p * 2 ^ a .r % 2 ^ 64) (a .x % q))))
     (size-is (a .n) (omega arith)) (size-is (a .r) h)
-    ∙ replaced-is (a .x) (a .r) (a .n) (a .v) (c .pre .0) (c .pre .1) (omega arith)
+    ∙ replaced-is (a .x) (a .r) (a .n) (a .v) (c .pre) (omega arith)
 
 pub replaced-spec : {M : Type 1} → statement M
 replaced-spec =

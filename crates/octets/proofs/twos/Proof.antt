@@ -1,4 +1,4 @@
--- `bitfields::twos` meets its contract.
+-- `octets::twos` meets its contract.
 use mathlib.Core.Path.{_≡_, ap, _∙_}
 use native.Mathlib.Omega.{arith}
 use lib.IntN.{ℤ, pos, negsuc, natAbs, _-ℤ_}
@@ -6,9 +6,9 @@ use lib.Signed.{mag}
 use mir.Syntax.{w32}
 use mir.Val.{SFits}
 use mir.Facts.{toZ-ofZ}
 use Rattle.octets.proofs.Complement.{below-zero, from-zero}
-use Rattle.bitfields.proofs.twos.Statement.{statement}
-use Rattle.bitfields.proofs.twos.Tie as tie
+use Rattle.octets.proofs.twos.Statement.{statement}
+use Rattle.octets.proofs.twos.Tie as tie
 
 -- how far v lies below -1
 module _ (c : tie.Then1) where
