@@ -4,7 +4,7 @@ use mathlib.Core.Bool.{Bool, true, false, cond, not, _&&_, _||_}
 use mathlib.Core.List.{List, [], _∷_, reverse}
 use Prim.Native.Nat.{ℕ, zero, suc}
 use native.Mathlib.Omega.{arith}
-use borrow.Author.Tests.{eq-eqb, ne-eqb}
+use borrow.Author.Tests.{eq-eqb, ne-eqb, eqb-true, not-false}
 use lib.Dec.{eqb, lit≤}
 use lib.ListN.{length, take, drop, length-drop}
 use lib.Seq.{length-take-le}
@@ -25,6 +25,7 @@ use Rattle.layout.specs.Frame.{trainingSync, finalSync, fieldOf, messageOf, che
 use Rattle.layout.specs.Refusals.{hasSync, bitRefusals, checkRefusals}
 use Rattle.layout.proofs.Laws.{training-value, final-value}
 use Rattle.layout.proofs.Check.{check-right, check-wrong}
+use Rattle.checker.specs.declared.Kind.{Kind}
 use Rattle.checker.specs.Promises.{Checked, KindChecked}
 
 -- ---- sync, the first field of a frame
@@ -175,3 +176,28 @@ module _ (f : List ℕ) where
     -- a final one
     pub final-kind : hasSync trainingSync (bitsOf f) ≡ false → n ≡ 0 → KindChecked f (record { answer = n; kind = 1 })
     final-kind t z = bits-kind 1 (ap (λ (b : Bool). cond b 0 1) (sym t) ∙ sym (given n 0 kind z))
+
+-- ---- what is known of a frame of which nothing is refused
+
+-- its length
+pub right-length : (f : List ℕ) → answer (checkRefusals f) ≡ 0 → length f ≡ 529
+right-length f z = eqb-true (length f) 529 (not-false _ (none 0 (not (eqb (length f) 529)) (bitRefusals (bitsOf f)) z .0))
+
+-- by its kind, its sync
+module _ (f : List ℕ) (r : Kind) (d : KindChecked f r) (z : answer (checkRefusals f) ≡ 0) where
+  by-sync : r .kind ≡ cond (hasSync trainingSync (bitsOf f)) 0 1
+  by-sync = d .kind-is ∙ given _ 0 _ z
+
+  pub kind-training : r .kind ≡ 0 → hasSync trainingSync (bitsOf f) ≡ true
+  kind-training k = go (hasSync trainingSync (bitsOf f)) by-sync
+    where
+      go : (t : Bool) → r .kind ≡ cond t 0 1 → t ≡ true
+      go true e = refl
+      go false e = absurd (omega (arith, e, k))
+
+  pub kind-final : (r .kind ≡ 0 → ⊥) → hasSync trainingSync (bitsOf f) ≡ false
+  kind-final k = go (hasSync trainingSync (bitsOf f)) by-sync
+    where
+      go : (t : Bool) → r .kind ≡ cond t 0 1 → t ≡ false
+      go true e = absurd (k e)
+      go false e = refl

@@ -65,7 +65,10 @@ pub fn kind_of(frame: &[u8]) -> Kind
     ensures { λ r. ⌜ KindChecked (now (frame .entry)) r ⌝ }
 {
     if frame.len() != layout::FRAME_OCTETS {
-        return Kind { answer: answer::LENGTH, kind: 0 };
+        return Kind {
+            answer: answer::LENGTH,
+            kind: 0,
+        };
     }
     match bitfields::field(frame, 0, layout::SYNC_BITS) {
         layout::TRAINING_SYNC => Kind {
@@ -77,9 +80,15 @@ pub fn kind_of(frame: &[u8]) -> Kind
             if n != answer::DONE {
                 return Kind { answer: n, kind: 0 };
             }
-            Kind { answer: n, kind: layout::FINAL }
+            Kind {
+                answer: n,
+                kind: layout::FINAL,
+            }
         }
-        _ => Kind { answer: answer::SYNC, kind: 0 },
+        _ => Kind {
+            answer: answer::SYNC,
+            kind: 0,
+        },
     }
 }
 
