@@ -18,7 +18,7 @@ use Rattle.bitfields.specs.Promises.{behindOf}
 use Rattle.walk.specs.declared.TakenPair.{TakenPair}
 use Rattle.walk.specs.Promises.{PairTaken, SignedFilled, signedFrom, behindAll}
 use Rattle.walk.proofs.Laws.{behind-all-is, signed-from}
-use Rattle.layout.specs.Places.{aField, bField, vendorField}
+use Rattle.layout.specs.Places.{aField, bField}
 use Rattle.layout.specs.Frame.{trainingSync, fieldOf, coefficientsOf}
 use Rattle.layout.specs.Refusals.{hasSync, bitRefusals, checkRefusals, readRefusals}
 use Rattle.reader.specs.declared.Found.{Found}
