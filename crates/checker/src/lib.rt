@@ -11,7 +11,7 @@ ghost use Rattle.layout.specs.Frame.{trainingSync, fieldOf, messageOf, checkOf}
 ghost use Rattle.layout.specs.Refusals.{hasSync, bitRefusals};
 ghost use Rattle.checker.specs.Promises.{Checked, KindChecked};
 
-// What checking gives: the answer, and of a frame that is right its kind.
+// What checking gives: the answer, and of a frame that is right its kind; with a refusal the kind is 0.
 pub struct Kind {
     pub answer: u32,
     pub kind: u32,

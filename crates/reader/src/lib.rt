@@ -14,6 +14,18 @@ pub struct Found {
     pub b: u32,
 }
 
+// A refusal, with 0 for every other number.
+fn refused(n: u32) -> Found
+    ensures { λ r. ⌜ r ≡ record { answer = n; kind = 0; a = 0; b = 0 } ⌝ }
+{
+    Found {
+        answer: n,
+        kind: 0,
+        a: 0,
+        b: 0,
+    }
+}
+
 // What a training frame gives, with the words as they were read: the first bit, a0 or b0, weighs least.
 fn training(a: u32, b: u32) -> Found
     ensures { λ r. ⌜ r ≡ record { answer = 0; kind = 0; a = a; b = b } ⌝ }
@@ -68,18 +80,6 @@ pub fn read(frame: &[u8], coefficients: &mut [i32], vendor: &mut [u8]) -> Found
     Found {
         answer: answer::DONE,
         kind: layout::FINAL,
-        a: 0,
-        b: 0,
-    }
-}
-
-// A refusal, with 0 for every other number.
-fn refused(n: u32) -> Found
-    ensures { λ r. ⌜ r ≡ record { answer = n; kind = 0; a = 0; b = 0 } ⌝ }
-{
-    Found {
-        answer: n,
-        kind: 0,
         a: 0,
         b: 0,
     }
