@@ -1,12 +1,12 @@
 -- Laws of writing a frame, field behind field. Assumes nothing.
 use mathlib.Core.Path.{_≡_, refl, sym, ap, ap₂, _∙_, subst}
 use mathlib.Core.List.{List, _++_, append-assoc, reverse}
-use Prim.Native.Nat.{ℕ, _+_, _*_, _≤_}
+use Prim.Native.Nat.{ℕ, _+_, _-_, _*_, _≤_, _<_}
 use native.Mathlib.Omega.{arith}
 use lib.Dec.{lit≤}
-use lib.IntN.{ℤ}
-use lib.ListN.{length, take, drop, replicate, length-append, length-drop}
-use lib.Seq.{length-take-le, sets-eq, take-at, take-all, take-add}
+use lib.IntN.{ℤ, pos}
+use lib.ListN.{length, getD, take, drop, replicate, length-append, length-drop, List·getD-append, getD-replicate}
+use lib.Seq.{getD-take, getD-append-add, length-take-le, sets-eq, take-at, take-all, take-add}
 use Rattle.octets.specs.Bits.{digitsOf, valueOf, bitsOf, octetsOf, part, laid}
 use Rattle.octets.proofs.Digits.{Bits, append-bits, digits-length, digits-bits, zeros-bits, take-bits, drop-bits}
 use Rattle.octets.proofs.Laws.{bits-length, bits-bits, laid-bits, laid-next, laid-end}
@@ -19,6 +19,23 @@ use Rattle.remainder.proofs.Errors.{generator-degree}
 use Rattle.layout.specs.Frame.{trainingSync, finalSync, coefficientBits, used, message, checkOf, frameBits, trainingBits, finalBits}
 use Rattle.layout.proofs.Laws.{used-length, tail-length, tail-bits, check-put, check-length, check-bits, training-digits, final-digits}
 use Rattle.layout.proofs.Laws.{training-length, final-length, training-bits, final-bits}
+
+-- ---- the coefficients in use
+
+module _ (count : ℕ) (cs : List ℤ) (n : count ≤ 180) (l : length cs ≡ 180) where
+  head-length : length (take count cs) ≡ count
+  head-length = length-take-le count cs (omega arith)
+
+  pub used-at : (k : ℕ) → k < count → getD cs k (pos 0) ≡ getD (used count cs) k (pos 0)
+  used-at k h =
+      sym (List·getD-append (take count cs) (replicate (180 - count) (pos 0)) (pos 0) k (omega (arith, head-length)) ∙ getD-take count cs k (pos 0) h)
+
+  pub unused-at : (k : ℕ) → count ≤ k → k < 180 → pos 0 ≡ getD (used count cs) k (pos 0)
+  unused-at k h m =
+      let e : k ≡ length (take count cs) + (k - count) = omega (arith, head-length) in
+      sym (ap (λ (i : ℕ). getD (used count cs) i (pos 0)) e
+      ∙ getD-append-add (take count cs) (replicate (180 - count) (pos 0)) (k - count) (pos 0)
+      ∙ getD-replicate (180 - count) (k - count) (pos 0) (pos 0) (omega arith))
 
 -- ---- field behind field
 
