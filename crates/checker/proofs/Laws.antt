@@ -1,65 +1,54 @@
 -- Laws of checking a frame. Assumes nothing.
 use mathlib.Core.Path.{_≡_, refl, sym, ap, ap₂, _∙_}
-use mathlib.Core.Bool.{Bool, true, false, not, _||_}
-use mathlib.Core.List.{List, _∷_, reverse}
-use Prim.Native.Nat.{ℕ}
+use mathlib.Core.Bool.{Bool, true, false, cond, not, _&&_, _||_}
+use mathlib.Core.List.{List, [], _∷_, reverse}
+use Prim.Native.Nat.{ℕ, zero, suc}
 use native.Mathlib.Omega.{arith}
-use borrow.Author.Tests.{eq-eqb, ne-eqb}
+use borrow.Author.Tests.{eq-eqb, ne-eqb, eqb-true, not-false}
 use lib.Dec.{eqb, lit≤}
-use lib.ListN.{length, drop, length-drop}
+use lib.ListN.{length, take, drop, length-drop}
 use lib.Seq.{length-take-le}
-use Rattle.answer.specs.Answer.{refuse, answer}
-use Rattle.answer.proofs.Laws.{none}
+use Rattle.answer.specs.Answer.{refuse, answer, held}
+use Rattle.answer.proofs.Laws.{none, kept, given}
 use Rattle.octets.specs.Bits.{digitsOf, valueOf, bitsOf, part}
 use Rattle.octets.proofs.Digits.{digits-value, take-bits, drop-bits}
 use Rattle.octets.proofs.Laws.{bits-length, bits-bits}
-use Rattle.walk.specs.declared.Taken.{Taken}
+use Rattle.bitfields.specs.Promises.{FieldRead}
 use Rattle.walk.specs.declared.TakenPair.{TakenPair}
-use Rattle.walk.specs.Promises.{SingleTaken, PairTaken}
+use Rattle.walk.specs.Promises.{PairTaken}
 use Rattle.remainder.specs.Division.{polynomial, generator}
 use Rattle.remainder.specs.Promises.{CheckBits}
 use Rattle.remainder.proofs.Division.{computed}
 use Rattle.remainder.proofs.Errors.{generator-degree}
-use Rattle.layout.specs.Places.{checkField, padField}
+use Rattle.layout.specs.Places.{reservedField, checkField, padField}
 use Rattle.layout.specs.Frame.{trainingSync, finalSync, fieldOf, messageOf, checkOf}
 use Rattle.layout.specs.Refusals.{hasSync, bitRefusals, checkRefusals}
 use Rattle.layout.proofs.Laws.{training-value, final-value}
 use Rattle.layout.proofs.Check.{check-right, check-wrong}
-use Rattle.checker.specs.Promises.{Checked}
+use Rattle.checker.specs.declared.Kind.{Kind}
+use Rattle.checker.specs.Promises.{Checked, KindChecked}
 
--- ---- sync
+-- ---- sync, the first field of a frame
 
-pub final-known : (s : ℕ) → s ≡ 0x3e6b → true ≡ (eqb s (valueOf trainingSync) || eqb s (valueOf finalSync))
-final-known s e =
-    simp (ne-eqb s (valueOf trainingSync) (λ f. apart (sym e ∙ f ∙ training-value)), eq-eqb s (valueOf finalSync) (e ∙ sym final-value))
-  where
-    apart : _≡_ {A = ℕ} 0x3e6b 0x359f → ⊥
-    apart h = omega arith
+module _ (f : List ℕ) (v : ℕ) (e : FieldRead f 0 14 v) where
+  pub training-is : v ≡ 0x359f → hasSync trainingSync (bitsOf f) ≡ true
+  training-is h = eq-eqb (valueOf (part 0 14 (bitsOf f))) (valueOf trainingSync) (sym e ∙ h ∙ sym training-value)
 
-pub other-known : (s : ℕ) → (s ≡ 0x3e6b → ⊥) → eqb s 0x359f ≡ (eqb s (valueOf trainingSync) || eqb s (valueOf finalSync))
-other-known s h = ap (eqb s) (sym training-value) ∙ pick (eqb s (valueOf trainingSync)) ∙ simp (ne-eqb s (valueOf finalSync) (λ e. h (e ∙ final-value)))
-  where
-    pick : (t : Bool) → t ≡ (t || false)
-    pick true = refl
-    pick false = refl
+  pub training-not : (v ≡ 0x359f → ⊥) → hasSync trainingSync (bitsOf f) ≡ false
+  training-not h = ne-eqb (valueOf (part 0 14 (bitsOf f))) (valueOf trainingSync) (λ g. h (e ∙ g ∙ training-value))
 
--- sync, as the first field of a frame
-module _ (f : List ℕ) (t : Taken) (e : SingleTaken f 0 14 t) where
-  value-is : t .value ≡ valueOf (part 0 14 (bitsOf f))
-  value-is = ap (λ (x : Taken). x .value) e
+  -- a final frame's sync is not the training frame's
+  pub final-other : v ≡ 0x3e6b → hasSync trainingSync (bitsOf f) ≡ false
+  final-other h = training-not (λ g. apart (sym h ∙ g))
+    where
+      apart : _≡_ {A = ℕ} 0x3e6b 0x359f → ⊥
+      apart g = omega arith
 
-  pub next-is : t .next ≡ 14
-  next-is = ap (λ (x : Taken). x .next) e
+  pub final-is : v ≡ 0x3e6b → hasSync finalSync (bitsOf f) ≡ true
+  final-is h = eq-eqb (valueOf (part 0 14 (bitsOf f))) (valueOf finalSync) (sym e ∙ h ∙ sym final-value)
 
-  pub known-is : (k : Bool) → k ≡ (eqb (t .value) (valueOf trainingSync) || eqb (t .value) (valueOf finalSync))
-      → (hasSync trainingSync (bitsOf f) || hasSync finalSync (bitsOf f)) ≡ k
-  known-is k h = sym (h ∙ ap (λ (n : ℕ). eqb n (valueOf trainingSync) || eqb n (valueOf finalSync)) value-is)
-
-  pub training-is : t .value ≡ 0x359f → hasSync trainingSync (bitsOf f) ≡ true
-  training-is h = eq-eqb (valueOf (part 0 14 (bitsOf f))) (valueOf trainingSync) (sym value-is ∙ h ∙ sym training-value)
-
-  pub training-not : (t .value ≡ 0x359f → ⊥) → hasSync trainingSync (bitsOf f) ≡ false
-  training-not h = ne-eqb (valueOf (part 0 14 (bitsOf f))) (valueOf trainingSync) (λ g. h (value-is ∙ g ∙ training-value))
+  pub final-not : (v ≡ 0x3e6b → ⊥) → hasSync finalSync (bitsOf f) ≡ false
+  final-not h = ne-eqb (valueOf (part 0 14 (bitsOf f))) (valueOf finalSync) (λ g. h (e ∙ g ∙ final-value))
 
 -- ---- check bits
 
@@ -94,6 +83,52 @@ module _ (f : List ℕ) (t : TakenPair) (e : PairTaken f 4211 16 5 t) where
   pub pad-is : t .second ≡ 0 → eqb (valueOf (fieldOf padField (bitsOf f))) 0 ≡ true
   pad-is h = eq-eqb (valueOf (fieldOf padField (bitsOf f))) 0 (sym (ap (λ (x : TakenPair). x .second) e) ∙ h)
 
+-- ---- the order of the checks
+
+-- the end's two, then a third
+end-first : (p c s : Bool) (n : ℕ) → n ≡ answer (refuse 6 p ∷ refuse 7 c ∷ []) → (n ≡ 0 → ⊥) → n ≡ answer (refuse 6 p ∷ refuse 7 c ∷ refuse 8 s ∷ [])
+end-first true c s n e z = e
+end-first false true s n e z = e
+end-first false false s n e z = absurd (z e)
+
+then-third : (p c s : Bool) (n : ℕ) → n ≡ answer (refuse 6 p ∷ refuse 7 c ∷ []) → n ≡ 0
+    → answer (refuse 6 p ∷ refuse 7 c ∷ refuse 8 s ∷ []) ≡ answer (refuse 8 s ∷ [])
+then-third true c s n e z = absurd (omega (arith, e, z))
+then-third false true s n e z = absurd (omega (arith, e, z))
+then-third false false s n e z = refl
+
+module _ (f : List ℕ) where
+  abbrev B : List ℕ
+  B = bitsOf f
+
+  abbrev pad : Bool
+  pad = not (eqb (valueOf (fieldOf padField B)) 0)
+
+  abbrev check : Bool
+  check = not (eqb (polynomial (fieldOf checkField B)) (checkOf (messageOf B)))
+
+  abbrev reserved : Bool
+  reserved = not (eqb (valueOf (fieldOf reservedField B)) 0)
+
+  -- what is refused, by the two sync words
+  abbrev by : Bool → Bool → ℕ
+  by t u = answer (refuse 5 (not (t || u)) ∷ refuse 6 pad ∷ refuse 7 check ∷ refuse 8 (t && reserved) ∷ [])
+
+  -- a training frame
+  module _ (t : hasSync trainingSync B ≡ true) (n : ℕ) (e : n ≡ answer (take 2 (drop 1 (bitRefusals B)))) where
+    pub training-end : (n ≡ 0 → ⊥) → n ≡ answer (bitRefusals B)
+    training-end z = end-first pad check reserved n e z ∙ ap (λ (x : Bool). by x (hasSync finalSync B)) (sym t)
+
+    pub training-rest : n ≡ 0 → (k : Bool) → k ≡ eqb (valueOf (fieldOf reservedField B)) 0 → answer (refuse 8 (not k) ∷ []) ≡ answer (bitRefusals B)
+    training-rest z k g =
+        ap (λ (x : Bool). answer (refuse 8 (not x) ∷ [])) g
+        ∙ sym (then-third pad check reserved n e z)
+        ∙ ap (λ (x : Bool). by x (hasSync finalSync B)) (sym t)
+
+  -- a final one
+  pub final-end : hasSync trainingSync B ≡ false → hasSync finalSync B ≡ true → answer (take 2 (drop 1 (bitRefusals B))) ≡ answer (bitRefusals B)
+  final-end t u = ap₂ by (sym t) (sym u)
+
 -- ---- the promise
 
 -- the answer says of the check bits what the division says
@@ -108,3 +143,61 @@ checked {frame} {r} e =
     past : (t : Bool) → answer (refuse 1 t ∷ bitRefusals (bitsOf frame)) ≡ 7 → answer (bitRefusals (bitsOf frame)) ≡ 7
     past true f = absurd (omega arith)
     past false f = f
+
+-- the answer and the kind, by what is found first: a wrong length
+module _ (f : List ℕ) where
+  abbrev kind : ℕ
+  kind = cond (hasSync trainingSync (bitsOf f)) 0 1
+
+  pub length-kind : (length f ≡ 529 → ⊥) → KindChecked f (record { answer = 1; kind = 0 })
+  length-kind h =
+      let e : 1 ≡ answer (checkRefusals f) = simp (ne-eqb _ _ h) in
+      record { checked = checked e; kind-is = ap (λ (n : ℕ). held n 0 kind) e }
+
+  -- where the length is right, what is refused behind it
+  module _ (l : length f ≡ 529) (n : ℕ) (e : n ≡ answer (bitRefusals (bitsOf f))) where
+    bits-kind : (k : ℕ) → k ≡ held n 0 kind → KindChecked f (record { answer = n; kind = k })
+    bits-kind k h =
+        let a = e ∙ ap (λ (t : Bool). answer (refuse 1 (not t) ∷ bitRefusals (bitsOf f))) (sym (eq-eqb (length f) 529 l)) in
+        record { checked = checked a; kind-is = h ∙ ap (λ (x : ℕ). held x 0 kind) a }
+
+    -- a refusal
+    pub refused-kind : (n ≡ 0 → ⊥) → KindChecked f (record { answer = n; kind = 0 })
+    refused-kind z = bits-kind 0 (sym (kept n 0 kind z))
+
+    -- a training frame, whose kind is 0 as a refusal's is
+    pub training-kind : hasSync trainingSync (bitsOf f) ≡ true → KindChecked f (record { answer = n; kind = 0 })
+    training-kind t = bits-kind 0 (either n ∙ ap (λ (b : Bool). held n 0 (cond b 0 1)) (sym t))
+      where
+        either : (m : ℕ) → _≡_ {A = ℕ} 0 (held m 0 0)
+        either zero = refl
+        either (suc m) = refl
+
+    -- a final one
+    pub final-kind : hasSync trainingSync (bitsOf f) ≡ false → n ≡ 0 → KindChecked f (record { answer = n; kind = 1 })
+    final-kind t z = bits-kind 1 (ap (λ (b : Bool). cond b 0 1) (sym t) ∙ sym (given n 0 kind z))
+
+-- ---- what is known of a frame of which nothing is refused
+
+-- its length
+pub right-length : (f : List ℕ) → answer (checkRefusals f) ≡ 0 → length f ≡ 529
+right-length f z = eqb-true (length f) 529 (not-false _ (none 0 (not (eqb (length f) 529)) (bitRefusals (bitsOf f)) z .0))
+
+-- by its kind, its sync
+module _ (f : List ℕ) (r : Kind) (d : KindChecked f r) (z : answer (checkRefusals f) ≡ 0) where
+  by-sync : r .kind ≡ cond (hasSync trainingSync (bitsOf f)) 0 1
+  by-sync = d .kind-is ∙ given _ 0 _ z
+
+  pub kind-training : r .kind ≡ 0 → hasSync trainingSync (bitsOf f) ≡ true
+  kind-training k = go (hasSync trainingSync (bitsOf f)) by-sync
+    where
+      go : (t : Bool) → r .kind ≡ cond t 0 1 → t ≡ true
+      go true e = refl
+      go false e = absurd (omega (arith, e, k))
+
+  pub kind-final : (r .kind ≡ 0 → ⊥) → hasSync trainingSync (bitsOf f) ≡ false
+  kind-final k = go (hasSync trainingSync (bitsOf f)) by-sync
+    where
+      go : (t : Bool) → r .kind ≡ cond t 0 1 → t ≡ false
+      go true e = absurd (k e)
+      go false e = refl

@@ -1,24 +1,20 @@
 // Checking an activation frame (SCOPE, "The activation frame").
 ghost use mathlib.Core.Path.{_≡_};
-ghost use mathlib.Core.Bool.{_||_};
-ghost use lib.ListN.{length};
+ghost use mathlib.Core.Bool.{true};
+ghost use lib.ListN.{length, take, drop};
 ghost use Rattle.answer.specs.Answer.{answer};
 ghost use Rattle.octets.specs.Bits.{valueOf, bitsOf};
 ghost use Rattle.remainder.specs.Division.{polynomial};
 ghost use lib.Dec.{eqb};
 ghost use Rattle.layout.specs.Places.{frameLength, checkField};
-ghost use Rattle.layout.specs.Frame.{trainingSync, finalSync, fieldOf, messageOf, checkOf};
-ghost use Rattle.layout.specs.Refusals.{bitRefusals};
-ghost use Rattle.checker.specs.Promises.{Checked};
+ghost use Rattle.layout.specs.Frame.{trainingSync, fieldOf, messageOf, checkOf};
+ghost use Rattle.layout.specs.Refusals.{hasSync, bitRefusals};
+ghost use Rattle.checker.specs.Promises.{Checked, KindChecked};
 
-// Whether a sync word is one of the two.
-fn known(sync: u32) -> bool
-    ensures { λ r. ⌜ r ≡ (eqb sync (valueOf trainingSync) || eqb sync (valueOf finalSync)) ⌝ }
-{
-    if sync == layout::FINAL_SYNC {
-        return true;
-    }
-    sync == layout::TRAINING_SYNC
+// What checking gives: the answer, and of a frame that is right its kind; with a refusal the kind is 0.
+pub struct Kind {
+    pub answer: u32,
+    pub kind: u32,
 }
 
 // Whether the check bits, as a field, are those of the message.
@@ -30,15 +26,11 @@ fn checks(frame: &[u8], c: u32) -> bool
     bitfields::turned(layout::CHECK_BITS, c) == r
 }
 
-// What is wrong with a frame of the right length, or 0.
-fn wrong(frame: &[u8]) -> u32
+// What is wrong with a frame's end, the check bits and the pad, or 0: all that is checked of a final frame behind its sync.
+fn end_wrong(frame: &[u8]) -> u32
     requires { ⌜ length (now frame) ≡ frameLength ⌝ }
-    ensures { λ r. ⌜ r ≡ answer (bitRefusals (bitsOf (now (frame .entry)))) ⌝ }
+    ensures { λ r. ⌜ r ≡ answer (take 2 (drop 1 (bitRefusals (bitsOf (now (frame .entry)))))) ⌝ }
 {
-    let sync = walk::single(frame, 0, layout::SYNC_BITS).value;
-    if !known(sync) {
-        return answer::SYNC;
-    }
     let end = walk::pair(
         frame,
         layout::CHECK_AT,
@@ -51,20 +43,58 @@ fn wrong(frame: &[u8]) -> u32
     if !checks(frame, end.first) {
         return answer::CHECK;
     }
-    if sync == layout::TRAINING_SYNC {
+    answer::DONE
+}
+
+// What is wrong with a training frame behind its sync, or 0: its end, or a reserved bit.
+fn training_wrong(frame: &[u8]) -> u32
+    requires { ⌜ (length (now frame) ≡ frameLength) × (hasSync trainingSync (bitsOf (now frame)) ≡ true) ⌝ }
+    ensures { λ r. ⌜ r ≡ answer (bitRefusals (bitsOf (now (frame .entry)))) ⌝ }
+{
+    let n = end_wrong(frame);
+    if n == answer::DONE {
         if !octets::is_clear(frame, layout::RESERVED_AT, layout::RESERVED_BITS) {
             return answer::RESERVED;
         }
     }
-    answer::DONE
+    n
+}
+
+// What is wrong with a frame, or 0 and its kind.
+pub fn kind_of(frame: &[u8]) -> Kind
+    ensures { λ r. ⌜ KindChecked (now (frame .entry)) r ⌝ }
+{
+    if frame.len() != layout::FRAME_OCTETS {
+        return Kind {
+            answer: answer::LENGTH,
+            kind: 0,
+        };
+    }
+    match bitfields::field(frame, 0, layout::SYNC_BITS) {
+        layout::TRAINING_SYNC => Kind {
+            answer: training_wrong(frame),
+            kind: layout::TRAINING,
+        },
+        layout::FINAL_SYNC => {
+            let n = end_wrong(frame);
+            if n != answer::DONE {
+                return Kind { answer: n, kind: 0 };
+            }
+            Kind {
+                answer: n,
+                kind: layout::FINAL,
+            }
+        }
+        _ => Kind {
+            answer: answer::SYNC,
+            kind: 0,
+        },
+    }
 }
 
 // What is wrong with a frame, or 0.
 pub fn check(frame: &[u8]) -> u32
     ensures { λ r. ⌜ Checked (now (frame .entry)) r ⌝ }
 {
-    if frame.len() != layout::FRAME_OCTETS {
-        return answer::LENGTH;
-    }
-    wrong(frame)
+    kind_of(frame).answer
 }

@@ -1,24 +1,23 @@
 -- What reading gives, where the two rooms have their lengths. Assumes nothing.
 use mathlib.Core.Path.{_≡_, refl, sym, ap, _∙_}
-use mathlib.Core.Bool.{not}
 use mathlib.Core.List.{List}
 use Prim.Native.Nat.{ℕ, zero, suc}
-use borrow.Author.Tests.{eq-eqb, eqb-true, not-false}
-use lib.Dec.{eqb}
 use lib.IntN.{ℤ}
 use lib.ListN.{length}
 use Rattle.answer.specs.Answer.{answer}
-use Rattle.answer.proofs.Laws.{none, given}
+use Rattle.answer.proofs.Laws.{given}
 use Rattle.octets.specs.Bits.{bitsOf}
-use Rattle.layout.specs.Refusals.{bitRefusals, checkRefusals, readRefusals}
+use Rattle.layout.specs.Refusals.{checkRefusals, readRefusals}
+use Rattle.checker.proofs.Laws.{right-length}
 use Rattle.reader.specs.declared.Found.{Found}
 use Rattle.reader.specs.Promises.{foundOf, coefficientsLeft, vendorOctets, Read}
+use Rattle.reader.proofs.Laws.{as-checked}
 
 module _ (f : List ℕ) (cs : List ℤ) (v : List ℕ) (lc : length cs ≡ 180) (lv : length v ≡ 16) (r : Found) (cs′ : List ℤ) (v′ : List ℕ)
     (d : Read f cs v r cs′ v′) where
   -- reading answers as checking does
   same : answer (readRefusals f cs v) ≡ answer (checkRefusals f)
-  same = simp (eq-eqb (length cs) 180 lc, eq-eqb (length v) 16 lv)
+  same = sym (as-checked f cs v lc lv)
 
   pub found : r ≡ foundOf (answer (checkRefusals f)) (bitsOf f)
   found = d .found ∙ ap (λ (n : ℕ). foundOf n (bitsOf f)) same
@@ -33,7 +32,7 @@ module _ (f : List ℕ) (cs : List ℤ) (v : List ℕ) (lc : length cs ≡ 180) 
         go (suc n) e = sym (ap (λ (x : Found). x .answer) e) ∙ z
 
     pub read-length : length f ≡ 529
-    read-length = eqb-true (length f) 529 (not-false _ (none 0 (not (eqb (length f) 529)) (bitRefusals (bitsOf f)) none-applies .0))
+    read-length = right-length f none-applies
 
     pub coefficients-are : cs′ ≡ coefficientsLeft (bitsOf f) cs
     coefficients-are = d .coefficients-left ∙ given _ cs (coefficientsLeft (bitsOf f) cs) (same ∙ none-applies)

@@ -1,6 +1,10 @@
 // Reading an activation frame (SCOPE, "The activation frame").
 ghost use mathlib.Core.Path.{_≡_};
-ghost use Rattle.reader.specs.Promises.{Read};
+ghost use lib.ListN.{length};
+ghost use Rattle.octets.specs.Bits.{valueOf, bitsOf};
+ghost use Rattle.layout.specs.Places.{frameLength, vendorLength, placeOf, aField, bField};
+ghost use Rattle.layout.specs.Frame.{fieldOf};
+ghost use Rattle.reader.specs.Promises.{vendorOctets, Read};
 
 // What reading gives: the answer, the kind, and of a training frame A and B.
 pub struct Found {
@@ -34,29 +38,43 @@ fn training(a: u32, b: u32) -> Found
     }
 }
 
+// A and B of a training frame, at their place, and vendor data behind them.
+fn words(frame: &[u8], at: usize, vendor: &mut [u8]) -> Found
+    requires { ⌜ (length (now frame) ≡ frameLength) × (at ≡ placeOf aField) × (length (now vendor) ≡ vendorLength) ⌝ }
+    ensures { λ r. ⌜ (now (vendor .exit) ≡ vendorOctets (bitsOf (now (frame .entry)))) × (r ≡ record {
+      answer = 0;
+      kind = 0;
+      a = valueOf (fieldOf aField (bitsOf (now (frame .entry))));
+      b = valueOf (fieldOf bField (bitsOf (now (frame .entry))));
+    }) ⌝ }
+{
+    let found = walk::pair(frame, at, layout::WORD_BITS, layout::WORD_BITS);
+    octets::copy(vendor, 0, frame, found.next, layout::VENDOR_BITS);
+    training(found.first, found.second)
+}
+
 // A frame's kind and vendor data, and of a training frame its coefficients, A and B.
 pub fn read(frame: &[u8], coefficients: &mut [i32], vendor: &mut [u8]) -> Found
     ensures { λ r. ⌜ Read (now (frame .entry)) (now (coefficients .entry)) (now (vendor .entry)) r (now (coefficients .exit)) (now (vendor .exit)) ⌝ }
 {
-    if frame.len() != layout::FRAME_OCTETS {
-        return refused(answer::LENGTH);
-    }
     if coefficients.len() != layout::COEFFICIENTS {
         return refused(answer::LENGTH);
     }
     if vendor.len() != layout::VENDOR_OCTETS {
         return refused(answer::LENGTH);
     }
-    let n = checker::check(frame);
-    if n != 0 {
-        return refused(n);
+    let checked = checker::kind_of(frame);
+    if checked.answer != answer::DONE {
+        return refused(checked.answer);
     }
-    let sync = walk::single(frame, 0, layout::SYNC_BITS);
-    if sync.value == layout::TRAINING_SYNC {
-        let at = walk::fill_signed(frame, sync.next, layout::COEFFICIENT_BITS, coefficients);
-        let words = walk::pair(frame, at, layout::WORD_BITS, layout::WORD_BITS);
-        octets::copy(vendor, 0, frame, words.next, layout::VENDOR_BITS);
-        return training(words.first, words.second);
+    if checked.kind == layout::TRAINING {
+        let at = walk::fill_signed(
+            frame,
+            layout::COEFFICIENTS_AT,
+            layout::COEFFICIENT_BITS,
+            coefficients,
+        );
+        return words(frame, at, vendor);
     }
     octets::copy(vendor, 0, frame, layout::VENDOR_AT, layout::VENDOR_BITS);
     Found {

@@ -4,12 +4,8 @@ use mathlib.Core.List.{List}
 use Prim.Native.Nat.{ℕ}
 use lib.IntN.{ℤ}
 use Rattle.octets.proofs.One.{both}
-use Rattle.walk.specs.declared.Taken.{Taken}
 use Rattle.walk.specs.declared.TakenPair.{TakenPair}
-use Rattle.walk.specs.Promises.{SingleTaken, PairTaken, SignedFilled}
-
-pub single-one : (s : List ℕ) (at w : ℕ) (r r′ : Taken) → SingleTaken s at w r → SingleTaken s at w r′ → r ≡ r′
-single-one s at w r r′ p q = both p q
+use Rattle.walk.specs.Promises.{PairTaken, SignedFilled}
 
 pub pair-one : (s : List ℕ) (at v w : ℕ) (r r′ : TakenPair) → PairTaken s at v w r → PairTaken s at v w r′ → r ≡ r′
 pair-one s at v w r r′ p q = both p q

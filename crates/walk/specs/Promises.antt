@@ -7,12 +7,7 @@ use lib.ListN.{length}
 use Rattle.octets.specs.Bits.{valueOf, bitsOf, part}
 use Rattle.octets.specs.Signed.{signedOf}
 use Rattle.bitfields.specs.Promises.{behindOf}
-use Rattle.walk.specs.declared.Taken.{Taken}
 use Rattle.walk.specs.declared.TakenPair.{TakenPair}
-
--- single
-abbrev pub SingleTaken : List ℕ → ℕ → ℕ → Taken → Type 0
-SingleTaken s at w r = r ≡ record { value = valueOf (part at (min w 32) (bitsOf s)); next = behindOf at w }
 
 -- pair
 abbrev pub PairTaken : List ℕ → ℕ → ℕ → ℕ → TakenPair → Type 0

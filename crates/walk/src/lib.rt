@@ -1,20 +1,5 @@
 // Fields one behind the other, taken with the field reader (SCOPE, "The activation frame"). Like the reader, they are thin and proved by hand.
-ghost use Rattle.walk.specs.Promises.{SingleTaken, PairTaken, SignedFilled};
-
-// A field and the place behind it.
-pub struct Taken {
-    pub value: u32,
-    pub next: usize,
-}
-
-// The field of w bits at a place.
-pub fn single(frame: &[u8], at: usize, w: u32) -> Taken
-    ensures { λ r. ⌜ SingleTaken (now (frame .entry)) at w r ⌝ }
-{
-    let mut r = fields::reader(frame, at);
-    let value = r.take(w);
-    Taken { value, next: r.at }
-}
+ghost use Rattle.walk.specs.Promises.{PairTaken, SignedFilled};
 
 // Two fields, one behind the other, and the place behind them.
 pub struct TakenPair {

@@ -3,7 +3,7 @@
 -- behind the field (`Takes.antt`), and the value is stored. The borrow of the room is opened once, before the loop, and closed once, after it.
 -- Facts the invariant, where t fields are left: what is filled, and then the t fields from the reader's place on, are all the fields; and the place
 -- behind those is the place behind all
--- more a turn that fills one place. ends the turn that leaves the loop, with the rest of the body. loops the loop, by `Sound/Loop.antt`'s `loop-rule`
+-- more a turn that fills one place. ends the turn that leaves the loop. leaves the rest of the body. loops the loop, by `Sound/Loop.antt`'s `loop-rule`
 -- Of the two callees the proof knows that they meet their contracts.
 -- Assumes nothing.
 use mathlib.Core.Path.{_≡_, refl, sym, ap, _∙_, subst}
@@ -163,19 +163,24 @@ module _ {M : Type 1} (𝓤 : URA M) (H : Heap 𝓤) (A : Atoms 𝓤) (W : Given
 
       -- what no turn touches
       abbrev Rest : List (Item 𝓤)
-      Rest = ‵ (fat fullShare frameTy l₁ 0 v) ∷ ‵ (fat fullShare (tyInt w64) l₂ 0 (vint w64 p₀)) ∷ ‵ (fat fullShare (tyInt w32) l₃ 0 (vint w32 w))
-          ∷ ‵ (fat fullShare roomTy l₄ 0 v′) ∷ ‵ (fat fullShare (T′.mir erased) l₇ 0 (T′.lowered (h p₀))) ∷ ‵ (froom (tyInt w64) l₀ 0)
+      Rest = ‵ (fat fullShare (T′.mir erased) l₇ 0 (T′.lowered (h p₀))) ∷ ‵ (froom (tyInt w64) l₀ 0)
           ∷ ‵ (fobor κ′ q′ (Held i32 n b o γ)) ∷ ‵ (fobs γ (codedHoleys i32 .code (heres i32 xs))) ∷ ‵ (fauth γ (codedHoleys i32 .code (heres i32 xs)))
           ∷ ‵ Frame
           ∷ ‵ (fdies (tyInt w64) l₀) ∷ ‵ (fdies frameTy l₁) ∷ ‵ (fdies (tyInt w64) l₂) ∷ ‵ (fdies (tyInt w32) l₃) ∷ ‵ (fdies roomTy l₄)
           ∷ ‵ (fdies (T′.mir erased) l₅) ∷ ‵ (fdies (tyInt w64) l₆) ∷ ‵ (fdies (T′.mir erased) l₇)
           ∷ ‵ (fdies (tyInt w64) l₈) ∷ ‵ (fdies tyBool l₉) ∷ ‵ (fdies (tyInt w32) l₁₀) ∷ ‵ (fdies refTy l₁₁) ∷ ‵ (fdies tyPtr l₁₂) ∷ []
 
-      -- k places are filled, the room holds ys, and the reader is at the place p
-      abbrev At : ℕ → List ℤ → ℕ → List (Item 𝓤)
-      At k ys p = ‵ (row i32 fullShare ys b o) ∷ ‵ (Cell 𝓤 H A W κ q l₅ (h p)) ∷ ‵ (Own 𝓤 H A W κ q l₅ (h p)) ∷ ‵ (flft κ q)
+      -- k places are filled, the room holds ys, and the reader is at the place p; then what is left
+      abbrev With : List (Item 𝓤) → ℕ → List ℤ → ℕ → List (Item 𝓤)
+      With rest k ys p = ‵ (row i32 fullShare ys b o) ∷ ‵ (Cell 𝓤 H A W κ q l₅ (h p)) ∷ ‵ (Own 𝓤 H A W κ q l₅ (h p)) ∷ ‵ (flft κ q)
           ∷ ‵ (fat fullShare (tyInt w64) l₆ 0 (vint w64 k))
-          ∷ ‵ (froom (tyInt w64) l₈ 0) ∷ ‵ (froom tyBool l₉ 0) ∷ ‵ (froom (tyInt w32) l₁₀ 0) ∷ ‵ (froom refTy l₁₁ 0) ∷ ‵ (froom tyPtr l₁₂ 0) ∷ Rest
+          ∷ ‵ (froom (tyInt w64) l₈ 0) ∷ ‵ (froom tyBool l₉ 0) ∷ ‵ (froom (tyInt w32) l₁₀ 0) ∷ ‵ (froom refTy l₁₁ 0) ∷ ‵ (froom tyPtr l₁₂ 0)
+          ∷ ‵ (fat fullShare frameTy l₁ 0 v) ∷ ‵ (fat fullShare (tyInt w64) l₂ 0 (vint w64 p₀)) ∷ ‵ (fat fullShare (tyInt w32) l₃ 0 (vint w32 w))
+          ∷ ‵ (fat fullShare roomTy l₄ 0 v′) ∷ rest
+
+      -- what no turn touches is one item, which means the same as the items: a step costs by their number
+      abbrev At : ℕ → List ℤ → ℕ → List (Item 𝓤)
+      At = With (raw (⋆ 𝓤 H A Rest) ∷ [])
 
       abbrev Facts : ℕ → ℕ → List ℤ → ℕ → Type 0
       Facts t k ys p = (k + t ≡ n) × (length ys ≡ n) × (take k ys ++ signedFrom (now s) p w t ≡ signedFrom (now s) p₀ w n)
@@ -252,7 +257,25 @@ module _ {M : Type 1} (𝓤 : URA M) (H : Heap 𝓤) (A : Atoms 𝓤) (W : Given
           next : k + 1 < 2 ^ 64
           next = omega (arith, small, room .0)
 
-      -- the turn that leaves the loop, and the rest of the body
+      -- behind the loop: the reader's place is returned, and what no turn touched is needed item by item
+      leaves : (ys : List ℤ) (p : ℕ) → length ys ≡ n → (ys ≡ signedFrom (now s) p₀ w n) × (p ≡ behindAll p₀ w n)
+          → ent 𝓤 (⋆ 𝓤 H A (At n ys p)) (Wp 𝓤 H C Λ En code-mir.t-5 (atReturn 𝓤 H En Post))
+      leaves ys p l e =
+          qed W (With Rest n ys p) ∵ exec ! C Λ En code-mir.t-5 (atRet En Post) $
+          move ! (2 ∷ []) $ peeks ! R (Is R) (shows 𝓤 H A R) (h p) (T′.lowered (h p) ∷ []) (λ is. move ! (1 ∷ 2 ∷ 0 ∷ []) $
+          assigns ! (of-opd ! (load ! (from ! (fld ! refl (stop !))) (look-in ! 1 (sub ! 1 refl (whole !))))) (from ! (stop !))
+          (init ! 15 refl (tt, typed 𝓤 H A W κ (h p) _ is .1 .1 .0)) $
+          move ! (0 ∷ 16 ∷ 17 ∷ 18 ∷ []) $ closes-slice ! tt i32 xs ys l b o $
+          -- [obs; the borrow; its token; _5; what the reader owns; the token; _6; _8; _9; _10; _11; _12; _1; _2; _3; _4; _7; _0; what the frame owns;
+          -- and that each local dies]
+          returns ! (look ! 17 refl) $ forget ! 3 refl $ forget ! 6 refl $ forget ! 12 refl $
+          forget ! 13 refl $ forget ! 14 refl $ forget ! 15 refl $ forget ! 16 refl $ forget ! 17 refl $
+          move ! (17 ∷ 19 ∷ 12 ∷ 20 ∷ 13 ∷ 21 ∷ 14 ∷ 22 ∷ 15 ∷ 23 ∷ 3 ∷ 24 ∷ 6 ∷ 25 ∷ 16 ∷ 26 ∷ 7 ∷ 27 ∷ 8 ∷ 28 ∷ 9 ∷ 29 ∷ 10 ∷ 30 ∷ 11 ∷ 31 ∷ []) $
+          free1 ! $ free1 ! $ free1 ! $ free1 ! $ free1 ! $ free1 ! $ free1 ! $ free1 ! $ free1 ! $ free1 ! $ free1 ! $ free1 ! $ free1 ! $
+          free0 ! $
+          keep ! (0 ∷ 1 ∷ 2 ∷ 4 ∷ 5 ∷ []) $ by ! (exits ys p l e (typed 𝓤 H A W κ (h p) _ is .1 .1 .0 .fits)))
+
+      -- the turn that leaves the loop
       ends : (ys : List ℤ) (p : ℕ) (X : SProp 𝓤) → length ys ≡ n → (ys ≡ signedFrom (now s) p₀ w n) × (p ≡ behindAll p₀ w n)
           → ent 𝓤 (⋆ 𝓤 H A (At n ys p)) (Wp 𝓤 H C Λ En code-mir.turn-1 (afterTurn 𝓤 H X Left))
       unfolding afterTurn
@@ -263,19 +286,7 @@ module _ {M : Type 1} (𝓤 : URA M) (H : Heap 𝓤) (A : Atoms 𝓤) (W : Given
           assigns ! (bin ! (load ! (from ! (stop !)) (look ! 4 refl)) (load ! (from ! (stop !)) (look ! 5 refl)) tt) (from ! (stop !))
           (init ! 6 refl (tt, tt)) $
           rewrite ! 6 (λ (t : Bool). ‵ (fat fullShare tyBool l₉ 0 (vbool t))) (le-ltb n n (omega arith)) refl $
-          leaves-loop ! (load ! (from ! (stop !)) (look ! 6 refl)) $ exec ! C Λ En code-mir.t-5 (atRet En Post) $
-          move ! (2 ∷ []) $ peeks ! R (Is R) (shows 𝓤 H A R) (h p) (T′.lowered (h p) ∷ []) (λ is. move ! (1 ∷ 2 ∷ 0 ∷ []) $
-          assigns ! (of-opd ! (load ! (from ! (fld ! refl (stop !))) (look-in ! 1 (sub ! 1 refl (whole !))))) (from ! (stop !))
-          (init ! 15 refl (tt, typed 𝓤 H A W κ (h p) _ is .1 .1 .0)) $
-          move ! (0 ∷ 16 ∷ 17 ∷ 18 ∷ []) $ closes-slice ! tt i32 xs ys l b o $
-          -- [obs; the borrow; its token; _5; what the reader owns; the token; _6; _8; _9; _10; _11; _12; _1; _2; _3; _4; _7; _0; what the frame owns;
-          -- and that each local dies]
-          returns ! (look ! 17 refl) $ forget ! 3 refl $ forget ! 6 refl $ forget ! 7 refl $ forget ! 8 refl $ forget ! 12 refl $
-          forget ! 13 refl $ forget ! 14 refl $ forget ! 15 refl $ forget ! 16 refl $ forget ! 17 refl $
-          move ! (17 ∷ 19 ∷ 12 ∷ 20 ∷ 13 ∷ 21 ∷ 14 ∷ 22 ∷ 15 ∷ 23 ∷ 3 ∷ 24 ∷ 6 ∷ 25 ∷ 16 ∷ 26 ∷ 7 ∷ 27 ∷ 8 ∷ 28 ∷ 9 ∷ 29 ∷ 10 ∷ 30 ∷ 11 ∷ 31 ∷ []) $
-          free1 ! $ free1 ! $ free1 ! $ free1 ! $ free1 ! $ free1 ! $ free1 ! $ free1 ! $ free1 ! $ free1 ! $ free1 ! $ free1 ! $ free1 ! $
-          free0 ! $
-          keep ! (0 ∷ 1 ∷ 2 ∷ 4 ∷ 5 ∷ []) $ by ! (exits ys p l e (typed 𝓤 H A W κ (h p) _ is .1 .1 .0 .fits)))
+          leaves-loop ! (load ! (from ! (stop !)) (look ! 6 refl)) $ forget ! 5 refl $ forget ! 6 refl $ by ! (leaves ys p l e)
 
       -- the state that the turn leaves, with one field less
       step : (t k : ℕ) (ys : List ℤ) (p : ℕ) (z : ℤ) → Facts (suc t) k ys p → SignedRead (now s) p w z → Facts t (k + 1) (set ys k z) (behindOf p w)
