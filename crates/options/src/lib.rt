@@ -1,7 +1,7 @@
 // What one argument of a program says: which option it is, or a word such as a file's name (specs/Options.antt).
 ghost use mathlib.Core.Path.{_≡_};
 ghost use mathlib.Core.Bool.{cond};
-ghost use Rattle.options.specs.Options.{aWord, unknown, same, dashed, Says};
+ghost use Rattle.options.specs.Options.{aWord, unknown, dashed, Numbers, Says};
 
 // No option: a word.
 pub const WORD: u32 = 0;
@@ -23,9 +23,9 @@ pub const UNKNOWN: u32 = 7;
 // The version that the programs tell, as the Makefile has it.
 pub const RELEASE: [u8; 5] = *b"0.2.0";
 
-// The number of the option with this name, where a text is the name, and else another.
-fn number(word: &[u8], name: &[u8], own: u32, other: u32) -> u32
-    ensures { λ r. ⌜ r ≡ cond (same (now (word .entry)) (now (name .entry))) own other ⌝ }
+// The number of a name where an argument is this name, and else another.
+pub fn number(word: &[u8], name: &[u8], own: u32, other: u32) -> u32
+    ensures { λ r. ⌜ Numbers (now (word .entry)) (now (name .entry)) own other r ⌝ }
 {
     if check::same(word, name) { own } else { other }
 }

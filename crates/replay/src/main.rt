@@ -28,6 +28,12 @@ const ROOM: usize = 320;
 const NO_END: u32 = 2;
 
 const NO_SILENCE: u32 = 1;
+// How an argument is read.
+const AS_OPTION: u32 = 0;
+
+const AS_END: u32 = 1;
+
+const AS_SILENCE: u32 = 2;
 // Where the status goes that --status asks for.
 const STATUS_FILENO: i32 = 3;
 // The status: in data mode, not so, and what was no log at all.
@@ -306,11 +312,39 @@ impl Asked {
     }
 }
 
-// Which option argument i is. One that is too long to be one is a word.
-fn option_at(i: usize) -> u32 {
+// The end of this name.
+fn end_named(word: &[u8]) -> u32 {
+    let end = options::number(word, b"ntu", Supervisor::NTU, NO_END);
+    options::number(word, b"ltu", Supervisor::LTU, end)
+}
+
+// The silence that a text gives.
+fn silence_of(word: &[u8]) -> u32 {
+    let said = Line::counted(word);
+    if said.answer == answer::DONE {
+        said.times
+    } else {
+        NO_SILENCE
+    }
+}
+
+// What a text says as an option, as an end or as a silence.
+fn said(word: &[u8], how: u32) -> u32 {
+    match how {
+        AS_OPTION => options::read(word),
+        AS_END => end_named(word),
+        _ => silence_of(word),
+    }
+}
+
+// What argument i says so; 0 is none. One that is too long to be an option is a word.
+fn said_at(i: usize, how: u32, none: u32) -> u32 {
+    if i == 0 {
+        return none;
+    }
     let mut word = io::buffer();
     let n = os::arg(i, &mut word);
-    options::read(&word[..n])
+    said(&word[..n], how)
 }
 
 // What all arguments ask for.
@@ -326,53 +360,10 @@ fn arguments() -> Asked {
     };
     let mut i = 1;
     while i < count {
-        asked = asked.with(option_at(i), i);
+        asked = asked.with(said_at(i, AS_OPTION, options::WORD), i);
         i += 1;
     }
     asked
-}
-
-// The end of this name.
-fn end_named(word: &[u8]) -> u32 {
-    if word.len() != 3 {
-        return NO_END;
-    }
-    if word[1] != b't' {
-        return NO_END;
-    }
-    if word[2] != b'u' {
-        return NO_END;
-    }
-    match word[0] {
-        b'l' => Supervisor::LTU,
-        b'n' => Supervisor::NTU,
-        _ => NO_END,
-    }
-}
-
-// The end that argument i names; none where there is no such argument.
-fn end_at(i: usize) -> u32 {
-    if i == 0 {
-        return NO_END;
-    }
-    let mut word = io::buffer();
-    let n = os::arg(i, &mut word);
-    end_named(&word[..n])
-}
-
-// The silence that argument i gives: 0, the default, where there is none.
-fn silence_at(i: usize) -> u32 {
-    if i == 0 {
-        return 0;
-    }
-    let mut word = io::buffer();
-    let n = os::arg(i, &mut word);
-    let said = Line::counted(&word[..n]);
-    if said.answer == answer::DONE {
-        said.times
-    } else {
-        NO_SILENCE
-    }
 }
 
 // Says how the replayer is called, behind what is wrong.
@@ -448,7 +439,10 @@ fn run(asked: Asked) -> u8 {
         options::HELP => help(),
         options::VERSION => version(),
         options::UNKNOWN => refuse(asked.at),
-        _ => tell_card(end_at(asked.end), silence_at(asked.silence)),
+        _ => tell_card(
+            said_at(asked.end, AS_END, NO_END),
+            said_at(asked.silence, AS_SILENCE, 0),
+        ),
     }
 }
 
