@@ -11,7 +11,6 @@ use Rattle.ascii.specs.Text.{text, decimal, decimalIn}
 use Rattle.forms.specs.Forms.{rowBy, rowOf}
 use Rattle.forms.proofs.Laws.{each}
 use Rattle.phrases.specs.Phrases.{marked, phrase, phraseOf, phrases}
-use Rattle.supervisor.specs.declared.Supervisor.{Supervisor}
 use Rattle.story.specs.declared.Event.{Event}
 use Rattle.storytext.specs.Events.{numbered, seconds, ticksText, reportName, nameOf, phaseText, verbOf, attemptText, codeText, whenText, eventText}
 
@@ -28,7 +27,7 @@ eventWords =
     ++ text "Valid (until code 8, abnormal)\nException (silent for @ s)\nQuiet (1.500 s)\nno phase\nattempt #, \ntick # (@ s): \n$\n"
 
 -- text behind a number between words
-pub numbered-more : (a : String) (n : ℕ) (b : String) (x : List ℕ) → numbered a n b ++ x ≡ text a ++ (decimal n ++ (text b ++ x))
+numbered-more : (a : String) (n : ℕ) (b : String) (x : List ℕ) → numbered a n b ++ x ≡ text a ++ (decimal n ++ (text b ++ x))
 numbered-more a n b x = simp append-assoc
 
 tick-said : (t : ℕ) → phraseOf eventWords 36 t ≡ text "tick " ++ ticksText t ++ text ": "

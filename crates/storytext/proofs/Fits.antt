@@ -2,8 +2,7 @@
 use mathlib.Core.Path.{_≡_}
 use mathlib.Core.Bool.{Bool, true, false, cond, _||_}
 use mathlib.Core.List.{List, []}
-use Prim.Native.Nat.{ℕ, _+_, _-_, _/_, _%_, _^_, _≤_, _<_}
-use Prim.Native.String.{String}
+use Prim.Native.Nat.{ℕ, _-_, _/_, _%_, _^_, _≤_, _<_}
 use native.Mathlib.Omega.{arith}
 use lib.Dec.{eqb, lit≤, lit<}
 use lib.ListN.{length, take, length-append}
@@ -18,7 +17,7 @@ use Rattle.story.specs.declared.Story.{Story}
 use Rattle.story.specs.declared.Event.{Event}
 use Rattle.supervisor.specs.Limits.{attemptTicks}
 use Rattle.phrases.specs.Phrases.{thousandths}
-use Rattle.storytext.specs.Events.{numbered, seconds, ticksText, reportName, nameOf, phaseText, verbOf, attemptText, codeText, whenText, eventText}
+use Rattle.storytext.specs.Events.{seconds, ticksText, reportName, nameOf, phaseText, verbOf, attemptText, codeText, whenText, eventText}
 use Rattle.storytext.specs.Attempts.{shortName, lackOf, lackText, usedText, tryingText, howText, causeText, whyText, outcomeText}
 use Rattle.storytext.specs.Ending.{inDataMode, lasts, restText, leftText, waitText, unheardText, nowText, behindText, thenText, endedText}
 use Rattle.storytext.specs.Ending.{verdictText, lastTick, endText, reasonText, refusedText}
@@ -27,9 +26,6 @@ use Rattle.storytext.specs.Ending.{verdictText, lastTick, endText, reaso
 
 number-length : (n : ℕ) → n < 2 ^ 32 → length (decimal n) ≤ 10
 number-length n h = decimal-length 9 n (omega arith)
-
-numbered-length : (a : String) (n : ℕ) (b : String) → n < 2 ^ 32 → length (numbered a n b) ≤ length (text a) + 10 + length (text b)
-numbered-length a n b h = simp length-append (omega (arith, number-length n h))
 
 digit-length : (n : ℕ) → n < 10 → length (decimal n) ≤ 1
 digit-length n h = decimal-length 0 n (omega arith)

@@ -43,22 +43,31 @@ pub const EVENT: [u8; 875] = *b"\
     tick # (@ s): \n\
     $\n";
 
+// A code that is no report.
 pub const CODE: u32 = 9;
 
+// What an event of kind 0 is.
 pub const KINDS: u32 = 10;
 
+// An attempt whose time is up.
 pub const LATE: u32 = 18;
 
+// Phase 0.
 pub const PHASES: u32 = 19;
 
+// Quiet at the NTU.
 pub const QUIET_NTU: u32 = 33;
 
+// What is no phase.
 pub const NO_PHASE: u32 = 34;
 
+// The attempt's number.
 pub const ATTEMPT: u32 = 35;
 
+// A tick.
 pub const TICK: u32 = 36;
 
+// The end of the line.
 pub const END_OF_LINE: u32 = 37;
 
 // The end of the log. What a phase lacks has the row of its number (specs/Attempts.antt), and the name of a phase one that is 10 more.
@@ -97,36 +106,53 @@ pub const END: [u8; 735] = *b"\
     : C_r has not been heard\n\
     $\n";
 
+// The log's last tick.
 pub const LAST_TICK: u32 = 7;
 
+// An attempt that is still trying.
 pub const TRYING: u32 = 8;
 
+// One that has ended.
 pub const ENDED: u32 = 9;
 
+// The name of phase 0, if it were one of an attempt.
 pub const NAMES: u32 = 10;
 
+// Time that is used of an attempt.
 pub const USED: u32 = 21;
 
+// Time that is left.
 pub const LEFT: u32 = 22;
 
+// Data mode, after how long.
 pub const DATA: u32 = 23;
 
+// The exception state, after how long.
 pub const EXCEPTION: u32 = 24;
 
+// What ended an attempt: its time.
 pub const TIME_UP: u32 = 25;
 
+// An 8.
 pub const ABNORMAL: u32 = 26;
 
+// What ended data mode.
 pub const DATA_ENDED: u32 = 27;
 
+// What came then.
 pub const THEN: u32 = 28;
 
+// Phase 0, for how long.
 pub const WAITING: u32 = 29;
 
+// The exception state, for how long.
 pub const SILENT: u32 = 32;
 
+// Data mode, for how long.
 pub const IN_DATA: u32 = 33;
 
+// What has not come in Await.
 pub const UNHEARD: u32 = 34;
 
+// The end of the line.
 pub const OVER: u32 = 35;
