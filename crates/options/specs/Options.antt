@@ -83,6 +83,10 @@ dashed w = ltb 1 (length w) && eqb (getD w 0 0) 45
 abbrev pub meaning : List ℕ → ℕ
 meaning w = numberOf w options (cond (dashed w) unknown aWord)
 
+-- number: the own number of a name where the argument is this name, and else another
+abbrev pub Numbers : List ℕ → List ℕ → ℕ → ℕ → ℕ → Type 0
+Numbers w name own other r = r ≡ cond (same w name) own other
+
 -- read
 abbrev pub Says : List ℕ → ℕ → Type 0
 Says w r = r ≡ meaning w

@@ -1,10 +1,10 @@
 -- Laws of a log's lines and of what is followed. Assumes nothing.
 use mathlib.Core.Path.{_≡_, refl, sym, ap, _∙_}
-use mathlib.Core.Bool.{Bool, true, false, cond}
+use mathlib.Core.Bool.{Bool, true, false, cond, not, _||_, false≢true}
 use mathlib.Core.List.{List, [], _∷_}
 use Prim.Native.Nat.{ℕ, zero, suc, _+_, _-_, _≤_, _<_}
 use native.Mathlib.Omega.{arith}
-use borrow.Author.Tests.{eq-eqb, ne-eqb}
+use borrow.Author.Tests.{eqb-true, not-false, eq-eqb, ne-eqb}
 use lib.Dec.{eqb}
 use lib.ListN.{length, take, drop, length-drop, drop-of-length-le}
 use lib.Seq.{drop-drop}
@@ -12,7 +12,22 @@ use Rattle.log.specs.Lines.{lineOf, upToEnd, endOf}
 use Rattle.story.specs.declared.Story.{Story}
 use Rattle.story.specs.declared.Event.{Event}
 use Rattle.story.specs.Events.{eventOf}
+use Rattle.replay.specs.declared.Ending.{Ending}
 use Rattle.replay.specs.Replay.{repeated, followed, onto, linesOf, ending, endingFrom}
+
+-- ---- whether it goes on: while all is written, and nothing refused
+
+pub stopped : (w : Bool) (n : ℕ) → (not w || not (eqb n 0)) ≡ true → w ≡ true → n ≡ 0 → ⊥
+stopped true n h q z = absurd (false≢true (sym (ap not (eq-eqb n 0 z)) ∙ h))
+stopped false n h q z = absurd (false≢true q)
+
+pub went-on : (w : Bool) (n : ℕ) → (not w || not (eqb n 0)) ≡ false → (w ≡ true) × (n ≡ 0)
+went-on true n h = (refl, eqb-true n 0 (not-false (eqb n 0) h))
+went-on false n h = absurd (false≢true (sym h))
+
+pub as-written : (b : Bool) (n l : ℕ) (s : Story) → b ≡ true → _≡_ {A = Ending} (record { written = b; answer = n; line = l; story = s }) (ending n l s)
+as-written true n l s q = refl
+as-written false n l s q = absurd (false≢true q)
 
 -- ---- a code that comes again and again
 

@@ -28,6 +28,12 @@ const ROOM: usize = 320;
 const NO_END: u32 = 2;
 
 const NO_SILENCE: u32 = 1;
+// How an argument is read.
+const AS_OPTION: u32 = 0;
+
+const AS_END: u32 = 1;
+
+const AS_SILENCE: u32 = 2;
 // Where the status goes that --status asks for.
 const STATUS_FILENO: i32 = 3;
 // The status: in data mode, not so, and what was no log at all.
@@ -52,7 +58,7 @@ fn print(text: &[u8]) -> bool {
     false
 }
 
-// Writes the line of an event, unless there is nothing to tell.
+// Writes the line of an event, unless there is nothing to tell, as of one that is refused.
 fn tell(event: Event) -> bool {
     if event.kind == kind::NOTHING {
         return true;
@@ -60,28 +66,6 @@ fn tell(event: Event) -> bool {
     let mut room = [0u8; ROOM];
     let n = storytext::put_event(&mut room, event);
     print(&room[..n])
-}
-
-// Writes the lines of the log's end, and answers the status.
-fn tell_end(story: Story) -> u8 {
-    let mut room = [0u8; ROOM];
-    let n = storytext::put_end(&mut room, story);
-    if !print(&room[..n]) {
-        return WRONG;
-    }
-    if storytext::in_data_mode(story) {
-        DATA_MODE
-    } else {
-        OTHER
-    }
-}
-
-// Writes the line of a refusal.
-fn tell_refused(answer: u32, line: u32) -> u8 {
-    let mut room = [0u8; ROOM];
-    let n = storytext::put_refused(&mut room, answer, line);
-    print(&room[..n]);
-    WRONG
 }
 
 // What became of a line.
@@ -121,17 +105,9 @@ fn follow(story: Story, said: Line) -> Followed
     while k < times {
         let so_far = event.story;
         event = so_far.step(code);
-        if event.answer != answer::DONE {
-            return Followed {
-                written: true,
-                event,
-            };
-        }
-        if !tell(event) {
-            return Followed {
-                written: false,
-                event,
-            };
+        let written = tell(event);
+        if !written | (event.answer != answer::DONE) {
+            return Followed { written, event };
         }
         k += 1;
     }
@@ -153,24 +129,15 @@ fn replay(log: &[u8], begun: Story) -> Ending
         let end = log::line_end(log, at);
         let followed = follow(story, Line::read(&log[at..end]));
         let event = followed.event;
-        let next = event.story;
-        if !followed.written {
+        story = event.story;
+        if !followed.written | (event.answer != answer::DONE) {
             return Ending {
-                written: false,
-                answer: answer::DONE,
-                line,
-                story: next,
-            };
-        }
-        if event.answer != answer::DONE {
-            return Ending {
-                written: true,
+                written: followed.written,
                 answer: event.answer,
                 line,
-                story: next,
+                story,
             };
         }
-        story = next;
         line += 1;
         at = end + 1;
     }
@@ -182,50 +149,70 @@ fn replay(log: &[u8], begun: Story) -> Ending
     }
 }
 
-// 1 for the octet that ends a line, else 0.
-fn ended(octet: u8) -> u32
-    ensures { λ r. ⌜ r ≤ 1 ⌝ }
-{
-    if octet == b'\n' { 1 } else { 0 }
-}
-
 // The number of the line that the last of these octets stands on.
 fn last_line(log: &[u8]) -> u32
     requires { ⌜ length (now log) ≤ mostOctets + 1 ⌝ }
 {
     let mut line: u32 = 1;
-    let mut at = 1;
+    let mut at = log::line_end(log, 0) + 1;
     while at < log.len() {
-        line += ended(log[at - 1]);
-        at += 1;
+        line += 1;
+        at = log::line_end(log, at) + 1;
     }
     line
 }
 
-// Tells what became of a log.
+// The text of how a log ended.
+fn put_ending(room: &mut [u8], ending: Ending) -> usize
+    ensures { λ r. ⌜ r ≤ length (now (room .entry)) ⌝ }
+{
+    if ending.answer == answer::DONE {
+        let story = ending.story;
+        return storytext::put_end(room, story);
+    }
+    storytext::put_refused(room, ending.answer, ending.line)
+}
+
+// The status of a log that was told to its end.
+fn status(story: Story) -> u8 {
+    if storytext::in_data_mode(story) {
+        DATA_MODE
+    } else {
+        OTHER
+    }
+}
+
+// Tells how a log ended, and answers the status.
 fn tell_ending(ending: Ending) -> u8 {
     if !ending.written {
         return WRONG;
     }
-    if ending.answer == answer::DONE {
-        let story = ending.story;
-        tell_end(story)
-    } else {
-        tell_refused(ending.answer, ending.line)
+    let mut room = [0u8; ROOM];
+    let n = put_ending(&mut room, ending);
+    if !print(&room[..n]) | (ending.answer != answer::DONE) {
+        return WRONG;
     }
+    let story = ending.story;
+    status(story)
 }
 
 // Tells what was read. One octet more than a log may have shows that it is too long.
 fn tell_all(log: &[u8], begun: Event) -> u8
     requires { ⌜ length (now log) ≤ mostOctets + 1 ⌝ }
 {
+    let story = begun.story;
     if MOST < log.len() {
-        return tell_refused(answer::LENGTH, last_line(log));
+        return tell_ending(Ending {
+            written: true,
+            answer: answer::LENGTH,
+            line: last_line(log),
+            story,
+        });
     }
     if !tell(begun) {
         return WRONG;
     }
-    tell_ending(replay(log, begun.story))
+    tell_ending(replay(log, story))
 }
 
 // Reads up to 1,048,577 octets of standard input, and answers how many came; one more where a read fails.
@@ -305,8 +292,11 @@ impl Asked {
         self.asks(options::UNKNOWN, at)
     }
 
-    // One option more.
-    fn option(mut self, option: u32, at: usize) -> Asked {
+    // One argument more, which is this option.
+    fn with(mut self, option: u32, at: usize) -> Asked {
+        if self.ended | (option == options::WORD) {
+            return self.word(at);
+        }
         match option {
             options::STATUS => {
                 self.status = true;
@@ -316,30 +306,45 @@ impl Asked {
                 self.ended = true;
                 self
             },
-            options::HELP => self.asks(options::HELP, 0),
-            options::VERSION => self.asks(options::VERSION, 0),
+            options::HELP | options::VERSION => self.asks(option, at),
             _ => self.asks(options::UNKNOWN, at),
-        }
-    }
-
-    // One argument more, which is this option.
-    fn with(self, option: u32, at: usize) -> Asked {
-        if self.ended {
-            return self.word(at);
-        }
-        if option == options::WORD {
-            self.word(at)
-        } else {
-            self.option(option, at)
         }
     }
 }
 
-// Which option argument i is. One that is too long to be one is a word.
-fn option_at(i: usize) -> u32 {
+// The end of this name.
+fn end_named(word: &[u8]) -> u32 {
+    let end = options::number(word, b"ntu", Supervisor::NTU, NO_END);
+    options::number(word, b"ltu", Supervisor::LTU, end)
+}
+
+// The silence that a text gives.
+fn silence_of(word: &[u8]) -> u32 {
+    let said = Line::counted(word);
+    if said.answer == answer::DONE {
+        said.times
+    } else {
+        NO_SILENCE
+    }
+}
+
+// What a text says as an option, as an end or as a silence.
+fn said(word: &[u8], how: u32) -> u32 {
+    match how {
+        AS_OPTION => options::read(word),
+        AS_END => end_named(word),
+        _ => silence_of(word),
+    }
+}
+
+// What argument i says so; 0 is none. One that is too long to be an option is a word.
+fn said_at(i: usize, how: u32, none: u32) -> u32 {
+    if i == 0 {
+        return none;
+    }
     let mut word = io::buffer();
     let n = os::arg(i, &mut word);
-    options::read(&word[..n])
+    said(&word[..n], how)
 }
 
 // What all arguments ask for.
@@ -355,60 +360,17 @@ fn arguments() -> Asked {
     };
     let mut i = 1;
     while i < count {
-        asked = asked.with(option_at(i), i);
+        asked = asked.with(said_at(i, AS_OPTION, options::WORD), i);
         i += 1;
     }
     asked
 }
 
-// The end of this name.
-fn end_named(word: &[u8]) -> u32 {
-    if word.len() != 3 {
-        return NO_END;
-    }
-    if word[1] != b't' {
-        return NO_END;
-    }
-    if word[2] != b'u' {
-        return NO_END;
-    }
-    match word[0] {
-        b'l' => Supervisor::LTU,
-        b'n' => Supervisor::NTU,
-        _ => NO_END,
-    }
-}
-
-// The end that argument i names; none where there is no such argument.
-fn end_at(i: usize) -> u32 {
-    if i == 0 {
-        return NO_END;
-    }
-    let mut word = io::buffer();
-    let n = os::arg(i, &mut word);
-    end_named(&word[..n])
-}
-
-// The silence that argument i gives: 0, the default, where there is none.
-fn silence_at(i: usize) -> u32 {
-    if i == 0 {
-        return 0;
-    }
-    let mut word = io::buffer();
-    let n = os::arg(i, &mut word);
-    let said = Line::counted(&word[..n]);
-    if said.answer == answer::DONE {
-        said.times
-    } else {
-        NO_SILENCE
-    }
-}
-
-// Says how the replayer is called.
+// Says how the replayer is called, behind what is wrong.
 fn usage() -> u8 {
     io::write_all(
         STDERR_FILENO,
-        b"usage: replay [--status] ltu|ntu [SILENCE] < LOG\n",
+        b"\nusage: replay [--status] ltu|ntu [SILENCE] < LOG\n",
     );
     WRONG
 }
@@ -419,19 +381,15 @@ fn refuse(i: usize) -> u8 {
     let n = os::arg(i, &mut word);
     io::write_all(STDERR_FILENO, b"replay: wrong argument: ");
     io::write_all(STDERR_FILENO, &word[..n]);
-    io::write_all(STDERR_FILENO, b"\n");
     usage()
 }
 
 // Says why no card starts so.
 fn refuse_start(answer: u32) -> u8 {
     if answer == answer::UNKNOWN {
-        io::write_all(STDERR_FILENO, b"replay: the end is ltu or ntu\n");
+        io::write_all(STDERR_FILENO, b"replay: the end is ltu or ntu");
     } else {
-        io::write_all(
-            STDERR_FILENO,
-            b"replay: the silence is 2000 to 60000 ticks\n",
-        );
+        io::write_all(STDERR_FILENO, b"replay: the silence is 2000 to 60000 ticks");
     }
     usage()
 }
@@ -481,7 +439,10 @@ fn run(asked: Asked) -> u8 {
         options::HELP => help(),
         options::VERSION => version(),
         options::UNKNOWN => refuse(asked.at),
-        _ => tell_card(end_at(asked.end), silence_at(asked.silence)),
+        _ => tell_card(
+            said_at(asked.end, AS_END, NO_END),
+            said_at(asked.silence, AS_SILENCE, 0),
+        ),
     }
 }
 

@@ -2,8 +2,7 @@
 use mathlib.Core.Path.{_≡_}
 use mathlib.Core.Bool.{Bool, true, false, cond, _||_}
 use mathlib.Core.List.{List, []}
-use Prim.Native.Nat.{ℕ, _+_, _-_, _/_, _%_, _^_, _≤_, _<_}
-use Prim.Native.String.{String}
+use Prim.Native.Nat.{ℕ, _-_, _/_, _%_, _^_, _≤_, _<_}
 use native.Mathlib.Omega.{arith}
 use lib.Dec.{eqb, lit≤, lit<}
 use lib.ListN.{length, take, length-append}
@@ -17,24 +16,22 @@ use Rattle.story.specs.declared.Outcome.{Outcome}
 use Rattle.story.specs.declared.Story.{Story}
 use Rattle.story.specs.declared.Event.{Event}
 use Rattle.supervisor.specs.Limits.{attemptTicks}
-use Rattle.storytext.specs.Texts.{numbered, seconds, ticksText, reportName, nameOf, phaseText, shortName, verbOf, attemptText, codeText}
-use Rattle.storytext.specs.Texts.{whenText, eventText, lackOf, lackText, usedText, tryingText, inDataMode, lasts, restText, leftText, waitText}
-use Rattle.storytext.specs.Texts.{unheardText, nowText, howText, causeText, whyText, behindText, thenText, endedText}
-use Rattle.storytext.specs.Texts.{verdictText, endText, reasonText, refusedText}
+use Rattle.phrases.specs.Phrases.{thousandths}
+use Rattle.storytext.specs.Events.{seconds, ticksText, reportName, nameOf, phaseText, verbOf, attemptText, codeText, whenText, eventText}
+use Rattle.storytext.specs.Attempts.{shortName, lackOf, lackText, usedText, tryingText, howText, causeText, whyText, outcomeText}
+use Rattle.storytext.specs.Ending.{inDataMode, lasts, restText, leftText, waitText, unheardText, nowText, behindText, thenText, endedText}
+use Rattle.storytext.specs.Ending.{verdictText, lastTick, endText, reasonText, refusedText}
 
 -- ---- numbers
 
 number-length : (n : ℕ) → n < 2 ^ 32 → length (decimal n) ≤ 10
 number-length n h = decimal-length 9 n (omega arith)
 
-numbered-length : (a : String) (n : ℕ) (b : String) → n < 2 ^ 32 → length (numbered a n b) ≤ length (text a) + 10 + length (text b)
-numbered-length a n b h = simp length-append (omega (arith, number-length n h))
-
 digit-length : (n : ℕ) → n < 10 → length (decimal n) ≤ 1
 digit-length n h = decimal-length 0 n (omega arith)
 
 seconds-length : (t : ℕ) → t < 2 ^ 32 → length (seconds t) ≤ 13
-unfolding seconds
+unfolding seconds thousandths
 seconds-length t h =
     let a = decimal-length 6 (t / 1000) (omega arith) in
     let b = digit-length (t / 100 % 10) (omega arith) in
@@ -218,7 +215,7 @@ module _ (s : Story) (h : SmallStory s) where
       either-length (inDataMode (s .state .phase)) [] _ 152 (lit≤ tt) (simp length-append (omega (arith, now-length)))
 
   ended-length : length (endedText s) ≤ 250
-  unfolding endedText howText
+  unfolding endedText outcomeText howText
   ended-length =
       let a = number-length (s .attempts) (h .attempts) in
       let b = either-length (eqb (s .last .how) 2) (text "data mode after ") (text "exception after ") 16 (lit≤ tt) (lit≤ tt) in
@@ -233,7 +230,7 @@ module _ (s : Story) (h : SmallStory s) where
       (either-length (eqb (s .last .how) 0) (nowText s) (endedText s) 250 (omega (arith, now-length)) ended-length)
 
   pub end-fits : length (endText s) ≤ 320
-  unfolding endText
+  unfolding endText lastTick
   end-fits = simp length-append (omega (arith, ticks-length (s .clock) (h .clock), verdict-length))
 
 reason-length : (n : ℕ) → length (reasonText n) ≤ 64

@@ -1,4 +1,5 @@
-pub mod Laws
+pub mod EventWords
+pub mod EndWords
 pub mod Names
 pub mod Fits
 pub mod One

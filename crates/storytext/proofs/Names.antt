@@ -14,7 +14,9 @@ use Rattle.supervisor.specs.declared.Supervisor.{Supervisor}
 use Rattle.supervisor.specs.Phases.{Ready, Exception, Row, row, ntu, ltu, phasesOf, isOf, rowOf}
 use Rattle.supervisor.specs.Step.{stateRefusals, here}
 use Rattle.supervisor.proofs.Laws.{legal}
-use Rattle.storytext.specs.Texts.{seconds, reportName, nameOf, phaseText, lasts}
+use Rattle.phrases.specs.Phrases.{thousandths}
+use Rattle.storytext.specs.Events.{seconds, reportName, nameOf, phaseText}
+use Rattle.storytext.specs.Ending.{lasts}
 use Rattle.storytext.specs.Names.{awaitsText, ruleText, rowText}
 
 -- a state of this end and silence in this phase
@@ -32,11 +34,11 @@ unfolding phaseText ruleText
 exception-told end silence = simp append-assoc
 
 ntu-told : (silence : ℕ) → AllTold 1 silence (ntu silence)
-unfolding phaseText nameOf ruleText awaitsText reportName seconds decimal decimalIn
+unfolding phaseText nameOf ruleText awaitsText reportName seconds thousandths decimal decimalIn
 ntu-told silence = (refl, (refl, (refl, (refl, (refl, (refl, (refl, (refl, (exception-told 1 silence, tt)))))))))
 
 ltu-told : (silence : ℕ) → AllTold 0 silence (ltu silence)
-unfolding phaseText nameOf ruleText awaitsText reportName seconds decimal decimalIn
+unfolding phaseText nameOf ruleText awaitsText reportName seconds thousandths decimal decimalIn
 ltu-told silence = (refl, (refl, (refl, (refl, (refl, (refl, (refl, (refl, (refl, (exception-told 0 silence, tt))))))))))
 
 -- the row of a phase is among them

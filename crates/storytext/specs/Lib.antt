@@ -1,2 +1,5 @@
-pub mod Texts
+pub mod Events
 pub mod Names
+pub mod Attempts
+pub mod Ending
+pub mod Words

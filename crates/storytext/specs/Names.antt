@@ -7,7 +7,7 @@ use lib.Dec.{eqb}
 use lib.ListN.{getD}
 use Rattle.ascii.specs.Text.{text}
 use Rattle.supervisor.specs.Phases.{Exception, Row}
-use Rattle.storytext.specs.Texts.{seconds, codeName}
+use Rattle.storytext.specs.Events.{seconds, codeName}
 
 -- the phases' names, by number
 abbrev pub names : List String

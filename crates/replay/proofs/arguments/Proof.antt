@@ -17,8 +17,8 @@ arg-count-requires c κs = search needs
 loop-holds : tie.Need-loop-holds Inv-loop μ-loop
 loop-holds c = tt
 
-option-at-requires : tie.Need-option-at-requires Inv-loop μ-loop
-option-at-requires c κs = search needs
+said-at-requires : tie.Need-said-at-requires Inv-loop μ-loop
+said-at-requires c κs = search needs
 
 with-requires : tie.Need-with-requires Inv-loop μ-loop
 with-requires c κs = search needs
@@ -43,7 +43,7 @@ arguments-spec =
     μ-loop
     arg-count-requires
     loop-holds
-    option-at-requires
+    said-at-requires
     with-requires
     add-i
     loop-less

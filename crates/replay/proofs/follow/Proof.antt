@@ -1,12 +1,11 @@
 -- `replay::follow` meets its contract. After k turns the code has times - k turns to come.
 use borrow.Author.Needs.{needs}
 use mathlib.Core.Path.{_≡_, sym, _∙_}
-use mathlib.Core.Bool.{false≢true}
 use Prim.Native.Nat.{_+_, _-_, _≤_}
 use native.Mathlib.Omega.{arith}
 use native.Mathlib.Numerals.{unary-clauses}
 use Rattle.replay.specs.Replay.{repeated}
-use Rattle.replay.proofs.Laws.{repeat-none, repeat-stop, repeat-more}
+use Rattle.replay.proofs.Laws.{stopped, went-on, repeat-none, repeat-stop, repeat-more}
 use Rattle.replay.proofs.follow.Statement.{statement}
 use Rattle.replay.proofs.follow.Tie as tie
 
@@ -22,18 +21,15 @@ loop-holds c = (omega arith, simp unary-clauses)
 step-requires : tie.Need-step-requires Inv-loop μ-loop
 step-requires c κs = search needs
 
-returns : tie.Need-returns Inv-loop μ-loop
-returns c =
-    let a = c .before .before .before .before .before .before .args in
-    let l = c .before .before .before .before .before .loop in
-    let s = c .before .before .step in
-    λ w. repeat-stop (a .said .code) (a .said .times - l .k) (l .event) (s .result) (s .ensures) (c .if1 .taken) (omega arith) ∙ l .inv .1
-
 tell-requires : tie.Need-tell-requires Inv-loop μ-loop
 tell-requires c κs = search needs
 
-returns-2 : tie.Need-returns-2 Inv-loop μ-loop
-returns-2 c = λ w. absurd (false≢true w)
+returns : tie.Need-returns Inv-loop μ-loop
+returns c =
+    let a = c .before .before .before .before .before .before .before .args .said in
+    let l = c .before .before .before .before .before .before .loop in
+    let s = c .before .before .before .step in
+    λ w. repeat-stop (a .code) (a .times - l .k) (l .event) (s .result) (s .ensures) (stopped (c .before .before .tell .result) (s .result .answer) (c .if1 .taken) w) (omega arith) ∙ l .inv .1
 
 add-k : tie.Need-add-k Inv-loop μ-loop
 add-k c = omega arith
@@ -43,16 +39,14 @@ loop-less c = omega arith
 
 loop-again : tie.Need-loop-again Inv-loop μ-loop
 loop-again c =
-    let a = c .before .before .before .before .before .before .before .before .args in
-    let l = c .before .before .before .before .before .before .before .loop in
-    let s = c .before .before .before .before .step in
-    let z = c .before .before .if1 .left in (
-      omega arith,
-      repeat-more (a .said .code) (a .said .times - l .k) (a .said .times - (l .k + 1)) (l .event) (s .result) (s .ensures) z (omega arith) ∙ l .inv .1,
-    )
+    let a = c .before .before .before .before .before .before .before .args .said in
+    let l = c .before .before .before .before .before .before .loop in
+    let s = c .before .before .before .step in
+    let z = went-on (c .before .before .tell .result) (s .result .answer) (c .if1 .left) .1 in
+    (omega arith, repeat-more (a .code) (a .times - l .k) (a .times - (l .k + 1)) (l .event) (s .result) (s .ensures) z (omega arith) ∙ l .inv .1)
 
-returns-3 : tie.Need-returns-3 Inv-loop μ-loop
-returns-3 c =
+returns-2 : tie.Need-returns-2 Inv-loop μ-loop
+returns-2 c =
     let a = c .before .before .args in
     let l = c .before .loop in
     λ w. sym (repeat-none (a .said .code) (a .said .times - l .k) (l .event) (omega arith)) ∙ l .inv .1
@@ -65,10 +59,9 @@ follow-spec =
     μ-loop
     loop-holds
     step-requires
-    returns
     tell-requires
-    returns-2
+    returns
     add-k
     loop-less
     loop-again
-    returns-3)
+    returns-2)

@@ -1,66 +1,45 @@
 -- `storytext::put_end` meets its contract.
 use borrow.Author.Needs.{needs}
+use Rattle.ascii.proofs.Room.{put-more, put-as}
 use mathlib.Core.List.{_++_}
 use Rattle.ascii.specs.Text.{text}
-use Rattle.ascii.proofs.Room.{put-more}
-use Rattle.storytext.specs.Texts.{ticksText, verdictText, endText}
+use Rattle.storytext.specs.Ending.{lastTick}
+use Rattle.storytext.specs.Words.{attemptPart, nowPart}
+use Rattle.storytext.proofs.EndWords.{end-said}
 use Rattle.storytext.proofs.put_end.Statement.{statement}
 use Rattle.storytext.proofs.put_end.Tie as tie
 
-slice-aggregate-put-word : tie.Need-slice-aggregate-put-word
-slice-aggregate-put-word c = search needs
+verdict-requires : tie.Need-verdict-requires
+verdict-requires c κs = search needs
 
-put-word-requires : tie.Need-put-word-requires
-put-word-requires c κs = search needs
+put-words-requires : tie.Need-put-words-requires
+put-words-requires c κs = search needs
 
-put-ticks-requires : tie.Need-put-ticks-requires
-put-ticks-requires c κs = search needs
+now-requires : tie.Need-now-requires
+now-requires c κs = search needs
 
-put-requires : tie.Need-put-requires
-put-requires c κs = search needs
-
-put-verdict-requires : tie.Need-put-verdict-requires
-put-verdict-requires c κs = search needs
-
-put-requires-2 : tie.Need-put-requires-2
-put-requires-2 c κs = search needs
+put-words-requires-2 : tie.Need-put-words-requires-2
+put-words-requires-2 c κs = search needs
 
 same-length : tie.Need-same-length
 same-length c = search needs
 
 returns : tie.Need-returns
-unfolding endText
 returns c =
-    let b6 = c .before .before .before .before .before .before in
-    let b10 = b6 .before .before .before .before in
-    let b14 = b10 .before .before .before .before in
-    let b18 = b14 .before .before .before .before in
-    let b22 = b18 .before .before .before .before in
-    let s = b22 .args .story in
-    let t0 = text "end of log at tick " in
-    let t1 = ticksText (s .clock) in
-    let t2 = text "\n" in
-    let t3 = verdictText s in
-    let t4 = text "\n" in
-    put-more (t0 ++ t1 ++ t2 ++ t3) t4
-    (put-more (t0 ++ t1 ++ t2) t3
-    (put-more (t0 ++ t1) t2
-    (put-more (t0) t1
-    (b18 .put-word .ensures)
-    (b14 .put-ticks .ensures))
-    (b10 .put .ensures))
-    (b6 .put-verdict .ensures))
-    (c .before .before .put2 .ensures)
+    let d = c .before .before .before .before .before .before .before in
+    let s = d .before .before .before .before .args .story in
+    put-as
+    (put-more (lastTick (s .clock) ++ attemptPart s) (nowPart s ++ text "\n") (put-as (d .put-words .ensures) (d .before .verdict .ensures))
+    (put-as (c .before .before .put-words2 .ensures) (c .before .before .before .now .ensures)))
+    (end-said s)
 
 pub put-end-spec : {M : Type 1} → statement M
 put-end-spec =
     tie.close
     (tie.spec
-    slice-aggregate-put-word
-    put-word-requires
-    put-ticks-requires
-    put-requires
-    put-verdict-requires
-    put-requires-2
+    verdict-requires
+    put-words-requires
+    now-requires
+    put-words-requires-2
     same-length
     returns)

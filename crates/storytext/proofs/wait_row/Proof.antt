@@ -1,7 +1,11 @@
 -- `storytext::wait_row` meets its contract.
-use borrow.Author.Tests.{lt-ltb, le-ltb, eq-eqb, ne-eqb}
+use borrow.Author.Needs.{needs}
+use borrow.Author.Tests.{eq-eqb, ne-eqb, lt-ltb, le-ltb}
 use Rattle.storytext.proofs.wait_row.Statement.{statement}
 use Rattle.storytext.proofs.wait_row.Tie as tie
+
+add-result : tie.Need-add-result
+add-result c = search needs
 
 returns : tie.Need-returns
 returns c = simp (lt-ltb _ _ (c .if1 .taken))
@@ -13,4 +17,4 @@ returns-3 : tie.Need-returns-3
 returns-3 c = simp (le-ltb _ _ (c .before .if1 .left), ne-eqb _ _ (c .if2 .left))
 
 pub wait-row-spec : {M : Type 1} → statement M
-wait-row-spec = tie.close (tie.spec returns returns-2 returns-3)
+wait-row-spec = tie.close (tie.spec add-result returns returns-2 returns-3)
