@@ -11,8 +11,8 @@ use lib.ListN.{length, getD, take}
 use Rattle.ascii.proofs.Numbers.{word-next}
 use Rattle.ascii.specs.Text.{text}
 use Rattle.forms.specs.Forms.{formed}
-use Rattle.verdict.specs.Ranks.{cannotBeRead, lastRefusal}
-use Rattle.cardline.specs.Words.{refusedRow, nameOf, todo}
+use Rattle.card.specs.Ranks.{cannotBeRead, lastRefusal}
+use Rattle.card.specs.Words.{refusedRow, nameOf, todo}
 use Rattle.totals.specs.Totals.{howMany, written, cardsText, fineText, joint, verdictLine, verdictLines}
 
 -- ---- how many are x

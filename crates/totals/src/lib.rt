@@ -3,7 +3,7 @@ ghost use mathlib.Core.Path.{_≡_};
 ghost use mathlib.Core.Bool.{cond};
 ghost use lib.Dec.{eqb};
 ghost use Rattle.ascii.specs.Promises.{Put};
-ghost use Rattle.verdict.specs.Ranks.{verdicts};
+ghost use Rattle.card.specs.Ranks.{verdicts};
 ghost use Rattle.totals.specs.Totals.{howMany, fine as fineOf, written as writtenOf, cardsText, fineText, firstLine};
 ghost use Rattle.totals.specs.Totals.{joint, verdictLine, verdictLines, allFine, notText, lastLine};
 ghost use Rattle.totals.specs.Promises.{Totalled, IsStatus};
@@ -11,7 +11,7 @@ ghost use Rattle.totals.specs.Promises.{Totalled, IsStatus};
 // The highest number that is written.
 const MOST_WRITTEN: usize = 4294967295;
 // How many verdicts there are.
-const VERDICTS: u32 = verdict::GOOD + 1;
+const VERDICTS: u32 = card::GOOD + 1;
 
 // How a sorting went: every card is fine; not; a file cannot be read.
 pub const FINE: u32 = 0;
@@ -44,11 +44,7 @@ fn how_many(xs: &[u32], x: u32) -> usize
 fn fine(given: bool) -> u32
     ensures { λ r. ⌜ r ≡ fineOf given ⌝ }
 {
-    if given {
-        verdict::MATCHING
-    } else {
-        verdict::GOOD
-    }
+    if given { card::MATCHING } else { card::GOOD }
 }
 
 // A count as it is written.
@@ -97,10 +93,10 @@ fn put_first(room: &mut [u8], given: bool, ranks: &[u32]) -> usize
 fn put_joint(room: &mut [u8], at: usize, rank: u32) -> usize
     ensures { λ r. ⌜ Put (now (room .entry)) at (joint rank) r (now (room .exit)) ⌝ }
 {
-    if rank == verdict::CANNOT_BE_READ {
+    if rank == card::CANNOT_BE_READ {
         return ascii::put_word(room, at, b": ");
     }
-    if verdict::LAST_REFUSAL < rank {
+    if card::LAST_REFUSAL < rank {
         return ascii::put_word(room, at, b": ");
     }
     ascii::put_word(room, at, b"; ")
@@ -114,9 +110,9 @@ fn put_line(room: &mut [u8], at: usize, rank: u32, count: usize) -> usize
         return at;
     }
     let mut next = forms::put_form(room, at, b"# ", &[written(count)]);
-    next = cardline::put_name(room, next, rank);
+    next = card::put_name(room, next, rank);
     next = put_joint(room, next, rank);
-    next = cardline::put_todo(room, next, rank);
+    next = card::put_todo(room, next, rank);
     ascii::put(room, next, b'\n')
 }
 
@@ -174,7 +170,7 @@ pub fn totals(given: bool, ranks: &[u32], room: &mut [u8]) -> usize
 pub fn status(given: bool, ranks: &[u32]) -> u32
     ensures { λ r. ⌜ IsStatus given (now (ranks .entry)) r ⌝ }
 {
-    if 0 < how_many(ranks, verdict::CANNOT_BE_READ) {
+    if 0 < how_many(ranks, card::CANNOT_BE_READ) {
         return NOT_READ;
     }
     if all_fine(given, ranks) {

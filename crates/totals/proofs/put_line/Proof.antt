@@ -3,7 +3,7 @@ use borrow.Author.Needs.{needs}
 use mathlib.Core.List.{[], _∷_, _++_}
 use Rattle.ascii.specs.Text.{text}
 use Rattle.forms.specs.Forms.{formed}
-use Rattle.cardline.specs.Words.{nameOf, todo}
+use Rattle.card.specs.Words.{nameOf, todo}
 use Rattle.ascii.proofs.Room.{put-none, put-more, put-as}
 use Rattle.totals.specs.Totals.{joint}
 use Rattle.totals.proofs.Counting.{line-none, some-line}

@@ -6,11 +6,11 @@ use Prim.Native.Nat.{ℕ, suc, _+_, _-_, _≤_}
 use native.Mathlib.Omega.{arith}
 use lib.ListN.{length}
 use Rattle.verdict.specs.declared.Customer.{Customer}
-use Rattle.verdict.specs.Ranks.{good, verdicts, unreadable}
+use Rattle.card.specs.Ranks.{good, verdicts, unreadable}
 use Rattle.verdict.specs.Verdict.{refusedVerdict, verdictOf}
 use Rattle.verdict.proofs.Ranks.{within, unread-within}
 use Rattle.totals.specs.Totals.{howMany, fine}
 use Rattle.totals.proofs.Counting.{countedBelow, AllBelow, all-counted, fine-and-not}
 
 -- a card: a file that was read, by its octets, or one that cannot be read
 pub data Card : Type 0 where

@@ -1,4 +1,4 @@
--- `cardline::put_name` meets its contract.
+-- `card::put_name` meets its contract.
 use borrow.Author.Needs.{needs}
 use mathlib.Core.Path.{sym, ap, _∙_}
 use mathlib.Core.Bool.{cond}
@@ -7,9 +7,9 @@ use borrow.Author.Tests.{eq-eqb, ne-eqb}
 use lib.Dec.{eqb}
 use Rattle.forms.specs.Forms.{rowOf}
 use Rattle.ascii.proofs.Room.{put-more, put-as}
-use Rattle.cardline.specs.Words.{refusedRow, names, refusal, nameOf}
-use Rattle.cardline.proofs.put_name.Statement.{statement}
-use Rattle.cardline.proofs.put_name.Tie as tie
+use Rattle.card.specs.Words.{refusedRow, names, refusal, nameOf}
+use Rattle.card.proofs.put_name.Statement.{statement}
+use Rattle.card.proofs.put_name.Tie as tie
 
 row-requires : tie.Need-row-requires
 row-requires c κs = search needs

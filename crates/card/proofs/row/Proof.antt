@@ -1,8 +1,8 @@
--- `cardline::row` meets its contract.
+-- `card::row` meets its contract.
 use borrow.Author.Needs.{needs}
 use borrow.Author.Tests.{eq-eqb, ne-eqb, lt-ltb, le-ltb}
-use Rattle.cardline.proofs.row.Statement.{statement}
-use Rattle.cardline.proofs.row.Tie as tie
+use Rattle.card.proofs.row.Statement.{statement}
+use Rattle.card.proofs.row.Tie as tie
 
 returns : tie.Need-returns
 returns c = simp (eq-eqb _ _ (c .if1 .taken))

@@ -1,11 +1,11 @@
--- `cardline::put_todo` meets its contract.
+-- `card::put_todo` meets its contract.
 use borrow.Author.Needs.{needs}
 use mathlib.Core.Path.{ap}
 use Rattle.forms.specs.Forms.{rowOf}
 use Rattle.ascii.proofs.Room.{put-as}
-use Rattle.cardline.specs.Words.{todos, todo}
-use Rattle.cardline.proofs.put_todo.Statement.{statement}
-use Rattle.cardline.proofs.put_todo.Tie as tie
+use Rattle.card.specs.Words.{todos, todo}
+use Rattle.card.proofs.put_todo.Statement.{statement}
+use Rattle.card.proofs.put_todo.Tie as tie
 
 slice-aggregate-put-row : tie.Need-slice-aggregate-put-row
 slice-aggregate-put-row c = search needs

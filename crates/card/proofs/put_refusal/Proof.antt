@@ -1,10 +1,10 @@
--- `cardline::put_refusal` meets its contract.
+-- `card::put_refusal` meets its contract.
 use borrow.Author.Needs.{needs}
 use Rattle.forms.specs.Forms.{rowOf}
 use Rattle.ascii.proofs.Room.{put-more}
-use Rattle.cardline.specs.Words.{reasons, refusal}
-use Rattle.cardline.proofs.put_refusal.Statement.{statement}
-use Rattle.cardline.proofs.put_refusal.Tie as tie
+use Rattle.card.specs.Words.{reasons, refusal}
+use Rattle.card.proofs.put_refusal.Statement.{statement}
+use Rattle.card.proofs.put_refusal.Tie as tie
 
 slice-aggregate-put-form : tie.Need-slice-aggregate-put-form
 slice-aggregate-put-form c = search needs
