@@ -228,19 +228,6 @@ fn tell(name: &[u8], v: card::Verdict, csv: bool) -> bool {
     say_cells(&room[..n], csv)
 }
 
-// Reads once, behind the first n octets, and answers how many stand there then; 531 where the read fails.
-fn read_on(fd: i32, octets: &mut [u8], n: usize) -> usize
-    requires { ⌜ (length (now octets) ≡ 530) × (n < 530) ⌝ }
-    ensures { λ r. ⌜ (n ≤ r) × (r ≤ 531) ⌝ }
-{
-    let rest = &mut octets[n..];
-    let got = libc::read(fd, rest);
-    if got < 0 {
-        return FAILED;
-    }
-    n + io::count(got, rest)
-}
-
 // Reads up to 530 octets of an open file, and answers how many came; 531 where a read fails.
 fn fill(fd: i32, octets: &mut [u8]) -> usize
     requires { ⌜ length (now octets) ≡ 530 ⌝ }
@@ -248,11 +235,16 @@ fn fill(fd: i32, octets: &mut [u8]) -> usize
 {
     let mut n: usize = 0;
     while n < READ {
-        let m = read_on(fd, octets, n);
-        if m == n {
+        let rest = &mut octets[n..];
+        let got = libc::read(fd, rest);
+        if got < 0 {
+            return FAILED;
+        }
+        let m = io::count(got, rest);
+        if m == 0 {
             return n;
         }
-        n = m;
+        n += m;
     }
     n
 }
