@@ -10,7 +10,7 @@ use Rattle.ascii.specs.Plain.{textLength}
 use Rattle.ascii.proofs.Numbers.{word-next}
 use Rattle.forms.specs.Forms.{firstOf, formedBy, formed, rowBy, rowOf}
 use Rattle.card.specs.declared.Verdict.{Verdict}
-use Rattle.cardline.specs.Words.{shortWords, lengthWords}
+use Rattle.cardline.specs.Words.{words, shortWords, lengthWords}
 use Rattle.cardline.specs.Line.{shownOctet, shown, vendorText, trainingCells, finalCells, noCells, readCells, cells}
 use Rattle.cardline.specs.Line.{heading, csvOctet, csvOctets}
 
@@ -41,8 +41,8 @@ shown-next os k d h e =
 -- ---- vendor data as text
 
 module _ (os : List ℕ) (n : ℕ) (e : n ≡ textLength os) where
-  pub text-none : n ≡ 0 → text "-" ≡ vendorText os
-  unfolding vendorText
+  pub text-none : n ≡ 0 → rowOf words 0 ≡ vendorText os
+  unfolding rowOf rowBy vendorText
   text-none z = simp (eq-eqb (textLength os) 0 (sym e ∙ z))
 
   pub text-is : (n ≡ 0 → ⊥) → take n os ≡ vendorText os
@@ -51,16 +51,16 @@ module _ (os : List ℕ) (n : ℕ) (e : n ≡ textLength os) where
 
 -- ---- a file that is not as long as a frame
 
-pub short-one : (n : ℕ) → n ≡ 1 → text "refused 1: the file has 1 octet, a frame has 529" ≡ shortWords n
-unfolding shortWords formed formedBy firstOf decimal decimalIn
+pub short-one : (n : ℕ) → n ≡ 1 → rowOf words 4 ≡ shortWords n
+unfolding rowOf rowBy shortWords formed formedBy firstOf decimal decimalIn
 short-one n e = simp (eq-eqb n 1 e)
 
 pub short-some : (n : ℕ) → (n ≡ 1 → ⊥) → formed (text "refused 1: the file has # octets, a frame has 529") (n ∷ []) ≡ shortWords n
 unfolding shortWords formed formedBy firstOf decimal decimalIn
 short-some n h = simp (ne-eqb n 1 h)
 
-pub length-more : (n : ℕ) → 529 < n → text "refused 1: the file has more than 529 octets" ≡ lengthWords n
-unfolding lengthWords formed formedBy firstOf decimal decimalIn
+pub length-more : (n : ℕ) → 529 < n → rowOf words 3 ≡ lengthWords n
+unfolding rowOf rowBy lengthWords formed formedBy firstOf decimal decimalIn
 length-more n h = simp (lt-ltb 529 n h)
 
 -- ---- the heading by its row
@@ -77,7 +77,8 @@ heading-told false = refl
 
 -- ---- a card's cells
 
-pub bad-cells : (v : Verdict) → (v .answer ≡ 0 → ⊥) → noCells ≡ cells (v .answer) v
+pub bad-cells : (v : Verdict) → (v .answer ≡ 0 → ⊥) → rowOf words 2 ≡ cells (v .answer) v
+unfolding rowOf rowBy noCells
 bad-cells v h = go (v .answer) h
   where
     go : (n : ℕ) → (n ≡ 0 → ⊥) → noCells ≡ cells n v

@@ -4,7 +4,8 @@ ghost use mathlib.Core.Bool.{cond};
 ghost use lib.Dec.{eqb};
 ghost use Rattle.ascii.specs.Promises.{Put};
 ghost use Rattle.card.specs.Ranks.{finalFrame, good};
-ghost use Rattle.cardline.specs.Words.{shortWords, lengthWords, verdictWords};
+ghost use Rattle.forms.specs.Forms.{rowOf};
+ghost use Rattle.cardline.specs.Words.{words, shortWords, lengthWords, verdictWords};
 ghost use Rattle.cardline.specs.Line.{shownOctet, shown, vendorText, vendorCells};
 ghost use Rattle.cardline.specs.Line.{trainingCells, finalCells, cells, likeCell, findings, csvOctet, csvOctets, referenceName};
 ghost use Rattle.cardline.specs.Promises.{Headed, Lined, Separated, Referred};
@@ -13,16 +14,47 @@ use card::Verdict;
 // A frame's octets.
 const FRAME: u32 = layout::FRAME_OCTETS as u32;
 
+// The rows of the words: a cell that holds nothing; the cells of a final frame, and of a card that does not read; a file's length; a reference;
+// a tab and a quote in comma-separated form.
+const NOTHING: u32 = 0;
+
+const FINAL_CELLS: u32 = 1;
+
+const NO_CELLS: u32 = 2;
+
+const MORE: u32 = 3;
+
+const ONE: u32 = 4;
+
+const REFERENCE: u32 = 5;
+
+const COLON: u32 = 6;
+
+const CSV_TAB: u32 = 7;
+
+const CSV_QUOTE: u32 = 8;
+
+// A row of the words.
+fn put_words(room: &mut [u8], at: usize, row: u32) -> usize
+    ensures { λ r. ⌜ Put (now (room .entry)) at (rowOf words row) r (now (room .exit)) ⌝ }
+{
+    forms::put_row(
+        room,
+        at,
+        b"-\n\tfinal\t-\t-\t-\t\n\t-\t-\t-\t-\t-\t-\n\
+          refused 1: the file has more than 529 octets\n\
+          refused 1: the file has 1 octet, a frame has 529\n\
+          sorter: the reference \n: \n\",\"\n\"\"\n",
+        row,
+    )
+}
+
 // A file with fewer octets than a frame has.
 fn put_short(room: &mut [u8], at: usize, n: u32) -> usize
     ensures { λ r. ⌜ Put (now (room .entry)) at (shortWords n) r (now (room .exit)) ⌝ }
 {
     if n == 1 {
-        return ascii::put_word(
-            room,
-            at,
-            b"refused 1: the file has 1 octet, a frame has 529",
-        );
+        return put_words(room, at, ONE);
     }
     forms::put_form(
         room,
@@ -37,7 +69,7 @@ fn put_length(room: &mut [u8], at: usize, n: u32) -> usize
     ensures { λ r. ⌜ Put (now (room .entry)) at (lengthWords n) r (now (room .exit)) ⌝ }
 {
     if FRAME < n {
-        return ascii::put_word(room, at, b"refused 1: the file has more than 529 octets");
+        return put_words(room, at, MORE);
     }
     put_short(room, at, n)
 }
@@ -84,7 +116,7 @@ fn put_text(room: &mut [u8], at: usize, vendor: &[u8]) -> usize
 {
     let n = ascii::text_length(vendor);
     if n == 0 {
-        return ascii::put_word(room, at, b"-");
+        return put_words(room, at, NOTHING);
     }
     ascii::put_word(room, at, &vendor[..n])
 }
@@ -110,7 +142,7 @@ fn put_training(room: &mut [u8], at: usize, used: u32, a: u32, b: u32, vendor: &
 fn put_final(room: &mut [u8], at: usize, vendor: &[u8]) -> usize
     ensures { λ r. ⌜ Put (now (room .entry)) at (finalCells (now (vendor .entry))) r (now (room .exit)) ⌝ }
 {
-    let next = ascii::put_word(room, at, b"\tfinal\t-\t-\t-\t");
+    let next = put_words(room, at, FINAL_CELLS);
     put_vendor(room, next, vendor)
 }
 
@@ -119,7 +151,7 @@ fn put_cells(room: &mut [u8], at: usize, v: Verdict) -> usize
     ensures { λ r. ⌜ Put (now (room .entry)) at (cells (v .answer) v) r (now (room .exit)) ⌝ }
 {
     if v.answer != answer::DONE {
-        return ascii::put_word(room, at, b"\t-\t-\t-\t-\t-\t-");
+        return put_words(room, at, NO_CELLS);
     }
     let vendor = v.vendor;
     if v.kind == layout::TRAINING {
@@ -183,13 +215,13 @@ fn put_csv(room: &mut [u8], at: usize, octet: u8) -> usize
     ensures { λ r. ⌜ Put (now (room .entry)) at (csvOctet octet) r (now (room .exit)) ⌝ }
 {
     if octet == b'\t' {
-        return ascii::put_word(room, at, b"\",\"");
+        return put_words(room, at, CSV_TAB);
     }
     if octet == b'\n' {
         return ascii::put_word(room, at, b"\"\r\n");
     }
     if octet == b'"' {
-        return ascii::put_word(room, at, b"\"\"");
+        return put_words(room, at, CSV_QUOTE);
     }
     ascii::put(room, at, octet)
 }
@@ -230,9 +262,9 @@ fn unfit(rank: u32) -> u32
 fn put_reference(room: &mut [u8], name: &[u8]) -> usize
     ensures { λ r. ⌜ Put (now (room .entry)) 0 (referenceName (now (name .entry))) r (now (room .exit)) ⌝ }
 {
-    let mut next = ascii::put_word(room, 0, b"sorter: the reference ");
+    let mut next = put_words(room, 0, REFERENCE);
     next = put_shown(room, next, name);
-    ascii::put_word(room, next, b": ")
+    put_words(room, next, COLON)
 }
 
 // What a reference frame that does not serve is found to be.

@@ -1,25 +1,22 @@
 -- `cardline::put_length` meets its contract.
-use borrow.Author.Needs.{needs}
 use borrow.Author.Tests.{le-ltb}
 use Rattle.ascii.proofs.Room.{put-as}
 use Rattle.cardline.specs.Words.{lengthWords}
 use Rattle.cardline.proofs.Lines.{length-more}
+use borrow.Author.Needs.{needs}
 use Rattle.cardline.proofs.put_length.Statement.{statement}
 use Rattle.cardline.proofs.put_length.Tie as tie
 
-slice-aggregate-put-word : tie.Need-slice-aggregate-put-word
-slice-aggregate-put-word c = search needs
-
-put-word-requires : tie.Need-put-word-requires
-put-word-requires c κs = search needs
+put-words-requires : tie.Need-put-words-requires
+put-words-requires c κs = search needs
 
 same-length : tie.Need-same-length
 same-length c = search needs
 
 returns : tie.Need-returns
 returns c =
-    let p5 = c .before .before .before .before .before in
-    put-as (c .before .before .put-word .ensures) (length-more (p5 .before .before .args .n) (p5 .if1 .taken))
+    let p4 = c .before .before .before .before in
+    put-as (c .before .before .put-words .ensures) (length-more (p4 .before .before .args .n) (p4 .if1 .taken))
 
 put-short-requires : tie.Need-put-short-requires
 put-short-requires c κs = search needs
@@ -34,11 +31,4 @@ returns-2 c = put-as (c .before .before .put-short .ensures) (simp (le-ltb _ _ (
 pub put-length-spec : {M : Type 1} → statement M
 put-length-spec =
     tie.close
-    (tie.spec
-    slice-aggregate-put-word
-    put-word-requires
-    same-length
-    returns
-    put-short-requires
-    same-length-2
-    returns-2)
+    (tie.spec put-words-requires same-length returns put-short-requires same-length-2 returns-2)
