@@ -7,20 +7,14 @@ use native.Mathlib.Omega.{arith}
 use borrow.Author.Tests.{ne-eqb, leb-true, ltb-false, eqb-true}
 use lib.Dec.{eqb, ltb, leb, lit≤}
 use lib.ListN.{length, getD, take, drop}
-use Rattle.answer.specs.Answer.{answer}
-use Rattle.octets.specs.Bits.{bitsOf}
-use Rattle.layout.specs.Frame.{trainingSync}
-use Rattle.layout.specs.Refusals.{hasSync, checkRefusals}
 use Rattle.ascii.specs.Text.{text, digit, decimal, hex, hexes}
 use Rattle.ascii.specs.Plain.{printables, allZeros, textLength}
 use Rattle.ascii.proofs.Reading.{decimal-is}
 use Rattle.forms.specs.Forms.{firstOf, formedBy, formed, rowBy, rowOf}
-use Rattle.verdict.specs.declared.Customer.{Customer}
-use Rattle.verdict.specs.declared.Verdict.{Verdict}
-use Rattle.verdict.specs.Ranks.{unreadable}
+use Rattle.card.specs.declared.Verdict.{Verdict}
+use Rattle.card.specs.Words.{rowOfRank, refusedRow, names, todos, reasons, refusal, nameOf, todo}
 use Rattle.layout.specs.Places.{frameLength}
-use Rattle.verdict.specs.Verdict.{octetsOf, likeOf, lastFirst, absent, refusedVerdict, trainingVerdict, finalVerdict, judged, verdictOf}
-use Rattle.cardline.specs.Words.{rowOfRank, refusedRow, names, todos, reasons, refusal, nameOf, todo, lengthWords, verdictWords}
+use Rattle.cardline.specs.Words.{shortWords, lengthWords, verdictWords}
 use Rattle.cardline.specs.Line.{shownOctet, shown, vendorText, vendorCells, trainingCells, finalCells, noCells, readCells, cells, likeCell}
 use Rattle.cardline.specs.Line.{findings, cardLine, heading}
 
@@ -168,7 +162,7 @@ module _ (x : ℕ) (control : x < 32) (free : (n : ℕ) → (times x (rowOf name
       )
 
   length-none : (n : ℕ) → times x (lengthWords n) ≡ 0
-  unfolding lengthWords
+  unfolding lengthWords shortWords
   length-none n =
       cond-none x (ltb frameLength n) _ _ (times-formed x control _ (frameLength ∷ []) ∙ more)
       (cond-none x (eqb n 1) _ _ (times-formed x control _ (frameLength ∷ []) ∙ one) (times-formed x control _ (n ∷ frameLength ∷ []) ∙ some))
@@ -238,64 +232,28 @@ tab-free : (n : ℕ) → (times 9 (rowOf names n) ≡ 0) × (times 9 (rowOf todo
 unfolding times
 tab-free n = (omega (arith, times-row 9 names n), omega (arith, times-row 9 todos n), omega (arith, times-row 9 reasons n))
 
--- a word's cell where a customer is given
-like-tab : (given : Bool) (x y : ℕ) → times 9 (likeCell (likeOf given x y)) ≡ cond given 1 0
-unfolding times likeCell rowOf rowBy
-like-tab true x y = pick (eqb x y) (eqb x (lastFirst y))
-  where
-    pick : (b c : Bool) → times 9 (likeCell (cond b 1 (cond c 2 3))) ≡ 1
-    pick true c = refl
-    pick false true = refl
-    pick false false = refl
-like-tab false x y = refl
-
-absent-tab : (given : Bool) → times 9 (likeCell (absent given)) ≡ cond given 1 0
-unfolding times likeCell rowOf rowBy
-absent-tab true = refl
-absent-tab false = refl
-
 heading-tabs : (given : Bool) → times 9 (heading given) ≡ 8 + (cond given 1 0 + cond given 1 0)
 unfolding times heading
 heading-tabs true = refl
 heading-tabs false = refl
 
--- with the line's parts
-tabs-of : (name : List ℕ) (v : Verdict) (given : Bool) → times 9 (cells (v .answer) v) ≡ 6 → times 9 (likeCell (v .alike)) ≡ cond given 1 0
+-- a card's line has as many cells as the heading, where its parts have theirs
+pub tabs-of : (name : List ℕ) (v : Verdict) (given : Bool) → times 9 (cells (v .answer) v) ≡ 6 → times 9 (likeCell (v .alike)) ≡ cond given 1 0
     → times 9 (likeCell (v .blike)) ≡ cond given 1 0 → times 9 (cardLine name v) ≡ times 9 (heading given)
 unfolding times
 tabs-of name v given c a b = omega (arith, line-times 9 (lit≤ tt) tab-free refl refl refl refl refl name v, heading-tabs given)
 
-no-cells-tabs : times 9 noCells ≡ 6
+pub no-cells-tabs : times 9 noCells ≡ 6
 unfolding times noCells
 no-cells-tabs = refl
 
--- every card's line has as many cells as the heading
-pub line-tabs : (name frame : List ℕ) (k : Customer) → times 9 (cardLine name (verdictOf frame k)) ≡ times 9 (heading (k .given))
-unfolding verdictOf judged times
-line-tabs name frame k = go (answer (checkRefusals frame))
-  where
-    B : List ℕ
-    B = bitsOf frame
+pub training-cells-tabs : (used a b : ℕ) (os : List ℕ) → times 9 (trainingCells used a b os) ≡ 6
+unfolding times
+training-cells-tabs used a b os = training-tabs 9 (lit≤ tt) tab-free refl refl refl refl refl used a b os
 
-    o : ℕ
-    o = octetsOf frame
-
-    reads : (t : Bool) → times 9 (cardLine name (cond t (trainingVerdict o B k) (finalVerdict o B k))) ≡ times 9 (heading (k .given))
-    reads true =
-        let v = trainingVerdict o B k in
-        tabs-of name v (k .given) (training-tabs 9 (lit≤ tt) tab-free refl refl refl refl refl (v .used) (v .a) (v .b) (v .vendor))
-        (like-tab (k .given) (v .a) (k .a)) (like-tab (k .given) (v .b) (k .b))
-    reads false =
-        let v = finalVerdict o B k in
-        tabs-of name v (k .given) (final-tabs 9 (lit≤ tt) tab-free refl refl refl refl refl (v .vendor)) (absent-tab (k .given)) (absent-tab (k .given))
-
-    go : (n : ℕ) → times 9 (cardLine name (judged n o B k)) ≡ times 9 (heading (k .given))
-    go zero = reads (hasSync trainingSync B)
-    go (suc n) = tabs-of name (refusedVerdict (suc n) o k) (k .given) no-cells-tabs (absent-tab (k .given)) (absent-tab (k .given))
-
-pub unread-tabs : (name : List ℕ) (k : Customer) → times 9 (cardLine name (refusedVerdict unreadable 0 k)) ≡ times 9 (heading (k .given))
-unread-tabs name k =
-    tabs-of name (refusedVerdict unreadable 0 k) (k .given) no-cells-tabs (absent-tab (k .given)) (absent-tab (k .given))
+pub final-cells-tabs : (os : List ℕ) → times 9 (finalCells os) ≡ 6
+unfolding times
+final-cells-tabs os = final-tabs 9 (lit≤ tt) tab-free refl refl refl refl refl os
 
 -- ---- line ends (10)
 

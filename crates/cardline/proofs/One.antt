@@ -3,17 +3,10 @@ use mathlib.Core.Path.{_≡_}
 use mathlib.Core.Bool.{Bool}
 use mathlib.Core.List.{List}
 use Prim.Native.Nat.{ℕ}
-use Rattle.ascii.proofs.One.{put-one, told-one}
-use Rattle.verdict.specs.declared.Verdict.{Verdict}
-use Rattle.cardline.specs.Words.{nameOf, todo}
+use Rattle.ascii.proofs.One.{told-one}
+use Rattle.card.specs.declared.Verdict.{Verdict}
 use Rattle.cardline.specs.Line.{cardLine, heading, csvLine, referenceLine}
-use Rattle.cardline.specs.Promises.{NamePut, TodoPut, Headed, Lined, Separated, Referred}
-
-pub put-name-one : (room : List ℕ) (at n r r′ : ℕ) (t t′ : List ℕ) → NamePut room at n r t → NamePut room at n r′ t′ → (r ≡ r′) × (t ≡ t′)
-put-name-one room at n = put-one room at (nameOf n)
-
-pub put-todo-one : (room : List ℕ) (at n r r′ : ℕ) (t t′ : List ℕ) → TodoPut room at n r t → TodoPut room at n r′ t′ → (r ≡ r′) × (t ≡ t′)
-put-todo-one room at n = put-one room at (todo n)
+use Rattle.cardline.specs.Promises.{Headed, Lined, Separated, Referred}
 
 pub header-one : (given : Bool) (room : List ℕ) (r r′ : ℕ) (t t′ : List ℕ) → Headed given room r t → Headed given room r′ t′ → (r ≡ r′) × (t ≡ t′)
 header-one given = told-one (heading given)

@@ -8,9 +8,10 @@ use lib.ListN.{take}
 use Rattle.ascii.specs.Text.{text, hexes}
 use Rattle.ascii.specs.Plain.{textLength}
 use Rattle.forms.specs.Forms.{formed, rowOf}
-use Rattle.verdict.specs.declared.Verdict.{Verdict}
-use Rattle.verdict.specs.Ranks.{finalFrame, good}
-use Rattle.cardline.specs.Words.{todo, verdictWords}
+use Rattle.card.specs.declared.Verdict.{Verdict}
+use Rattle.card.specs.Ranks.{finalFrame, good}
+use Rattle.card.specs.Words.{todo}
+use Rattle.cardline.specs.Words.{verdictWords}
 
 -- an octet of a file's name as it is printed: a control octet, below 32 or 127, is a question mark
 abbrev pub shownOctet : ℕ → ℕ
@@ -83,8 +84,12 @@ csvOctets (o ∷ os) = csvOctet o ++ csvOctets os
 unfoldable pub csvLine : List ℕ → List ℕ
 csvLine line = text "\"" ++ csvOctets line
 
--- a reference frame that does not serve: what it is found to be. One that reads is a final frame
+-- a reference frame that does not serve: which it is
+unfoldable pub referenceName : List ℕ → List ℕ
+referenceName name = text "sorter: the reference " ++ shown name ++ text ": "
+
+-- and what it is found to be. One that reads is a final frame
 unfoldable pub referenceLine : List ℕ → Verdict → List ℕ
 referenceLine name v =
-    text "sorter: the reference " ++ shown name ++ text ": "
-    ++ verdictWords (cond (eqb (v .rank) good) finalFrame (v .rank)) (v .octets) ++ text "; a training frame that reads is wanted\n"
+    referenceName name ++ verdictWords (cond (eqb (v .rank) good) finalFrame (v .rank)) (v .octets)
+    ++ text "; a training frame that reads is wanted\n"

@@ -2,18 +2,9 @@
 use mathlib.Core.Bool.{Bool}
 use mathlib.Core.List.{List}
 use Prim.Native.Nat.{ℕ}
-use Rattle.ascii.specs.Promises.{Put, Told}
-use Rattle.verdict.specs.declared.Verdict.{Verdict}
-use Rattle.cardline.specs.Words.{nameOf, todo}
+use Rattle.ascii.specs.Promises.{Told}
+use Rattle.card.specs.declared.Verdict.{Verdict}
 use Rattle.cardline.specs.Line.{cardLine, heading, csvLine, referenceLine}
-
--- put_name
-abbrev pub NamePut : List ℕ → ℕ → ℕ → ℕ → List ℕ → Type 0
-NamePut room at rank r exit = Put room at (nameOf rank) r exit
-
--- put_todo
-abbrev pub TodoPut : List ℕ → ℕ → ℕ → ℕ → List ℕ → Type 0
-TodoPut room at rank r exit = Put room at (todo rank) r exit
 
 -- header
 abbrev pub Headed : Bool → List ℕ → ℕ → List ℕ → Type 0

@@ -1,87 +1,66 @@
-// Sorting cards: the words for a verdict (specs/Words.antt) and the text of a card's line (specs/Line.antt), by what its frame is found to be
-// (crate verdict).
+// Sorting cards: the text of a card's line (specs/Line.antt), by what its frame is found to be (crate card).
 ghost use mathlib.Core.Path.{_≡_};
 ghost use mathlib.Core.Bool.{cond};
 ghost use lib.Dec.{eqb};
 ghost use Rattle.ascii.specs.Promises.{Put};
-ghost use Rattle.verdict.specs.Ranks.{finalFrame, good};
-ghost use Rattle.cardline.specs.Words.{rowOfRank, refusal, lengthWords, verdictWords};
+ghost use Rattle.card.specs.Ranks.{finalFrame, good};
+ghost use Rattle.forms.specs.Forms.{rowOf};
+ghost use Rattle.cardline.specs.Words.{words, shortWords, lengthWords, verdictWords};
 ghost use Rattle.cardline.specs.Line.{shownOctet, shown, vendorText, vendorCells};
-ghost use Rattle.cardline.specs.Line.{trainingCells, finalCells, cells, likeCell, findings, csvOctet, csvOctets};
-ghost use Rattle.cardline.specs.Promises.{NamePut, TodoPut, Headed, Lined, Separated, Referred};
-use verdict::Verdict;
+ghost use Rattle.cardline.specs.Line.{trainingCells, finalCells, cells, likeCell, findings, csvOctet, csvOctets, referenceName};
+ghost use Rattle.cardline.specs.Promises.{Headed, Lined, Separated, Referred};
+use card::Verdict;
 
-// A frame's octets, as a number that is printed.
+// A frame's octets.
 const FRAME: u32 = layout::FRAME_OCTETS as u32;
-// The row of a refusal in the tables of words.
-const REFUSED_ROW: u32 = 1;
 
-// The row of a verdict in the tables of words.
-fn row(rank: u32) -> u32
-    ensures { λ r. ⌜ r ≡ rowOfRank rank ⌝ }
-{
-    if rank == verdict::CANNOT_BE_READ {
-        return 0;
-    }
-    if verdict::LAST_REFUSAL < rank {
-        return rank - verdict::LAST_REFUSAL + REFUSED_ROW;
-    }
-    REFUSED_ROW
-}
+// The rows of the words: a cell that holds nothing; the cells of a final frame, and of a card that does not read; a file's length; a reference;
+// a tab and a quote in comma-separated form.
+const NOTHING: u32 = 0;
 
-// The number of a refusal and why.
-fn put_refusal(room: &mut [u8], at: usize, n: u32) -> usize
-    ensures { λ r. ⌜ Put (now (room .entry)) at (refusal n) r (now (room .exit)) ⌝ }
+const FINAL_CELLS: u32 = 1;
+
+const NO_CELLS: u32 = 2;
+
+const MORE: u32 = 3;
+
+const ONE: u32 = 4;
+
+const REFERENCE: u32 = 5;
+
+const COLON: u32 = 6;
+
+const CSV_TAB: u32 = 7;
+
+const CSV_QUOTE: u32 = 8;
+
+// A row of the words.
+fn put_words(room: &mut [u8], at: usize, row: u32) -> usize
+    ensures { λ r. ⌜ Put (now (room .entry)) at (rowOf words row) r (now (room .exit)) ⌝ }
 {
-    let next = forms::put_form(room, at, b"#: ", &[n]);
     forms::put_row(
         room,
-        next,
-        b"\n\
-          the file is not as long as a frame\n\
-          unknown end, frame kind or report code\n\
-          coefficient count outside 128 to 180\n\
-          a number outside its range\n\
-          the sync word is neither of the two, so it is no frame\n\
-          a pad bit is not zero, so it is more than a frame\n\
-          the check bits differ, so it is damaged\n\
-          a reserved bit is not zero, which no training frame has\n",
-        n,
+        at,
+        b"-\n\tfinal\t-\t-\t-\t\n\t-\t-\t-\t-\t-\t-\n\
+          refused 1: the file has more than 529 octets\n\
+          refused 1: the file has 1 octet, a frame has 529\n\
+          sorter: the reference \n: \n\",\"\n\"\"\n",
+        row,
     )
 }
 
-// A verdict's name.
-pub fn put_name(room: &mut [u8], at: usize, rank: u32) -> usize
-    ensures { λ r. ⌜ NamePut (now (room .entry)) at rank r (now (room .exit)) ⌝ }
+// A file with fewer octets than a frame has.
+fn put_short(room: &mut [u8], at: usize, n: u32) -> usize
+    ensures { λ r. ⌜ Put (now (room .entry)) at (shortWords n) r (now (room .exit)) ⌝ }
 {
-    let n = row(rank);
-    let next = forms::put_row(
-        room,
-        at,
-        b"cannot be read\nrefused \nfinal frame\nTURNED\nother words\nmatch\ngood\n",
-        n,
-    );
-    if n != REFUSED_ROW {
-        return next;
+    if n == 1 {
+        return put_words(room, at, ONE);
     }
-    put_refusal(room, next, rank)
-}
-
-// What to do with a card.
-pub fn put_todo(room: &mut [u8], at: usize, rank: u32) -> usize
-    ensures { λ r. ⌜ TodoPut (now (room .entry)) at rank r (now (room .exit)) ⌝ }
-{
-    forms::put_row(
+    forms::put_form(
         room,
         at,
-        b"check the file\n\
-          do not ship; capture its frame again\n\
-          capture its training frame; this one has no A and B\n\
-          do not ship; words stand last bit first\n\
-          do not ship as a replacement; A or B differs\n\
-          ship\n\
-          compare with a customer's frame\n",
-        row(rank),
+        b"refused 1: the file has # octets, a frame has 529",
+        &[n],
     )
 }
 
@@ -90,27 +69,9 @@ fn put_length(room: &mut [u8], at: usize, n: u32) -> usize
     ensures { λ r. ⌜ Put (now (room .entry)) at (lengthWords n) r (now (room .exit)) ⌝ }
 {
     if FRAME < n {
-        return forms::put_form(
-            room,
-            at,
-            b"refused 1: the file has more than # octets",
-            &[FRAME],
-        );
+        return put_words(room, at, MORE);
     }
-    if n == 1 {
-        return forms::put_form(
-            room,
-            at,
-            b"refused 1: the file has 1 octet, a frame has #",
-            &[FRAME],
-        );
-    }
-    forms::put_form(
-        room,
-        at,
-        b"refused 1: the file has # octets, a frame has #",
-        &[n, FRAME],
-    )
+    put_short(room, at, n)
 }
 
 // The verdict on a card.
@@ -120,7 +81,7 @@ fn put_verdict(room: &mut [u8], at: usize, rank: u32, octets: u32) -> usize
     if rank == answer::LENGTH {
         return put_length(room, at, octets);
     }
-    put_name(room, at, rank)
+    card::put_name(room, at, rank)
 }
 
 // An octet of a file's name as it is printed.
@@ -155,7 +116,7 @@ fn put_text(room: &mut [u8], at: usize, vendor: &[u8]) -> usize
 {
     let n = ascii::text_length(vendor);
     if n == 0 {
-        return ascii::put_word(room, at, b"-");
+        return put_words(room, at, NOTHING);
     }
     ascii::put_word(room, at, &vendor[..n])
 }
@@ -181,7 +142,7 @@ fn put_training(room: &mut [u8], at: usize, used: u32, a: u32, b: u32, vendor: &
 fn put_final(room: &mut [u8], at: usize, vendor: &[u8]) -> usize
     ensures { λ r. ⌜ Put (now (room .entry)) at (finalCells (now (vendor .entry))) r (now (room .exit)) ⌝ }
 {
-    let next = ascii::put_word(room, at, b"\tfinal\t-\t-\t-\t");
+    let next = put_words(room, at, FINAL_CELLS);
     put_vendor(room, next, vendor)
 }
 
@@ -190,7 +151,7 @@ fn put_cells(room: &mut [u8], at: usize, v: Verdict) -> usize
     ensures { λ r. ⌜ Put (now (room .entry)) at (cells (v .answer) v) r (now (room .exit)) ⌝ }
 {
     if v.answer != answer::DONE {
-        return ascii::put_word(room, at, b"\t-\t-\t-\t-\t-\t-");
+        return put_words(room, at, NO_CELLS);
     }
     let vendor = v.vendor;
     if v.kind == layout::TRAINING {
@@ -213,22 +174,28 @@ fn put_findings(room: &mut [u8], at: usize, rank: u32, octets: u32) -> usize
     let mut next = ascii::put(room, at, b'\t');
     next = put_verdict(room, next, rank, octets);
     next = ascii::put(room, next, b'\t');
-    put_todo(room, next, rank)
+    card::put_todo(room, next, rank)
+}
+
+// The row of the heading: 1 where a customer is given.
+fn heading_row(given: bool) -> u32
+    ensures { λ r. ⌜ r ≡ cond given 1 0 ⌝ }
+{
+    if given { 1 } else { 0 }
 }
 
 // The line above the cards' lines.
 pub fn header(given: bool, room: &mut [u8]) -> usize
     ensures { λ r. ⌜ Headed given (now (room .entry)) r (now (room .exit)) ⌝ }
 {
-    let next = ascii::put_word(
+    let next = forms::put_row(
         room,
         0,
-        b"file\tverdict\twhat to do\tkind\tcoefficients\tA\tB\tvendor\tvendor text",
+        b"file\tverdict\twhat to do\tkind\tcoefficients\tA\tB\tvendor\tvendor text\n\
+          file\tverdict\twhat to do\tkind\tcoefficients\tA\tB\tvendor\tvendor text\tA like\tB like\n",
+        heading_row(given),
     );
-    if given {
-        return ascii::put_word(room, next, b"\tA like\tB like\n");
-    }
-    ascii::put_word(room, next, b"\n")
+    ascii::put(room, next, b'\n')
 }
 
 // The line of the card whose frame stands in the file of this name.
@@ -248,13 +215,13 @@ fn put_csv(room: &mut [u8], at: usize, octet: u8) -> usize
     ensures { λ r. ⌜ Put (now (room .entry)) at (csvOctet octet) r (now (room .exit)) ⌝ }
 {
     if octet == b'\t' {
-        return ascii::put_word(room, at, b"\",\"");
+        return put_words(room, at, CSV_TAB);
     }
     if octet == b'\n' {
         return ascii::put_word(room, at, b"\"\r\n");
     }
     if octet == b'"' {
-        return ascii::put_word(room, at, b"\"\"");
+        return put_words(room, at, CSV_QUOTE);
     }
     ascii::put(room, at, octet)
 }
@@ -284,20 +251,27 @@ pub fn csv(line: &[u8], room: &mut [u8]) -> usize
 fn unfit(rank: u32) -> u32
     ensures { λ r. ⌜ r ≡ cond (eqb rank good) finalFrame rank ⌝ }
 {
-    if rank == verdict::GOOD {
-        verdict::FINAL_FRAME
+    if rank == card::GOOD {
+        card::FINAL_FRAME
     } else {
         rank
     }
+}
+
+// Which reference it is.
+fn put_reference(room: &mut [u8], name: &[u8]) -> usize
+    ensures { λ r. ⌜ Put (now (room .entry)) 0 (referenceName (now (name .entry))) r (now (room .exit)) ⌝ }
+{
+    let mut next = put_words(room, 0, REFERENCE);
+    next = put_shown(room, next, name);
+    put_words(room, next, COLON)
 }
 
 // What a reference frame that does not serve is found to be.
 pub fn reference(name: &[u8], v: Verdict, room: &mut [u8]) -> usize
     ensures { λ r. ⌜ Referred (now (name .entry)) v (now (room .entry)) r (now (room .exit)) ⌝ }
 {
-    let mut next = ascii::put_word(room, 0, b"sorter: the reference ");
-    next = put_shown(room, next, name);
-    next = ascii::put_word(room, next, b": ");
+    let mut next = put_reference(room, name);
     next = put_verdict(room, next, unfit(v.rank), v.octets);
     ascii::put_word(room, next, b"; a training frame that reads is wanted\n")
 }

@@ -8,9 +8,9 @@ use Rattle.remainder.specs.Register.{registerOf}
 use Rattle.layout.specs.Frame.{trainingSync, finalSync}
 use Rattle.ascii.specs.Text.{text, decimalIn, decimal, signed, hex, hexes}
 use Rattle.highest.specs.Highest.{isZero, allZero, highest}
-use Rattle.listing.specs.Listing.{numberLine, coefficientLine, coefficientLines, vendorLine, checkLine, trainingText, finalText, listed, listing}
+use Rattle.listing.specs.Listing.{numberLine, coefficientLine, coefficientLines, vendorLine, checkLine, trainingLines, trainingText, finalText, listed, listing}
 
 pub example : listing (0x9F ∷ 0x35 ∷ replicate 527 0) ≡ text "kind training\ncoefficients 0\nA 0\nB 0\nvendor 00000000000000000000000000000000\ncheck 0000\n"
-unfolding listing listed trainingText finalText numberLine coefficientLine coefficientLines vendorLine checkLine highest allZero isZero decimal
+unfolding listing listed trainingText trainingLines finalText numberLine coefficientLine coefficientLines vendorLine checkLine highest allZero isZero decimal
     decimalIn signed hex hexes trainingSync finalSync registerOf signedOf numbersIn digitsOf valueOf bitsOf octetsOf
 example = refl

@@ -27,7 +27,7 @@ use Rattle.reader.specs.Promises.{vendorOctets}
 use Rattle.ascii.specs.Text.{text, decimal, signed, hex}
 use Rattle.ascii.proofs.Numbers.{decimal-length, hexes-length}
 use Rattle.highest.specs.Highest.{highest}
-use Rattle.listing.specs.Listing.{numberLine, coefficientLine, coefficientLines, vendorLine, checkLine, trainingText, finalText, listed, listing}
+use Rattle.listing.specs.Listing.{numberLine, coefficientLine, coefficientLines, vendorLine, checkLine, trainingLines, trainingText, finalText, listed, listing}
 use Rattle.ascii.proofs.Room.{told-whole}
 use Rattle.listing.specs.Promises.{Listed}
 use Rattle.highest.proofs.Laws.{highest-within}
@@ -81,7 +81,7 @@ take-small (suc n) (c ∷ cs) s (suc i) = take-small n cs (λ j. s (suc j)) i
 
 training-length : (cs : List ℤ) (a b : ℕ) (vendor : List ℕ) (c : ℕ) → length cs ≡ 180 → Small cs → a < 2 ^ 21 → b < 2 ^ 21 → length vendor ≡ 16
     → length (trainingText cs a b vendor c) ≤ 4096
-unfolding trainingText
+unfolding trainingText trainingLines
 training-length cs a b vendor c l s ha hb lv =
     let n = highest cs in
     let h : n ≤ 180 = omega (arith, highest-within cs) in

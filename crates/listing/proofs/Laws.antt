@@ -6,6 +6,7 @@ use Prim.Native.Nat.{ℕ, zero, suc, _+_, _<_}
 use native.Mathlib.Nat.{add-zero}
 use native.Mathlib.Numerals.{add-one}
 use native.Mathlib.Omega.{arith}
+use lib.Dec.{eqb}
 use lib.IntN.{ℤ, pos}
 use lib.ListN.{length, getD, take}
 use lib.Seq.{take-suc, length-take-le}
@@ -21,7 +22,7 @@ use Rattle.reader.proofs.Given.{found, none-applies, coefficients-are, vendor-i
 use Rattle.reader.specs.Promises.{foundOf, vendorOctets, Read}
 use Rattle.ascii.specs.Text.{text, decimal}
 use Rattle.forms.specs.Forms.{firstOf, formedBy, formed}
-use Rattle.listing.specs.Listing.{numberLine, coefficientLine, coefficientLines, trainingText, finalText, listed, listing}
+use Rattle.listing.specs.Listing.{numberLine, coefficientLine, coefficientLines, vendorLine, checkLine, trainingLines, trainingText, finalText, listed, listing}
 
 -- ---- coefficient lines, one more
 
@@ -103,23 +104,20 @@ module _ (f : List ℕ) (cs : List ℤ) (v : List ℕ) (lc : length cs ≡ 180) 
       abbrev final : List ℕ
       final = finalText (vendorOctets B) (polynomial (fieldOf checkField B))
 
-      pub training-text : r .kind ≡ 0 → trainingText cs′ (r .a) (r .b) v′ c ≡ listing f
-      unfolding listed
-      training-text k = go (hasSync trainingSync B) (found-is f cs v lc lv r cs′ v′ d z) (coefficients-are f cs v lc lv r cs′ v′ d z) ∙ listing-is
+      -- the kind's lines, of what was read
+      abbrev kindLines : Found → List ℤ → List ℕ
+      kindLines x l = cond (eqb (x .kind) 0) (trainingLines l (x .a) (x .b)) (text "kind final\n")
+
+      pub read-text : kindLines r cs′ ++ (vendorLine v′ ++ checkLine c) ≡ listing f
+      unfolding listed trainingText finalText
+      read-text = go (hasSync trainingSync B) (found-is f cs v lc lv r cs′ v′ d z) (coefficients-are f cs v lc lv r cs′ v′ d z) ∙ listing-is
         where
-          go : (t : Bool) → r ≡ cond t T F → cs′ ≡ cond t (coefficientsOf B) cs → trainingText cs′ (r .a) (r .b) v′ c ≡ cond t training final
+          go : (t : Bool) → r ≡ cond t T F → cs′ ≡ cond t (coefficientsOf B) cs → kindLines r cs′ ++ (vendorLine v′ ++ checkLine c) ≡ cond t training final
           go true p q =
-              ap (λ (x : List ℤ). trainingText x (r .a) (r .b) v′ c) q
-              ∙ ap (λ (x : Found). trainingText (coefficientsOf B) (x .a) (x .b) v′ c) p
+              ap₂ (λ (x : Found) (l : List ℤ). kindLines x l ++ (vendorLine v′ ++ checkLine c)) p q
+              ∙ sym (append-assoc (trainingLines (coefficientsOf B) (T .a) (T .b)) (vendorLine v′) (checkLine c))
               ∙ ap₂ (trainingText (coefficientsOf B) (T .a) (T .b)) (vendor-is f cs v lc lv r cs′ v′ d z) e
           go false p q =
-              let kind-is : _≡_ {A = ℕ} 0 1 = sym k ∙ ap (λ (x : Found). x .kind) p in
-              absurd (omega arith)
-
-      pub final-text : (r .kind ≡ 0 → ⊥) → finalText v′ c ≡ listing f
-      unfolding listed
-      final-text k = go (hasSync trainingSync B) (found-is f cs v lc lv r cs′ v′ d z) ∙ listing-is
-        where
-          go : (t : Bool) → r ≡ cond t T F → finalText v′ c ≡ cond t training final
-          go true p = absurd (k (ap (λ (x : Found). x .kind) p))
-          go false p = ap₂ finalText (vendor-is f cs v lc lv r cs′ v′ d z) e
+              ap (λ (x : Found). kindLines x cs′ ++ (vendorLine v′ ++ checkLine c)) p
+              ∙ sym (append-assoc (text "kind final\n") (vendorLine v′) (checkLine c))
+              ∙ ap₂ finalText (vendor-is f cs v lc lv r cs′ v′ d z) e

@@ -1,42 +1,91 @@
 -- Laws of what the lister says in words. Assumes nothing.
 use mathlib.Core.Path.{_≡_, refl, sym, ap, _∙_}
 use mathlib.Core.Bool.{Bool, true, false, cond}
-use mathlib.Core.List.{List, _++_}
-use Prim.Native.Nat.{ℕ, zero, suc}
+use mathlib.Core.List.{List, [], _∷_, _++_}
+use Prim.Native.Nat.{ℕ, zero, suc, _≤_}
 use native.Mathlib.Omega.{arith}
-use borrow.Author.Tests.{ne-eqb, lt-ltb}
-use lib.Dec.{ltb}
+use borrow.Author.Tests.{ne-eqb, lt-ltb, le-ltb, ltb-false}
+use lib.Dec.{eqb, ltb}
 use lib.IntN.{ℤ}
 use lib.ListN.{length, take}
 use Rattle.answer.specs.Answer.{answer}
 use Rattle.octets.specs.Bits.{bitsOf}
+use Rattle.layout.specs.Places.{frameLength}
 use Rattle.layout.specs.Frame.{trainingSync}
 use Rattle.layout.specs.Refusals.{hasSync, checkRefusals}
 use Rattle.reader.specs.declared.Found.{Found}
 use Rattle.reader.specs.Promises.{foundOf, Read}
 use Rattle.reader.proofs.Given.{found, none-applies, vendor-is}
-use Rattle.ascii.specs.Text.{text}
+use Rattle.ascii.specs.Text.{text, decimal}
 use Rattle.ascii.specs.Plain.{textLength}
-use Rattle.forms.specs.Forms.{rowOf, rowBy}
+use Rattle.forms.specs.Forms.{firstOf, formedBy, formed, rowOf, rowBy}
 use Rattle.forms.proofs.Laws.{each}
-use Rattle.listing.specs.Words.{reasonWords, refusalWords, vendorWords, worded, wordsOf}
+use Rattle.listing.specs.Words.{lengthWords, reasonWords, refusalWords, vendorWords, worded, wordsOf}
 
 -- ---- reasons by their rows
 
 abbrev pub reasons : List ℕ
 reasons =
-    text "\n\n\n\n\n"
+    text "\n"
+    ++ text "the file has more than 529 octets, a frame has 529: a file holds one frame; capture it again\n"
+    ++ text "the file has 1 octet, a frame has 529: it is cut short; capture it again\n"
+    ++ text "\n\n"
     ++ text "the sync word is neither of the two: this is no descrambled frame, or its octets hold the first bit highest; capture it again\n"
     ++ text "a pad bit is not zero: the last octet holds more than the end of a frame; capture it again\n"
     ++ text "the check bits differ: the frame is damaged; capture it again\n"
     ++ text "a reserved bit is not zero: the card sets bits that a training frame leaves zero; do not ship it, ask its maker\n"
 
-pub reason-told : (n : ℕ) → rowOf reasons (cond (ltb 8 n) 0 n) ≡ reasonWords n
+abbrev lengthRow : ℕ → ℕ
+lengthRow octets = cond (ltb frameLength octets) 1 (cond (eqb octets 1) 2 3)
+
+abbrev reasonRow : ℕ → ℕ
+reasonRow n = cond (ltb n 5) 0 (cond (ltb 8 n) 0 n)
+
+abbrev pub whyRow : ℕ → ℕ → ℕ
+whyRow n octets = cond (eqb n 1) (lengthRow octets) (reasonRow n)
+
+reason-told : (n : ℕ) → rowOf reasons (reasonRow n) ≡ reasonWords n
 unfolding rowOf rowBy reasonWords
 reason-told =
-    each (λ (n : ℕ). rowOf reasons (cond (ltb 8 n) 0 n) ≡ reasonWords n) 9
+    each (λ (n : ℕ). rowOf reasons (reasonRow n) ≡ reasonWords n) 9
     (refl, (refl, (refl, (refl, (refl, (refl, (refl, (refl, (refl, tt)))))))))
-    (λ n h. simp (lt-ltb 8 n h, ne-eqb n 5 (λ e. omega arith), ne-eqb n 6 (λ e. omega arith), ne-eqb n 7 (λ e. omega arith), ne-eqb n 8 (λ e. omega arith)))
+    (λ n h. simp (le-ltb n 5 (omega arith), lt-ltb 8 n h, ne-eqb n 5 (λ e. omega arith), ne-eqb n 6 (λ e. omega arith), ne-eqb n 7 (λ e. omega arith), ne-eqb n 8 (λ e. omega arith)))
+
+-- a file with fewer octets than a frame, but not one
+fewer-means : (n octets : ℕ) → whyRow n octets ≡ 3 → (eqb n 1 ≡ true) × (ltb frameLength octets ≡ false) × (eqb octets 1 ≡ false)
+fewer-means n octets = pick (eqb n 1) (ltb frameLength octets) (eqb octets 1) (ltb n 5) refl (ltb 8 n)
+  where
+    pick : (a b d p : Bool) → ltb n 5 ≡ p → (q : Bool) → cond a (cond b 1 (cond d 2 3)) (cond p 0 (cond q 0 n)) ≡ 3
+        → (a ≡ true) × (b ≡ false) × (d ≡ false)
+    pick true true d p f q e = absurd (omega arith)
+    pick true false true p f q e = absurd (omega arith)
+    pick true false false p f q e = (refl, refl, refl)
+    pick false b d true f q e = absurd (omega arith)
+    pick false b d false f true e = absurd (omega arith)
+    pick false b d false f false e = absurd (omega (arith, ltb-false n 5 f))
+
+pub fewer-small : (n octets : ℕ) → whyRow n octets ≡ 3 → octets ≤ frameLength
+fewer-small n octets e = ltb-false frameLength octets (fewer-means n octets e .1)
+
+pub fewer-told : (n octets : ℕ) → whyRow n octets ≡ 3
+    → formed (text "the file has # octets, a frame has 529: it is cut short; capture it again") (octets ∷ [])
+    ≡ cond (eqb n 1) (lengthWords octets) (reasonWords n)
+unfolding lengthWords formed formedBy firstOf
+fewer-told n octets e = let m = fewer-means n octets e in simp (m .0, m .1, m .2)
+
+pub row-told : (n octets : ℕ) → (whyRow n octets ≡ 3 → ⊥) → rowOf reasons (whyRow n octets) ≡ cond (eqb n 1) (lengthWords octets) (reasonWords n)
+unfolding lengthWords rowOf rowBy
+row-told n octets = pick (eqb n 1) (ltb frameLength octets) (eqb octets 1)
+  where
+    pick : (a b d : Bool) → (cond a (cond b 1 (cond d 2 3)) (reasonRow n) ≡ 3 → ⊥)
+        → rowOf reasons (cond a (cond b 1 (cond d 2 3)) (reasonRow n))
+        ≡ cond a (cond b (text "the file has more than 529 octets, a frame has 529: a file holds one frame; capture it again")
+        (cond d (text "the file has 1 octet, a frame has 529: it is cut short; capture it again")
+        (text "the file has " ++ decimal octets ++ text " octets, a frame has 529: it is cut short; capture it again"))) (reasonWords n)
+    pick true true d h = refl
+    pick true false true h = refl
+    pick true false false h = absurd (h refl)
+    pick false b d h = reason-told n
 
 -- ---- vendor data
 

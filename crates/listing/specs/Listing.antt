@@ -36,11 +36,14 @@ vendorLine vendor = text "vendor " ++ hexes vendor ++ text "\n"
 unfoldable pub checkLine : ℕ → List ℕ
 checkLine c = text "check " ++ hex (c / 256) ++ hex (c % 256) ++ text "\n"
 
--- a training frame: its kind, the number of the highest non-zero coefficient, a line for each up to it, A, B, vendor data, check bits
+-- a training frame before vendor data: its kind, the number of the highest non-zero coefficient, a line for each up to it, A, B
+unfoldable pub trainingLines : List ℤ → ℕ → ℕ → List ℕ
+trainingLines cs a b =
+    text "kind training\n" ++ numberLine "coefficients " (highest cs) ++ coefficientLines 1 (take (highest cs) cs) ++ numberLine "A " a ++ numberLine "B " b
+
+-- a training frame: those lines, vendor data, check bits
 unfoldable pub trainingText : List ℤ → ℕ → ℕ → List ℕ → ℕ → List ℕ
-trainingText cs a b vendor c =
-    text "kind training\n" ++ numberLine "coefficients " (highest cs) ++ coefficientLines 1 (take (highest cs) cs)
-    ++ numberLine "A " a ++ numberLine "B " b ++ vendorLine vendor ++ checkLine c
+trainingText cs a b vendor c = trainingLines cs a b ++ vendorLine vendor ++ checkLine c
 
 -- a final frame: its kind, then its vendor and check lines
 unfoldable pub finalText : List ℕ → ℕ → List ℕ

@@ -7,11 +7,11 @@ ghost use lib.Dec.{eqb, ltb};
 ghost use lib.ListN.{length, take};
 ghost use Rattle.octets.specs.Bits.{bitsOf};
 ghost use Rattle.remainder.specs.Division.{polynomial};
-ghost use Rattle.layout.specs.Places.{checkField};
+ghost use Rattle.layout.specs.Places.{frameLength, checkField};
 ghost use Rattle.layout.specs.Frame.{fieldOf};
-ghost use Rattle.ascii.specs.Text.{hexes};
+ghost use Rattle.ascii.specs.Text.{text, hexes};
 ghost use Rattle.ascii.specs.Promises.{Put};
-ghost use Rattle.listing.specs.Listing.{numberLine, coefficientLine, coefficientLines, vendorLine, checkLine, trainingText, finalText};
+ghost use Rattle.listing.specs.Listing.{numberLine, coefficientLine, coefficientLines, vendorLine, checkLine, trainingLines};
 ghost use Rattle.listing.specs.Promises.{Listed};
 ghost use Rattle.listing.specs.Words.{lengthWords, reasonWords, refusalWords, vendorWords, Worded};
 
@@ -62,25 +62,27 @@ fn put_tail(room: &mut [u8], at: usize, vendor: &[u8], check: u32) -> usize
     )
 }
 
-// A training frame's text.
-fn put_training(room: &mut [u8], cs: &[i32], a: u32, b: u32, vendor: &[u8], check: u32) -> usize
-    requires { ⌜ (length (now cs) ≡ 180) × (check < 65536) ⌝ }
-    ensures { λ r. ⌜ Put (now (room .entry)) 0 (trainingText (now (cs .entry)) a b (now (vendor .entry)) check) r (now (room .exit)) ⌝ }
+// The lines of a training frame before vendor data.
+fn put_training(room: &mut [u8], cs: &[i32], a: u32, b: u32) -> usize
+    requires { ⌜ length (now cs) ≡ 180 ⌝ }
+    ensures { λ r. ⌜ Put (now (room .entry)) 0 (trainingLines (now (cs .entry)) a b) r (now (room .exit)) ⌝ }
 {
     let n = highest::highest(cs) as u32;
     let mut at = forms::put_form(room, 0, b"kind training\ncoefficients #\n", &[n]);
     at = put_coefficient_lines(room, at, cs, n);
-    at = forms::put_form(room, at, b"A #\nB #\n", &[a, b]);
-    put_tail(room, at, vendor, check)
+    forms::put_form(room, at, b"A #\nB #\n", &[a, b])
 }
 
-// A final frame's text.
-fn put_final(room: &mut [u8], vendor: &[u8], check: u32) -> usize
-    requires { ⌜ check < 65536 ⌝ }
-    ensures { λ r. ⌜ Put (now (room .entry)) 0 (finalText (now (vendor .entry)) check) r (now (room .exit)) ⌝ }
+// The lines of a frame of this kind before vendor data.
+fn put_kind(room: &mut [u8], kind: u32, cs: &[i32], a: u32, b: u32) -> usize
+    requires { ⌜ length (now cs) ≡ 180 ⌝ }
+    ensures { λ r. ⌜ Put (now (room .entry)) 0 (cond (eqb kind 0) (trainingLines (now (cs .entry)) a b) (text "kind final\n")) r (now (room .exit)) ⌝ }
 {
-    let at = ascii::put_word(room, 0, b"kind final\n");
-    put_tail(room, at, vendor, check)
+    if kind == layout::TRAINING {
+        put_training(room, cs, a, b)
+    } else {
+        ascii::put_word(room, 0, b"kind final\n")
+    }
 }
 
 // What is refused.
@@ -109,72 +111,74 @@ pub fn list(frame: &[u8], room: &mut [u8]) -> usize
     if found.answer != answer::DONE {
         return put_refused(room, found.answer);
     }
-    let check = check_of(frame);
-    if found.kind == layout::TRAINING {
-        put_training(room, &cs, found.a, found.b, &vendor, check)
-    } else {
-        put_final(room, &vendor, check)
-    }
+    let at = put_kind(room, found.kind, &cs, found.a, found.b);
+    put_tail(room, at, &vendor, check_of(frame))
 }
 
-// Why a file of so many octets is no frame.
-fn put_length(room: &mut [u8], at: usize, octets: usize) -> usize
-    ensures { λ r. ⌜ Put (now (room .entry)) at (lengthWords octets) r (now (room .exit)) ⌝ }
+// The rows of the words for a file's length: it has more octets than a frame; one; fewer, which is told by a form.
+const MORE: u32 = 1;
+
+const ONE: u32 = 2;
+
+const FEWER: u32 = 3;
+
+// The row of a file of so many octets.
+fn length_row(octets: usize) -> u32
+    ensures { λ r. ⌜ r ≡ cond (ltb frameLength octets) 1 (cond (eqb octets 1) 2 3) ⌝ }
 {
     if layout::FRAME_OCTETS < octets {
-        return ascii::put_word(
-            room,
-            at,
-            b"the file has more than 529 octets, a frame has 529: a file holds one frame; capture it again",
-        );
+        return MORE;
     }
-    if octets == 1 {
-        return ascii::put_word(
-            room,
-            at,
-            b"the file has 1 octet, a frame has 529: it is cut short; capture it again",
-        );
-    }
-    forms::put_form(
-        room,
-        at,
-        b"the file has # octets, a frame has 529: it is cut short; capture it again",
-        &[octets as u32],
-    )
+    if octets == 1 { ONE } else { FEWER }
 }
 
-// The row of a refusal's words: its number, 0 where it is none.
+// The row of a refusal: its number, 0 where it has no words.
 fn reason_row(n: u32) -> u32
-    ensures { λ r. ⌜ r ≡ cond (ltb 8 n) 0 n ⌝ }
+    ensures { λ r. ⌜ r ≡ cond (ltb n 5) 0 (cond (ltb 8 n) 0 n) ⌝ }
 {
+    if n < answer::SYNC {
+        return 0;
+    }
     if answer::RESERVED < n { 0 } else { n }
 }
 
-// Why a frame is refused.
-fn put_reason(room: &mut [u8], at: usize, n: u32) -> usize
-    ensures { λ r. ⌜ Put (now (room .entry)) at (reasonWords n) r (now (room .exit)) ⌝ }
+// The row of a refusal with n of so many octets.
+fn why_row(n: u32, octets: usize) -> u32
+    ensures { λ r. ⌜ r ≡ cond (eqb n 1) (cond (ltb frameLength octets) 1 (cond (eqb octets 1) 2 3)) (cond (ltb n 5) 0 (cond (ltb 8 n) 0 n)) ⌝ }
 {
+    if n == answer::LENGTH {
+        length_row(octets)
+    } else {
+        reason_row(n)
+    }
+}
+
+// Why a frame is refused, or a file is none.
+fn put_why(room: &mut [u8], at: usize, n: u32, octets: usize) -> usize
+    ensures { λ r. ⌜ Put (now (room .entry)) at (cond (eqb n 1) (lengthWords octets) (reasonWords n)) r (now (room .exit)) ⌝ }
+{
+    let row = why_row(n, octets);
+    if row == FEWER {
+        return forms::put_form(
+            room,
+            at,
+            b"the file has # octets, a frame has 529: it is cut short; capture it again",
+            &[octets as u32],
+        );
+    }
     forms::put_row(
         room,
         at,
-        b"\n\n\n\n\n\
+        b"\n\
+          the file has more than 529 octets, a frame has 529: a file holds one frame; capture it again\n\
+          the file has 1 octet, a frame has 529: it is cut short; capture it again\n\
+          \n\n\
           the sync word is neither of the two: this is no descrambled frame, or its octets hold the first bit highest; capture it again\n\
           a pad bit is not zero: the last octet holds more than the end of a frame; capture it again\n\
           the check bits differ: the frame is damaged; capture it again\n\
           a reserved bit is not zero: the card sets bits that a training frame leaves zero; do not ship it, ask its maker\n",
-        reason_row(n),
+        row,
     )
-}
-
-// The same, or why the file is none.
-fn put_either(room: &mut [u8], at: usize, n: u32, octets: usize) -> usize
-    ensures { λ r. ⌜ Put (now (room .entry)) at (cond (eqb n 1) (lengthWords octets) (reasonWords n)) r (now (room .exit)) ⌝ }
-{
-    if n == answer::LENGTH {
-        put_length(room, at, octets)
-    } else {
-        put_reason(room, at, n)
-    }
 }
 
 // The line of a refusal.
@@ -182,7 +186,7 @@ fn put_refusal(room: &mut [u8], n: u32, octets: usize) -> usize
     ensures { λ r. ⌜ Put (now (room .entry)) 0 (refusalWords n octets) r (now (room .exit)) ⌝ }
 {
     let mut at = ascii::put_word(room, 0, b"lister: ");
-    at = put_either(room, at, n, octets);
+    at = put_why(room, at, n, octets);
     ascii::put(room, at, b'\n')
 }
 

@@ -1,5 +1,5 @@
 // The sorter: `sorter [--like FILE] [--csv] [--status] [--] FILE...`. A line for each card's frame, then the totals. What a frame is found to be
-// is crate verdict's, the texts are those of cardline and totals; here files are only read and texts written.
+// is crate verdict's, the texts are those of cardline and totals; here files are only read and texts written. proofs/ has that they fit.
 use libc::STDERR_FILENO;
 use libc::STDOUT_FILENO;
 ghost use Prim.Native.Nat.{_≤_, _<_};
@@ -33,6 +33,8 @@ const NO_FILE: u32 = 4;
 const TWICE: u32 = 5;
 
 const TOO_MANY: u32 = 6;
+
+const NO_CARDS: u32 = 7;
 
 // What the arguments ask for.
 struct Asked {
@@ -164,6 +166,35 @@ fn arguments(count: usize, files: &mut [usize]) -> Asked
     asked
 }
 
+// Room for every text: the totals (totals' theorem totals-fit), a line whose name has at most 4,096 octets (theorem line-fits), and the same
+// comma-separated (cardline's theorem csv-fits). Its callers know its length alone, and never count it out; so with the others below.
+fn room() -> [u8; 16384]
+    ensures { λ r. ⌜ 16384 ≡ length r ⌝ }
+{
+    [0; 16384]
+}
+
+// A place for each card's name.
+fn no_places() -> [usize; MOST]
+    ensures { λ r. ⌜ 65536 ≡ length r ⌝ }
+{
+    [0; MOST]
+}
+
+// A verdict for each card.
+fn no_ranks() -> [u32; MOST]
+    ensures { λ r. ⌜ 65536 ≡ length r ⌝ }
+{
+    [0; MOST]
+}
+
+// Room for what is read of a file.
+fn no_octets() -> [u8; READ]
+    ensures { λ r. ⌜ 530 ≡ length r ⌝ }
+{
+    [0; READ]
+}
+
 // Writes text to standard output, or says that it cannot.
 fn say(text: &[u8]) -> bool {
     if io::write_all(STDOUT_FILENO, text) {
@@ -173,27 +204,26 @@ fn say(text: &[u8]) -> bool {
     false
 }
 
-// Writes a line of cells to standard output, in comma-separated form where that is asked for: 16,384 octets are room for a line of up to
-// 5,000 (cardline's theorem csv-fits).
+// Writes a line of cells to standard output, in comma-separated form where that is asked for.
 fn say_cells(line: &[u8], csv: bool) -> bool {
     if !csv {
         return say(line);
     }
-    let mut room = [0u8; 16384];
+    let mut room = room();
     let n = cardline::csv(line, &mut room);
     say(&room[..n])
 }
 
 // Writes the line above the cards' lines.
 fn head(given: bool, csv: bool) -> bool {
-    let mut room = [0u8; 128];
+    let mut room = room();
     let n = cardline::header(given, &mut room);
     say_cells(&room[..n], csv)
 }
 
-// Writes a card's line: a name of at most 4,096 octets leaves room for the rest (cardline's theorem line-fits).
-fn tell(name: &[u8], v: verdict::Verdict, csv: bool) -> bool {
-    let mut room = [0u8; 8192];
+// Writes a card's line.
+fn tell(name: &[u8], v: card::Verdict, csv: bool) -> bool {
+    let mut room = room();
     let n = cardline::line(name, v, &mut room);
     say_cells(&room[..n], csv)
 }
@@ -219,15 +249,24 @@ fn fill(fd: i32, octets: &mut [u8]) -> usize
     n
 }
 
-// What the card whose frame stands in the file of this name is found to be.
-fn look(name: &[u8], customer: verdict::Customer) -> verdict::Verdict {
+// Reads up to 530 octets of the file of this name, and answers how many came; 531 where it cannot be opened or read.
+fn read_file(name: &[u8], octets: &mut [u8]) -> usize
+    requires { ⌜ length (now octets) ≡ 530 ⌝ }
+    ensures { λ r. ⌜ r ≤ 531 ⌝ }
+{
     let fd = os::open_read(name);
     if fd < 0 {
-        return verdict::unread(customer);
+        return FAILED;
     }
-    let mut octets = [0u8; READ];
-    let n = fill(fd, &mut octets);
+    let n = fill(fd, octets);
     libc::close(fd);
+    n
+}
+
+// What the card whose frame stands in the file of this name is found to be.
+fn look(name: &[u8], customer: verdict::Customer) -> card::Verdict {
+    let mut octets = no_octets();
+    let n = read_file(name, &mut octets);
     if READ < n {
         return verdict::unread(customer);
     }
@@ -271,7 +310,7 @@ struct Line {
 }
 
 // Writes the line of a card that is found to be this.
-fn done(name: &[u8], v: verdict::Verdict, shown: bool, csv: bool) -> Line {
+fn done(name: &[u8], v: card::Verdict, shown: bool, csv: bool) -> Line {
     clear(shown);
     Line {
         rank: v.rank,
@@ -319,9 +358,9 @@ fn look_at(files: &[usize], csv: bool, customer: verdict::Customer, ranks: &mut 
     true
 }
 
-// Writes the totals: 16,384 octets are room for them (totals' theorem totals-fit). With comma-separated cards they go to standard error.
+// Writes the totals. With comma-separated cards they go to standard error.
 fn total(given: bool, csv: bool, ranks: &[u32]) -> bool {
-    let mut room = [0u8; 16384];
+    let mut room = room();
     let n = totals::totals(given, ranks, &mut room);
     if !csv {
         return say(&room[..n]);
@@ -334,7 +373,7 @@ fn total(given: bool, csv: bool, ranks: &[u32]) -> bool {
 fn sort(files: &[usize], csv: bool, customer: verdict::Customer) -> u32
     requires { ⌜ length (now files) ≤ 65536 ⌝ }
 {
-    let mut room = [0u32; MOST];
+    let mut room = no_ranks();
     let ranks = &mut room[..files.len()];
     if !head(customer.given, csv) {
         return WRONG;
@@ -348,9 +387,9 @@ fn sort(files: &[usize], csv: bool, customer: verdict::Customer) -> u32
     totals::status(customer.given, ranks)
 }
 
-// Says what a reference that does not serve is found to be (cardline's theorem reference-fits).
-fn refer(name: &[u8], v: verdict::Verdict) -> u32 {
-    let mut room = [0u8; 8192];
+// Says what a reference that does not serve is found to be.
+fn refer(name: &[u8], v: card::Verdict) -> u32 {
+    let mut room = room();
     let n = cardline::reference(name, v, &mut room);
     io::write_all(STDERR_FILENO, &room[..n]);
     WRONG
@@ -370,11 +409,8 @@ fn sort_like(i: usize, files: &[usize], csv: bool) -> u32
     sort(files, csv, customer)
 }
 
-// Says what is wrong with which word, and how the sorter is called.
-fn refuse(word: &[u8], why: &[u8]) -> u32 {
-    io::write_all(STDERR_FILENO, b"sorter: ");
-    io::write_all(STDERR_FILENO, word);
-    io::write_all(STDERR_FILENO, why);
+// Says how the sorter is called.
+fn usage() -> u32 {
     io::write_all(
         STDERR_FILENO,
         b"\nusage: sorter [--like FILE] [--csv] [--status] [--] FILE...\n",
@@ -382,14 +418,24 @@ fn refuse(word: &[u8], why: &[u8]) -> u32 {
     WRONG
 }
 
+// Says why it is called wrongly.
+fn refuse(why: &[u8]) -> u32 {
+    io::write_all(STDERR_FILENO, b"sorter: ");
+    io::write_all(STDERR_FILENO, why);
+    usage()
+}
+
 // Says that argument i is no option of the sorter.
 fn refuse_option(i: usize) -> u32 {
     let mut word = io::buffer();
     let n = os::arg(i, &mut word);
-    refuse(
-        &word[..n],
+    io::write_all(STDERR_FILENO, b"sorter: ");
+    io::write_all(STDERR_FILENO, &word[..n]);
+    io::write_all(
+        STDERR_FILENO,
         b": no such option; a file of that name is given as ./NAME",
-    )
+    );
+    usage()
 }
 
 // The status of what is written to standard output alone.
@@ -423,27 +469,37 @@ fn version() -> u32 {
     printed(b"\n")
 }
 
-// Does what is asked with the cards at these places, and answers the status.
-fn run(what: u32, at: usize, like: usize, csv: bool, files: &[usize]) -> u32
-    requires { ⌜ length (now files) ≤ 65536 ⌝ }
-{
+// Says what is wrong with the arguments.
+fn refuse_use(what: u32) -> u32 {
+    match what {
+        NO_FILE => refuse(b"--like: the reference's FILE is missing"),
+        TWICE => refuse(b"--like stands twice"),
+        TOO_MANY => refuse(b"more than 65536 cards"),
+        _ => refuse(b"no cards"),
+    }
+}
+
+// Does what is asked other than to sort.
+fn tell_use(what: u32, at: usize) -> u32 {
     match what {
         HELP => help(),
         VERSION => version(),
         UNKNOWN => refuse_option(at),
-        NO_FILE => refuse(b"--like", b": the reference's FILE is missing"),
-        TWICE => refuse(b"--like", b" stands twice"),
-        TOO_MANY => refuse(b"more than 65536", b" cards"),
-        _ => {
-            if files.len() == 0 {
-                return refuse(b"no", b" cards");
-            }
-            if like == 0 {
-                return sort(files, csv, verdict::nobody());
-            }
-            sort_like(like, files, csv)
-        },
+        _ => refuse_use(what),
     }
+}
+
+// Does what is asked with the cards at these places, and answers the status.
+fn run(what: u32, at: usize, like: usize, csv: bool, files: &[usize]) -> u32
+    requires { ⌜ length (now files) ≤ 65536 ⌝ }
+{
+    if what != SORT {
+        return tell_use(what, at);
+    }
+    if like == 0 {
+        return sort(files, csv, verdict::nobody());
+    }
+    sort_like(like, files, csv)
 }
 
 // A status as its digit.
@@ -460,12 +516,15 @@ fn asked_for(asked: Asked) -> u32 {
     if asked.what != SORT {
         return asked.what;
     }
-    if asked.waits { NO_FILE } else { SORT }
+    if asked.waits {
+        return NO_FILE;
+    }
+    if asked.cards == 0 { NO_CARDS } else { SORT }
 }
 
 // Does as the arguments say.
 fn main() {
-    let mut places = [0usize; MOST];
+    let mut places = no_places();
     let asked = arguments(os::arg_count(), &mut places);
     let cards = asked.cards;
     let status = run(

@@ -1,7 +1,7 @@
 -- Laws of the totals. Assumes nothing.
-use mathlib.Core.Path.{_≡_, refl, sym, ap, ap₂, _∙_}
+use mathlib.Core.Path.{_≡_, refl, sym, ap, _∙_}
 use mathlib.Core.Bool.{Bool, true, false, cond}
-use mathlib.Core.List.{List, [], _∷_, _++_}
+use mathlib.Core.List.{List, [], _∷_, _++_, append-assoc}
 use Prim.Native.Nat.{ℕ, zero, suc, _+_, _-_, _≤_, _<_}
 use native.Mathlib.Numerals.{add-one}
 use native.Mathlib.Omega.{arith}
@@ -9,11 +9,11 @@ use borrow.Author.Tests.{eq-eqb, ne-eqb, eqb-true, eqb-false, lt-ltb, le-ltb}
 use lib.Dec.{eqb}
 use lib.ListN.{length, getD, take}
 use Rattle.ascii.proofs.Numbers.{word-next}
-use Rattle.ascii.specs.Text.{text}
-use Rattle.forms.specs.Forms.{formed}
-use Rattle.verdict.specs.Ranks.{cannotBeRead, lastRefusal}
-use Rattle.cardline.specs.Words.{refusedRow, nameOf, todo}
-use Rattle.totals.specs.Totals.{howMany, written, cardsText, fineText, joint, verdictLine, verdictLines}
+use Rattle.ascii.specs.Text.{text, decimalIn, decimal}
+use Rattle.forms.specs.Forms.{firstOf, formedBy, formed, rowBy, rowOf}
+use Rattle.card.specs.Ranks.{cannotBeRead, lastRefusal}
+use Rattle.card.specs.Words.{rowOfRank, refusedRow, nameOf, todo}
+use Rattle.totals.specs.Totals.{howMany, written, words, cardsText, fineText, joint, verdictLine, verdictLines, notText, lastLine}
 
 -- ---- how many are x
 
@@ -47,18 +47,27 @@ many-within x (y ∷ ys) = omega (arith, many-within x ys, one-small (eqb y x))
 
 -- ---- numbers as they are written
 
-pub cards-form : (n w : ℕ) → (n ≡ 1 → ⊥) → w ≡ written n → formed (text "# cards: ") (w ∷ []) ≡ cardsText n
-unfolding cardsText
-cards-form n w h e = ap (λ (x : ℕ). formed (text "# cards: ") (x ∷ [])) e ∙ (simp (ne-eqb n 1 h))
+one-card : decimal (written 1) ++ text " card: " ≡ text "1 card: "
+unfolding decimal decimalIn
+one-card = refl
 
-module _ (given : Bool) (n rest w v : ℕ) (ew : w ≡ written n) (ev : v ≡ written rest) where
-  pub match-form : given ≡ true → formed (text "# match, # do not\n") (w ∷ v ∷ []) ≡ fineText given n rest
-  unfolding fineText
-  match-form g = ap₂ (λ (x y : ℕ). formed (text "# match, # do not\n") (x ∷ y ∷ [])) ew ev ∙ ap (λ (t : Bool). fineText t n rest) (sym g)
+pub cards-told : (n : ℕ) → decimal (written n) ++ rowOf words (cond (eqb n 1) 0 1) ≡ cardsText n
+unfolding cardsText rowOf rowBy formed formedBy firstOf
+cards-told n = pick (eqb n 1) refl
+  where
+    pick : (b : Bool) → eqb n 1 ≡ b
+        → decimal (written n) ++ rowOf words (cond b 0 1) ≡ cond b (text "1 card: ") (formed (text "# cards: ") (written n ∷ []))
+    pick true e = ap (λ (m : ℕ). decimal (written m) ++ text " card: ") (eqb-true n 1 e) ∙ one-card
+    pick false e = refl
 
-  pub good-form : given ≡ false → formed (text "# good, # bad\n") (w ∷ v ∷ []) ≡ fineText given n rest
-  unfolding fineText
-  good-form g = ap₂ (λ (x y : ℕ). formed (text "# good, # bad\n") (x ∷ y ∷ [])) ew ev ∙ ap (λ (t : Bool). fineText t n rest) (sym g)
+regroup : (a b c d e : List ℕ) → ((a ++ b) ++ (c ++ d)) ++ e ≡ a ++ (b ++ (c ++ (d ++ e)))
+regroup a b c d e = simp append-assoc
+
+pub fine-told : (given : Bool) (n rest : ℕ)
+    → ((decimal (written n) ++ rowOf words (cond given 2 3)) ++ (decimal (written rest) ++ rowOf words (cond given 4 5))) ++ text "\n" ≡ fineText given n rest
+unfolding fineText rowOf rowBy formed formedBy firstOf
+fine-told true n rest = regroup (decimal (written n)) (text " match, ") (decimal (written rest)) (text " do not") (text "\n")
+fine-told false n rest = regroup (decimal (written n)) (text " good, ") (decimal (written rest)) (text " bad") (text "\n")
 
 -- ---- lines for verdicts
 
@@ -66,11 +75,16 @@ pub line-none : (n count : ℕ) → count ≡ 0 → [] ≡ verdictLine n count
 unfolding verdictLine
 line-none n count e = simp (eq-eqb count 0 e)
 
-pub some-line : (n count w : ℕ) → (count ≡ 0 → ⊥) → w ≡ written count
-    → formed (text "# ") (w ∷ []) ++ nameOf n ++ joint n ++ todo n ++ text "\n" ≡ verdictLine n count
-unfolding verdictLine
-some-line n count w h e =
-    ap (λ (x : ℕ). formed (text "# ") (x ∷ []) ++ nameOf n ++ joint n ++ todo n ++ text "\n") e ∙ (simp (ne-eqb count 0 h))
+pub some-line : (n count : ℕ) → (count ≡ 0 → ⊥)
+    → decimal (written count) ++ rowOf words 12 ++ nameOf n ++ rowOf words (cond (eqb (rowOfRank n) refusedRow) 7 6) ++ todo n ++ text "\n" ≡ verdictLine n count
+unfolding verdictLine joint rowOf rowBy formed formedBy firstOf
+some-line n count h =
+    ap (λ (j : List ℕ). decimal (written count) ++ text " " ++ nameOf n ++ j ++ todo n ++ text "\n") (pick (eqb (rowOfRank n) refusedRow))
+    ∙ (simp (ne-eqb count 0 h))
+  where
+    pick : (b : Bool) → rowOf words (cond b 7 6) ≡ cond b (text "; ") (text ": ")
+    pick true = refl
+    pick false = refl
 
 pub lines-none : (ranks : List ℕ) → [] ≡ verdictLines 0 ranks
 unfolding verdictLines
@@ -126,15 +140,21 @@ fine-and-not x ranks = omega (arith, many-within x ranks)
 
 -- ---- what stands between a verdict's name and what to do
 
-pub unread-joint : (n : ℕ) → n ≡ cannotBeRead → text ": " ≡ joint n
-unfolding joint
+pub unread-joint : (n : ℕ) → n ≡ cannotBeRead → _≡_ {A = ℕ} 6 (cond (eqb (rowOfRank n) refusedRow) 7 6)
 unread-joint n e = simp (eq-eqb n 0 e)
 
-pub later-joint : (n : ℕ) → lastRefusal < n → text ": " ≡ joint n
-unfolding joint
+pub later-joint : (n : ℕ) → lastRefusal < n → _≡_ {A = ℕ} 6 (cond (eqb (rowOfRank n) refusedRow) 7 6)
 later-joint n h =
     simp (ne-eqb n 0 (λ e. omega arith), lt-ltb lastRefusal n h, ne-eqb (n - lastRefusal + refusedRow) refusedRow (λ e. omega arith))
 
-pub refused-joint : (n : ℕ) → (n ≡ cannotBeRead → ⊥) → n ≤ lastRefusal → text "; " ≡ joint n
-unfolding joint
+pub refused-joint : (n : ℕ) → (n ≡ cannotBeRead → ⊥) → n ≤ lastRefusal → _≡_ {A = ℕ} 7 (cond (eqb (rowOfRank n) refusedRow) 7 6)
 refused-joint n h l = simp (ne-eqb n 0 h, le-ltb lastRefusal n l)
+
+-- ---- the last line
+
+pub last-told : (given all : Bool) → rowOf words (cond given (cond all 8 9) (cond all 10 11)) ++ text "\n" ≡ lastLine given all
+unfolding rowOf rowBy lastLine notText
+last-told true true = refl
+last-told true false = refl
+last-told false true = refl
+last-told false false = refl

@@ -8,9 +8,9 @@ use lib.ListN.{length, length-append}
 use Rattle.ascii.specs.Text.{text}
 use Rattle.ascii.proofs.Numbers.{decimal-length}
 use Rattle.forms.specs.Forms.{firstOf, formedBy, formed}
-use Rattle.verdict.specs.Ranks.{verdicts}
-use Rattle.cardline.specs.Words.{rowOfRank, refusedRow}
-use Rattle.cardline.proofs.Fits.{cond-length, name-length, todo-length}
+use Rattle.card.specs.Ranks.{verdicts}
+use Rattle.card.specs.Words.{rowOfRank, refusedRow}
+use Rattle.card.proofs.Fits.{cond-length, name-length, todo-length}
 use Rattle.totals.specs.Totals.{howMany, fine, written, cardsText, fineText, firstLine, joint, verdictLine, verdictLines, allFine, notText}
 use Rattle.totals.specs.Totals.{lastLine, totalsText}
 

@@ -1,4 +1,3 @@
 pub mod Counting
-pub mod Sums
 pub mod Fits
 pub mod One

@@ -1,4 +1,4 @@
--- The totals of sorted cards, over a list with each card's verdict (verdict: Ranks): how many there are and how many are fine, then a line
+-- The totals of sorted cards, over a list with each card's verdict (card: Ranks): how many there are and how many are fine, then a line
 -- for each verdict that occurs, the worst first, and a last line for a script.
 use mathlib.Core.Bool.{Bool, cond}
 use mathlib.Core.List.{List, [], _∷_, _++_}
@@ -7,8 +7,8 @@ use lib.Dec.{eqb, ltb}
 use lib.ListN.{length}
 use Rattle.ascii.specs.Text.{text}
 use Rattle.forms.specs.Forms.{formed}
-use Rattle.verdict.specs.Ranks.{cannotBeRead, matching, good, verdicts}
-use Rattle.cardline.specs.Words.{rowOfRank, refusedRow, nameOf, todo}
+use Rattle.card.specs.Ranks.{cannotBeRead, matching, good, verdicts}
+use Rattle.card.specs.Words.{rowOfRank, refusedRow, nameOf, todo}
 
 -- how many verdicts of a list are x
 unfoldable pub howMany : ℕ → List ℕ → ℕ
@@ -26,6 +26,10 @@ mostWritten = 4294967295
 -- a count as it is written
 abbrev pub written : ℕ → ℕ
 written n = min n mostWritten
+
+-- the words of the totals, as a table
+abbrev pub words : List ℕ
+words = text " card: \n cards: \n match, \n good, \n do not\n bad\n: \n; \nall match\nnot all match\nall good\nnot all good\n \n"
 
 -- so many cards: "1 card: ", "340 cards: "
 unfoldable pub cardsText : ℕ → List ℕ

@@ -17,7 +17,7 @@ use Rattle.reader.specs.Promises.{foundOf, Read}
 use Rattle.highest.specs.Highest.{highest}
 use Rattle.reader.proofs.Given.{found, found-is, none-applies, coefficients-are, vendor-is}
 use Rattle.verdict.specs.declared.Customer.{Customer}
-use Rattle.verdict.specs.declared.Verdict.{Verdict}
+use Rattle.card.specs.declared.Verdict.{Verdict}
 use Rattle.verdict.specs.Ranks.{trainingRank, finalRank}
 use Rattle.verdict.specs.Verdict.{lastFirst, likeOf, absent, octetsOf, refusedVerdict, trainingBy, trainingVerdict, finalBy, finalVerdict}
 use Rattle.verdict.specs.Verdict.{judged, verdictOf}

@@ -3,7 +3,7 @@ use mathlib.Core.Path.{_≡_, sym, _∙_}
 use mathlib.Core.List.{List}
 use Prim.Native.Nat.{ℕ}
 use Rattle.verdict.specs.declared.Customer.{Customer}
-use Rattle.verdict.specs.declared.Verdict.{Verdict}
+use Rattle.card.specs.declared.Verdict.{Verdict}
 use Rattle.verdict.specs.Promises.{Judged, Unread, IsNobody, IsCustomer}
 
 pub judge-one : (frame : List ℕ) (k : Customer) (r r′ : Verdict) → Judged frame k r → Judged frame k r′ → r ≡ r′

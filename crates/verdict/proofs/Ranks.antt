@@ -12,7 +12,8 @@ use Rattle.layout.specs.Places.{aField, bField}
 use Rattle.layout.specs.Frame.{trainingSync, fieldOf}
 use Rattle.layout.specs.Refusals.{hasSync, checkRefusals}
 use Rattle.verdict.specs.declared.Customer.{Customer}
-use Rattle.verdict.specs.Ranks.{sameWord, lastRefusal, finalFrame, matching, good, unreadable, refusedRank, trainingRank, finalRank}
+use Rattle.card.specs.Ranks.{sameWord, lastRefusal, finalFrame, matching, good, unreadable}
+use Rattle.verdict.specs.Ranks.{refusedRank, trainingRank, finalRank}
 use Rattle.verdict.specs.Verdict.{lastFirst, likeOf, octetsOf, refusedVerdict, trainingVerdict, finalVerdict, judged, verdictOf}
 
 -- either number

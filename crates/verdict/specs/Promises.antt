@@ -3,8 +3,8 @@ use mathlib.Core.Path.{_≡_}
 use mathlib.Core.List.{List}
 use Prim.Native.Nat.{ℕ}
 use Rattle.verdict.specs.declared.Customer.{Customer}
-use Rattle.verdict.specs.declared.Verdict.{Verdict}
-use Rattle.verdict.specs.Ranks.{unreadable}
+use Rattle.card.specs.declared.Verdict.{Verdict}
+use Rattle.card.specs.Ranks.{unreadable}
 use Rattle.verdict.specs.Verdict.{verdictOf, refusedVerdict, nobody, customerOf}
 
 -- judge

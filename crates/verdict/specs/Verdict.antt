@@ -14,8 +14,9 @@ use Rattle.layout.specs.Refusals.{hasSync, checkRefusals}
 use Rattle.reader.specs.Promises.{vendorOctets}
 use Rattle.highest.specs.Highest.{highest}
 use Rattle.verdict.specs.declared.Customer.{Customer}
-use Rattle.verdict.specs.declared.Verdict.{Verdict}
-use Rattle.verdict.specs.Ranks.{noCustomer, sameWord, turnedWord, otherWord, noWord, refusedRank, trainingRank, finalRank}
+use Rattle.card.specs.declared.Verdict.{Verdict}
+use Rattle.card.specs.Ranks.{noCustomer, sameWord, turnedWord, otherWord, noWord}
+use Rattle.verdict.specs.Ranks.{refusedRank, trainingRank, finalRank}
 
 -- a word read last bit first, the old bench program's mistake
 unfoldable pub lastFirst : ℕ → ℕ

@@ -4,6 +4,7 @@ ghost use Prim.Native.Nat.{min};
 ghost use Rattle.verdict.specs.Ranks.{refusedRank, trainingRank, finalRank};
 ghost use Rattle.verdict.specs.Verdict.{likeOf, absent, mostOctets, refusedVerdict};
 ghost use Rattle.verdict.specs.Promises.{Judged, Unread, IsCustomer, IsNobody};
+use card::Verdict;
 
 // The customer's words A and B, where a reference frame is given.
 pub struct Customer {
@@ -11,49 +12,6 @@ pub struct Customer {
     pub a: u32,
     pub b: u32,
 }
-
-// What a card's frame is found to be: rank is the verdict.
-pub struct Verdict {
-    pub rank: u32,
-    pub octets: u32,
-    pub answer: u32,
-    pub kind: u32,
-    pub used: u32,
-    pub a: u32,
-    pub b: u32,
-    pub alike: u32,
-    pub blike: u32,
-    pub vendor: [u8; 16],
-}
-
-// How a word compares with the customer's: no customer is given; the same; the customer's read last bit first; another; the card has none.
-pub const NO_CUSTOMER: u32 = 0;
-
-pub const SAME: u32 = 1;
-
-pub const TURNED: u32 = 2;
-
-pub const OTHER: u32 = 3;
-
-pub const NO_WORD: u32 = 4;
-
-// The verdicts, the worst first. From 1 to LAST_REFUSAL it is the number of the answer that the frame is refused with.
-pub const CANNOT_BE_READ: u32 = 0;
-
-pub const LAST_REFUSAL: u32 = 15;
-
-pub const FINAL_FRAME: u32 = 16;
-
-pub const TURNED_WORDS: u32 = 17;
-
-pub const OTHER_WORDS: u32 = 18;
-
-pub const MATCHING: u32 = 19;
-
-pub const GOOD: u32 = 20;
-
-// The answer for a file that cannot be read: past the last that any refusal may have.
-pub const UNREADABLE: u32 = 255;
 
 // The most octets of a file that are counted: one more than a frame has.
 pub const MOST_OCTETS: usize = layout::FRAME_OCTETS + 1;
@@ -63,59 +21,67 @@ fn like(given: bool, x: u32, y: u32) -> u32
     ensures { λ r. ⌜ r ≡ likeOf given x y ⌝ }
 {
     if !given {
-        return NO_CUSTOMER;
+        return card::NO_CUSTOMER;
     }
     let last_first = bitfields::turned(layout::WORD_BITS, y);
     if x == y {
-        return SAME;
+        return card::SAME;
     }
     if x == last_first {
-        return TURNED;
+        return card::TURNED;
     }
-    OTHER
+    card::OTHER
 }
 
 // The same, of a card that carries no word.
 fn no_word(given: bool) -> u32
     ensures { λ r. ⌜ r ≡ absent given ⌝ }
 {
-    if given { NO_WORD } else { NO_CUSTOMER }
+    if given {
+        card::NO_WORD
+    } else {
+        card::NO_CUSTOMER
+    }
 }
 
 // The verdict on a card that is refused with n.
 fn refused_rank(n: u32) -> u32
     ensures { λ r. ⌜ r ≡ refusedRank n ⌝ }
 {
-    if LAST_REFUSAL < n { CANNOT_BE_READ } else { n }
+    if card::LAST_REFUSAL < n {
+        card::CANNOT_BE_READ
+    } else {
+        n
+    }
 }
 
 // The verdict on a training frame, by how its words compare.
 fn training_rank(a: u32, b: u32) -> u32
     ensures { λ r. ⌜ r ≡ trainingRank a b ⌝ }
 {
-    if a == NO_CUSTOMER {
-        return GOOD;
+    if a == card::NO_CUSTOMER {
+        return card::GOOD;
     }
-    if a == TURNED {
-        return TURNED_WORDS;
+    if a == card::TURNED {
+        return card::TURNED_WORDS;
     }
-    if b == TURNED {
-        return TURNED_WORDS;
+    if b == card::TURNED {
+        return card::TURNED_WORDS;
     }
-    if a != SAME {
-        return OTHER_WORDS;
+    if a != card::SAME {
+        return card::OTHER_WORDS;
     }
-    if b != SAME {
-        return OTHER_WORDS;
+    if b != card::SAME {
+        return card::OTHER_WORDS;
     }
-    MATCHING
+    card::MATCHING
 }
 
 // The verdict on a final frame.
 fn final_rank(given: bool) -> u32
     ensures { λ r. ⌜ r ≡ finalRank given ⌝ }
 {
-    if given { FINAL_FRAME } else { GOOD }
+    if given { card::FINAL_FRAME } else { card::GOOD }
 }
 
 // How many octets a file has, as they are counted.
@@ -192,7 +158,7 @@ pub fn judge(frame: &[u8], customer: Customer) -> Verdict
 pub fn unread(customer: Customer) -> Verdict
     ensures { λ r. ⌜ Unread customer r ⌝ }
 {
-    refused(UNREADABLE, 0, customer)
+    refused(card::UNREADABLE, 0, customer)
 }
 
 // No customer.

@@ -1,67 +1,47 @@
 -- `cardline::header` meets its contract.
 use borrow.Author.Needs.{needs}
-use mathlib.Core.Path.{sym, ap}
+use mathlib.Core.Path.{ap, _∙_}
+use mathlib.Core.List.{_++_}
+use Prim.Native.Nat.{ℕ}
 use Rattle.ascii.specs.Text.{text}
 use Rattle.ascii.proofs.Room.{put-more, put-as, told}
+use Rattle.forms.specs.Forms.{rowOf}
 use Rattle.cardline.specs.Line.{heading}
+use Rattle.cardline.proofs.Lines.{headings, heading-told}
 use Rattle.cardline.proofs.header.Statement.{statement}
 use Rattle.cardline.proofs.header.Tie as tie
 
-slice-aggregate-put-word : tie.Need-slice-aggregate-put-word
-slice-aggregate-put-word c = search needs
+slice-aggregate-put-row : tie.Need-slice-aggregate-put-row
+slice-aggregate-put-row c = search needs
 
-put-word-requires : tie.Need-put-word-requires
-put-word-requires c κs = search needs
+heading-row-requires : tie.Need-heading-row-requires
+heading-row-requires c κs = search needs
 
-slice-aggregate-put-word-2 : tie.Need-slice-aggregate-put-word-2
-slice-aggregate-put-word-2 c = search needs
+put-row-requires : tie.Need-put-row-requires
+put-row-requires c κs = search needs
 
-put-word-requires-2 : tie.Need-put-word-requires-2
-put-word-requires-2 c κs = search needs
+put-requires : tie.Need-put-requires
+put-requires c κs = search needs
 
 same-length : tie.Need-same-length
 same-length c = search needs
 
 returns : tie.Need-returns
-unfolding heading
 returns c =
-    let p5 = c .before .before .before .before .before in
-    let p8 = p5 .before .before .before in
-    let p12 = p8 .before .before .before .before in
-    let a = p12 .args in
+    let p6 = c .before .before .before .before .before .before in
+    let p7 = p6 .before in
+    let a = p7 .before .before .before .before .args in
     told (heading (a .given)) (a .room .now) _ _
-    (put-as (put-more _ (text "\tA like\tB like\n") (p8 .put-word .ensures) (c .before .before .put-word2 .ensures)) (ap heading (sym (p5 .if1 .taken))))
-
-slice-aggregate-put-word-3 : tie.Need-slice-aggregate-put-word-3
-slice-aggregate-put-word-3 c = search needs
-
-put-word-requires-3 : tie.Need-put-word-requires-3
-put-word-requires-3 c κs = search needs
-
-same-length-2 : tie.Need-same-length-2
-same-length-2 c = search needs
-
-returns-2 : tie.Need-returns-2
-unfolding heading
-returns-2 c =
-    let p5 = c .before .before .before .before .before in
-    let p8 = p5 .before .before .before in
-    let p12 = p8 .before .before .before .before in
-    let a = p12 .args in
-    told (heading (a .given)) (a .room .now) _ _
-    (put-as (put-more _ (text "\n") (p8 .put-word .ensures) (c .before .before .put-word3 .ensures)) (ap heading (sym (p5 .if1 .left))))
+    (put-as (put-more _ (text "\n") (p6 .put-row .ensures) (c .before .before .put .ensures))
+    (ap (λ (n : ℕ). rowOf headings n ++ text "\n") (p7 .heading-row .ensures) ∙ heading-told (a .given)))
 
 pub header-spec : {M : Type 1} → statement M
 header-spec =
     tie.close
     (tie.spec
-    slice-aggregate-put-word
-    put-word-requires
-    slice-aggregate-put-word-2
-    put-word-requires-2
+    slice-aggregate-put-row
+    heading-row-requires
+    put-row-requires
+    put-requires
     same-length
-    returns
-    slice-aggregate-put-word-3
-    put-word-requires-3
-    same-length-2
-    returns-2)
+    returns)

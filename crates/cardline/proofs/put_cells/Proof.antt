@@ -1,26 +1,20 @@
 -- `cardline::put_cells` meets its contract.
-use borrow.Author.Needs.{needs}
 use Rattle.ascii.proofs.Room.{put-as}
-use Rattle.cardline.specs.Line.{noCells}
 use Rattle.cardline.proofs.Lines.{bad-cells, training-cells, final-cells}
+use borrow.Author.Needs.{needs}
 use Rattle.cardline.proofs.put_cells.Statement.{statement}
 use Rattle.cardline.proofs.put_cells.Tie as tie
 
-slice-aggregate-put-word : tie.Need-slice-aggregate-put-word
-slice-aggregate-put-word c = search needs
-
-put-word-requires : tie.Need-put-word-requires
-put-word-requires c κs = search needs
+put-words-requires : tie.Need-put-words-requires
+put-words-requires c κs = search needs
 
 same-length : tie.Need-same-length
 same-length c = search needs
 
 returns : tie.Need-returns
-unfolding noCells
 returns c =
-    let p5 = c .before .before .before .before .before in
-    let p8 = p5 .before .before .before in
-    put-as (c .before .before .put-word .ensures) (bad-cells (p8 .args .v) (p5 .if1 .taken))
+    let p4 = c .before .before .before .before in
+    put-as (c .before .before .put-words .ensures) (bad-cells (p4 .before .before .before .args .v) (p4 .if1 .taken))
 
 slice-aggregate-put-training : tie.Need-slice-aggregate-put-training
 slice-aggregate-put-training c = search needs
@@ -35,8 +29,7 @@ returns-2 : tie.Need-returns-2
 returns-2 c =
     let p5 = c .before .before .before .before .before in
     let p8 = p5 .before .before .before in
-    let p11 = p8 .before .before .before in
-    put-as (c .before .before .put-training .ensures) (training-cells (p11 .args .v) (p8 .if1 .left) (p5 .if2 .taken))
+    put-as (c .before .before .put-training .ensures) (training-cells (p8 .before .before .before .args .v) (p8 .if1 .left) (p5 .if2 .taken))
 
 slice-aggregate-put-final : tie.Need-slice-aggregate-put-final
 slice-aggregate-put-final c = search needs
@@ -51,15 +44,13 @@ returns-3 : tie.Need-returns-3
 returns-3 c =
     let p5 = c .before .before .before .before .before in
     let p8 = p5 .before .before .before in
-    let p11 = p8 .before .before .before in
-    put-as (c .before .before .put-final .ensures) (final-cells (p11 .args .v) (p8 .if1 .left) (p5 .if2 .left))
+    put-as (c .before .before .put-final .ensures) (final-cells (p8 .before .before .before .args .v) (p8 .if1 .left) (p5 .if2 .left))
 
 pub put-cells-spec : {M : Type 1} → statement M
 put-cells-spec =
     tie.close
     (tie.spec
-    slice-aggregate-put-word
-    put-word-requires
+    put-words-requires
     same-length
     returns
     slice-aggregate-put-training

@@ -3,7 +3,8 @@ use borrow.Author.Needs.{needs}
 use mathlib.Core.List.{_++_}
 use Rattle.ascii.specs.Text.{text}
 use Rattle.ascii.proofs.Room.{put-more}
-use Rattle.cardline.specs.Words.{todo, verdictWords}
+use Rattle.card.specs.Words.{todo}
+use Rattle.cardline.specs.Words.{verdictWords}
 use Rattle.cardline.specs.Line.{findings}
 use Rattle.cardline.proofs.put_findings.Statement.{statement}
 use Rattle.cardline.proofs.put_findings.Tie as tie

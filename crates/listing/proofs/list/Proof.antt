@@ -1,9 +1,10 @@
 -- `listing::list` meets its contract.
 use mathlib.Core.Path.{refl}
-use Rattle.ascii.proofs.Room.{put-as, told}
-use Rattle.listing.specs.Listing.{listing}
+use mathlib.Core.List.{_++_}
+use Rattle.ascii.proofs.Room.{put-more, put-as, told}
+use Rattle.listing.specs.Listing.{vendorLine, checkLine, listing}
 use Rattle.reader.proofs.Given.{read-length}
-use Rattle.listing.proofs.Laws.{refused-text, training-text, final-text}
+use Rattle.listing.proofs.Laws.{refused-text, read-text}
 use borrow.Author.Needs.{needs}
 use Rattle.listing.proofs.list.Statement.{statement}
 use Rattle.listing.proofs.list.Tie as tie
@@ -33,57 +34,37 @@ returns c =
     (refused-text (b13 .args .frame .now) _ _ refl refl (b8 .read .result) (b8 .read .last .1 .0) (b8 .read .last .1 .1 .0) (b8 .read .ensures)
     (b4 .if1 .taken)))
 
+slice-aggregate-put-kind : tie.Need-slice-aggregate-put-kind
+slice-aggregate-put-kind c = search needs
+
+put-kind-requires : tie.Need-put-kind-requires
+put-kind-requires c κs = search needs
+
+slice-aggregate-put-tail : tie.Need-slice-aggregate-put-tail
+slice-aggregate-put-tail c = search needs
+
 check-of-requires : tie.Need-check-of-requires
 check-of-requires c κs = search needs
 
-slice-aggregate-put-training : tie.Need-slice-aggregate-put-training
-slice-aggregate-put-training c = search needs
-
-slice-aggregate-put-training-2 : tie.Need-slice-aggregate-put-training-2
-slice-aggregate-put-training-2 c = search needs
-
-put-training-requires : tie.Need-put-training-requires
-put-training-requires c κs = (search needs, c .before .before .before .before .before .check-of .ensures .0)
-
-slice-aggregate-put-final : tie.Need-slice-aggregate-put-final
-slice-aggregate-put-final c = search needs
-
-put-final-requires : tie.Need-put-final-requires
-put-final-requires c κs = c .before .before .before .before .check-of .ensures .0
+put-tail-requires : tie.Need-put-tail-requires
+put-tail-requires c κs = search needs
 
 same-length-2 : tie.Need-same-length-2
 same-length-2 c = search needs
 
 returns-2 : tie.Need-returns-2
 returns-2 c =
-    let b6 = c .before .before .before .before .before .before in
-    let b8 = b6 .before .before in
-    let b9 = b8 .before in
-    let b13 = b9 .before .before .before .before in
-    let b18 = b13 .before .before .before .before .before in
-    told (listing (b18 .args .frame .now)) (b18 .args .room .now) _ _
-    (put-as (c .before .before .put-training .ensures)
-    (training-text (b18 .args .frame .now) _ _ refl refl (b13 .read .result) (b13 .read .last .1 .0) (b13 .read .last .1 .1 .0) (b13 .read .ensures)
-    (b9 .if1 .left) (b8 .check-of .result) (b8 .check-of .ensures .1
-    (read-length (b18 .args .frame .now) _ _ refl refl (b13 .read .result) (b13 .read .last .1 .0) (b13 .read .last .1 .1 .0) (b13 .read .ensures)
-    (b9 .if1 .left))) (b6 .if2 .taken)))
-
-same-length-3 : tie.Need-same-length-3
-same-length-3 c = search needs
-
-returns-3 : tie.Need-returns-3
-returns-3 c =
-    let b5 = c .before .before .before .before .before in
-    let b7 = b5 .before .before in
-    let b8 = b7 .before in
-    let b12 = b8 .before .before .before .before in
-    let b17 = b12 .before .before .before .before .before in
-    told (listing (b17 .args .frame .now)) (b17 .args .room .now) _ _
-    (put-as (c .before .before .put-final .ensures)
-    (final-text (b17 .args .frame .now) _ _ refl refl (b12 .read .result) (b12 .read .last .1 .0) (b12 .read .last .1 .1 .0) (b12 .read .ensures)
-    (b8 .if1 .left) (b7 .check-of .result) (b7 .check-of .ensures .1
-    (read-length (b17 .args .frame .now) _ _ refl refl (b12 .read .result) (b12 .read .last .1 .0) (b12 .read .last .1 .1 .0) (b12 .read .ensures)
-    (b8 .if1 .left))) (b5 .if2 .left)))
+    let b3 = c .before .before .before in
+    let b8 = b3 .before .before .before .before .before in
+    let b11 = b8 .before .before .before in
+    let b15 = b11 .before .before .before .before in
+    let a = b15 .before .before .before .before .before .args in
+    let d = b15 .read in
+    let f = a .frame .now in
+    told (listing f) (a .room .now) _ _
+    (put-as (put-more _ (vendorLine (d .last .1 .1 .0) ++ checkLine (b3 .check-of .result)) (b8 .put-kind .ensures) (c .before .before .put-tail .ensures))
+    (read-text f _ _ refl refl (d .result) (d .last .1 .0) (d .last .1 .1 .0) (d .ensures) (b11 .if1 .left) (b3 .check-of .result)
+    (b3 .check-of .ensures .1 (read-length f _ _ refl refl (d .result) (d .last .1 .0) (d .last .1 .1 .0) (d .ensures) (b11 .if1 .left)))))
 
 pub list-spec : {M : Type 1} → statement M
 list-spec =
@@ -95,13 +76,10 @@ list-spec =
     put-refused-requires
     same-length
     returns
+    slice-aggregate-put-kind
+    put-kind-requires
+    slice-aggregate-put-tail
     check-of-requires
-    slice-aggregate-put-training
-    slice-aggregate-put-training-2
-    put-training-requires
-    slice-aggregate-put-final
-    put-final-requires
+    put-tail-requires
     same-length-2
-    returns-2
-    same-length-3
-    returns-3)
+    returns-2)

@@ -15,8 +15,8 @@ slice-aggregate-put-word c = search needs
 put-word-requires : tie.Need-put-word-requires
 put-word-requires c κs = search needs
 
-put-either-requires : tie.Need-put-either-requires
-put-either-requires c κs = search needs
+put-why-requires : tie.Need-put-why-requires
+put-why-requires c κs = search needs
 
 put-requires : tie.Need-put-requires
 put-requires c κs = search needs
@@ -33,7 +33,7 @@ returns c =
     let a = b14 .args in
     let w = cond (eqb (a .n) 1) (lengthWords (a .octets)) (reasonWords (a .n)) in
     put-more (text "lister: " ++ w) (text "\n")
-    (put-more (text "lister: ") w (b10 .put-word .ensures) (b6 .put-either .ensures)) (c .before .before .put .ensures)
+    (put-more (text "lister: ") w (b10 .put-word .ensures) (b6 .put-why .ensures)) (c .before .before .put .ensures)
 
 pub put-refusal-spec : {M : Type 1} → statement M
 put-refusal-spec =
@@ -41,7 +41,7 @@ put-refusal-spec =
     (tie.spec
     slice-aggregate-put-word
     put-word-requires
-    put-either-requires
+    put-why-requires
     put-requires
     same-length
     returns)

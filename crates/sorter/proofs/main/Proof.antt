@@ -1,10 +1,13 @@
 -- `sorter::main` is safe: the cards that are counted have their places.
-use borrow.Author.Needs.{needs}
 use mathlib.Core.Path.{sym}
 use native.Mathlib.Omega.{arith}
 use lib.Seq.{length-take-le}
+use borrow.Author.Needs.{needs}
 use Rattle.sorter.proofs.main.Statement.{statement}
 use Rattle.sorter.proofs.main.Tie as tie
+
+no-places-requires : tie.Need-no-places-requires
+no-places-requires c κs = search needs
 
 arg-count-requires : tie.Need-arg-count-requires
 arg-count-requires c κs = search needs
@@ -22,13 +25,10 @@ array-share-prefix-places : tie.Need-array-share-prefix-places
 array-share-prefix-places c = search needs
 
 slice-aggregate-run : tie.Need-slice-aggregate-run
-slice-aggregate-run c =
-    let r = c .before .before .before .arguments in sym (length-take-le (r .result .cards) (r .last .1 .0) (omega (arith, r .ensures, r .kept .1 .0)))
+slice-aggregate-run c = let r = c .before .before .before .arguments in sym (length-take-le (r .result .cards) (r .last .1 .0) (omega (arith, r .ensures, r .kept .1 .0)))
 
 run-requires : tie.Need-run-requires
-run-requires c κs =
-    let p3 = c .before .before .before in
-    let r = p3 .arguments in omega (arith, length-take-le (r .result .cards) (r .last .1 .0) (omega (arith, r .ensures, r .kept .1 .0)), r .ensures)
+run-requires c κs = let r = c .before .before .before .arguments in omega (arith, length-take-le (r .result .cards) (r .last .1 .0) (omega (arith, r .ensures, r .kept .1 .0)), r .ensures)
 
 digit-requires : tie.Need-digit-requires
 digit-requires c κs = search needs
@@ -49,6 +49,7 @@ pub main-spec : {M : Type 1} → statement M
 main-spec =
     tie.close
     (tie.spec
+    no-places-requires
     arg-count-requires
     slice-aggregate-arguments
     arguments-requires

@@ -1,8 +1,8 @@
 -- `sorter::say_cells` is safe: the text lies within the room.
-use borrow.Author.Needs.{needs}
 use mathlib.Core.Path.{sym}
 use native.Mathlib.Omega.{arith}
 use lib.Seq.{length-take-le}
+use borrow.Author.Needs.{needs}
 use Rattle.sorter.proofs.say_cells.Statement.{statement}
 use Rattle.sorter.proofs.say_cells.Tie as tie
 
@@ -11,6 +11,9 @@ say-requires c κs = search needs
 
 returns : tie.Need-returns
 returns c = search needs
+
+room-requires : tie.Need-room-requires
+room-requires c κs = search needs
 
 slice-aggregate-csv : tie.Need-slice-aggregate-csv
 slice-aggregate-csv c = search needs
@@ -36,6 +39,7 @@ say-cells-spec =
     (tie.spec
     say-requires
     returns
+    room-requires
     slice-aggregate-csv
     csv-requires
     array-share-prefix-room

@@ -1,16 +1,20 @@
 -- `sorter::sort` is safe: there is a verdict for each card.
-use borrow.Author.Needs.{needs}
-use mathlib.Core.Path.{sym}
 use lib.ListN.{length}
+use mathlib.Core.Path.{sym}
+use native.Mathlib.Omega.{arith}
 use lib.Seq.{length-take-le}
+use borrow.Author.Needs.{needs}
 use Rattle.sorter.proofs.sort.Statement.{statement}
 use Rattle.sorter.proofs.sort.Tie as tie
+
+no-ranks-requires : tie.Need-no-ranks-requires
+no-ranks-requires c κs = search needs
 
 array-borrow-prefix-room : tie.Need-array-borrow-prefix-room
 array-borrow-prefix-room c = search needs
 
 slice-aggregate-ranks : tie.Need-slice-aggregate-ranks
-slice-aggregate-ranks c = sym (length-take-le (length (c .before .before .args .files .now)) _ (search needs))
+slice-aggregate-ranks c = sym (length-take-le (length (c .before .before .before .args .files .now)) _ (omega arith))
 
 head-requires : tie.Need-head-requires
 head-requires c κs = search needs
@@ -19,7 +23,7 @@ returns : tie.Need-returns
 returns c = search needs
 
 look-at-requires : tie.Need-look-at-requires
-look-at-requires c κs = (search needs, length-take-le (length (c .before .before .before .before .before .args .files .now)) _ (search needs))
+look-at-requires c κs = (search needs, length-take-le (length (c .before .before .before .before .before .before .args .files .now)) _ (omega arith))
 
 returns-2 : tie.Need-returns-2
 returns-2 c = search needs
@@ -40,6 +44,7 @@ pub sort-spec : {M : Type 1} → statement M
 sort-spec =
     tie.close
     (tie.spec
+    no-ranks-requires
     array-borrow-prefix-room
     slice-aggregate-ranks
     head-requires

@@ -1,13 +1,15 @@
 -- `totals::put_first` meets its contract.
-use borrow.Author.Needs.{needs}
 use mathlib.Core.Path.{ap, _∙_}
 use mathlib.Core.List.{_++_}
-use Prim.Native.Nat.{_-_}
+use Prim.Native.Nat.{ℕ, _-_}
 use native.Mathlib.Omega.{arith}
 use lib.ListN.{length}
+use Rattle.ascii.specs.Text.{decimal}
 use Rattle.ascii.proofs.Room.{put-more, put-as}
-use Rattle.totals.specs.Totals.{howMany, cardsText, fineText, firstLine}
-use Rattle.totals.proofs.Counting.{many-within}
+use Rattle.forms.specs.Forms.{rowOf}
+use Rattle.totals.specs.Totals.{howMany, written, words, cardsText, fineText, firstLine}
+use Rattle.totals.proofs.Counting.{many-within, cards-told}
+use borrow.Author.Needs.{needs}
 use Rattle.totals.proofs.put_first.Statement.{statement}
 use Rattle.totals.proofs.put_first.Tie as tie
 
@@ -20,8 +22,11 @@ how-many-requires c κs = search needs
 sub-rest : tie.Need-sub-rest
 sub-rest c = omega (arith, c .how-many .ensures, many-within (c .before .fine .result) (c .before .before .before .before .args .ranks .now))
 
-put-cards-requires : tie.Need-put-cards-requires
-put-cards-requires c κs = search needs
+cards-row-requires : tie.Need-cards-row-requires
+cards-row-requires c κs = search needs
+
+put-count-requires : tie.Need-put-count-requires
+put-count-requires c κs = search needs
 
 put-fine-requires : tie.Need-put-fine-requires
 put-fine-requires c κs = search needs
@@ -33,13 +38,14 @@ returns : tie.Need-returns
 unfolding firstLine
 returns c =
     let p6 = c .before .before .before .before .before .before in
-    let p8 = p6 .before .before in
-    let p9 = p8 .before in
-    let p12 = p9 .before .before .before in
-    let a = p12 .args in
+    let p9 = p6 .before .before .before in
+    let a = p9 .before .before .before .before .args in
     let l = a .ranks .now in
-    put-as (put-more (cardsText (length l)) (fineText (a .given) _ _) (p6 .put-cards .ensures) (c .before .before .put-fine .ensures))
-    (ap (λ n. cardsText (length l) ++ fineText (a .given) n (length l - n)) (p8 .how-many .ensures ∙ ap (λ x. howMany x l) (p9 .fine .ensures)))
+    let w = p9 .how-many .result in
+    let f = fineText (a .given) w (length l - w) in
+    put-as (put-more _ f (p6 .put-count .ensures) (c .before .before .put-fine .ensures))
+    (ap (λ (k : ℕ). decimal (written (length l)) ++ rowOf words k ++ f) (p6 .before .cards-row .ensures) ∙ ap (λ t. t ++ f) (cards-told (length l))
+    ∙ ap (λ n. cardsText (length l) ++ fineText (a .given) n (length l - n)) (p9 .how-many .ensures ∙ ap (λ x. howMany x l) (p9 .before .fine .ensures)))
 
 pub put-first-spec : {M : Type 1} → statement M
 put-first-spec =
@@ -48,7 +54,8 @@ put-first-spec =
     fine-requires
     how-many-requires
     sub-rest
-    put-cards-requires
+    cards-row-requires
+    put-count-requires
     put-fine-requires
     same-length
     returns)

@@ -1,35 +1,31 @@
 -- `totals::put_line` meets its contract.
-use borrow.Author.Needs.{needs}
-use mathlib.Core.List.{[], _∷_, _++_}
-use Rattle.ascii.specs.Text.{text}
-use Rattle.forms.specs.Forms.{formed}
-use Rattle.cardline.specs.Words.{nameOf, todo}
+use mathlib.Core.Path.{ap, _∙_}
+use mathlib.Core.List.{List, _++_}
+use Prim.Native.Nat.{ℕ}
+use Rattle.ascii.specs.Text.{text, decimal}
 use Rattle.ascii.proofs.Room.{put-none, put-more, put-as}
-use Rattle.totals.specs.Totals.{joint}
+use Rattle.forms.specs.Forms.{rowOf}
+use Rattle.card.specs.Words.{nameOf, todo}
+use Rattle.totals.specs.Totals.{written, words}
 use Rattle.totals.proofs.Counting.{line-none, some-line}
+use borrow.Author.Needs.{needs}
 use Rattle.totals.proofs.put_line.Statement.{statement}
 use Rattle.totals.proofs.put_line.Tie as tie
 
 returns : tie.Need-returns
 returns c = let a = c .before .before .args in put-as (put-none (a .room .now) (a .at)) (line-none (a .rank) (a .count) (c .if1 .taken))
 
-slice-aggregate-put-form : tie.Need-slice-aggregate-put-form
-slice-aggregate-put-form c = search needs
-
-written-requires : tie.Need-written-requires
-written-requires c κs = search needs
-
-slice-aggregate-put-form-2 : tie.Need-slice-aggregate-put-form-2
-slice-aggregate-put-form-2 c = search needs
-
-put-form-requires : tie.Need-put-form-requires
-put-form-requires c κs = search needs
+put-count-requires : tie.Need-put-count-requires
+put-count-requires c κs = search needs
 
 put-name-requires : tie.Need-put-name-requires
 put-name-requires c κs = search needs
 
-put-joint-requires : tie.Need-put-joint-requires
-put-joint-requires c κs = search needs
+joint-row-requires : tie.Need-joint-row-requires
+joint-row-requires c κs = search needs
+
+put-words-requires : tie.Need-put-words-requires
+put-words-requires c κs = search needs
 
 put-todo-requires : tie.Need-put-todo-requires
 put-todo-requires c κs = search needs
@@ -44,34 +40,31 @@ returns-2 : tie.Need-returns-2
 returns-2 c =
     let p6 = c .before .before .before .before .before .before in
     let p10 = p6 .before .before .before .before in
-    let p14 = p10 .before .before .before .before in
-    let p18 = p14 .before .before .before .before in
-    let p20 = p18 .before .before in
-    let p23 = p20 .before .before .before in
-    let p25 = p23 .before .before in
-    let a = p25 .args in
-    let d = formed (text "# ") (p20 .written .result ∷ []) in
+    let p15 = p10 .before .before .before .before .before in
+    let p19 = p15 .before .before .before .before in
+    let p21 = p19 .before .before in
+    let a = p21 .before .before .args in
+    let d = decimal (written (a .count)) ++ rowOf words 12 in
     let n = nameOf (a .rank) in
-    let j = joint (a .rank) in
     let t = todo (a .rank) in
+    let j : ℕ → List ℕ = λ (k : ℕ). rowOf words k in
+    let k = p10 .before .joint-row in
     put-as
-    (put-more (d ++ n ++ j ++ t) (text "\n")
-    (put-more (d ++ n ++ j) t
-    (put-more (d ++ n) j (put-more d n (p18 .put-form .ensures) (p14 .put-name .ensures)) (p10 .put-joint .ensures)) (p6 .put-todo .ensures))
+    (put-more (d ++ n ++ j (k .result) ++ t) (text "\n")
+    (put-more (d ++ n ++ j (k .result)) t
+    (put-more (d ++ n) (j (k .result)) (put-more d n (p19 .put-count .ensures) (p15 .put-name .ensures)) (p10 .put-words .ensures)) (p6 .put-todo .ensures))
     (c .before .before .put .ensures))
-    (some-line (a .rank) (a .count) _ (p23 .if1 .left) (p20 .written .ensures))
+    (ap (λ (i : ℕ). d ++ n ++ j i ++ t ++ text "\n") (k .ensures) ∙ some-line (a .rank) (a .count) (p21 .if1 .left))
 
 pub put-line-spec : {M : Type 1} → statement M
 put-line-spec =
     tie.close
     (tie.spec
     returns
-    slice-aggregate-put-form
-    written-requires
-    slice-aggregate-put-form-2
-    put-form-requires
+    put-count-requires
     put-name-requires
-    put-joint-requires
+    joint-row-requires
+    put-words-requires
     put-todo-requires
     put-requires
     same-length

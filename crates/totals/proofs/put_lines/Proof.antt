@@ -5,7 +5,7 @@ use Prim.Native.Nat.{_-_, _≤_}
 use native.Mathlib.Omega.{arith}
 use Rattle.ascii.specs.Promises.{Put}
 use Rattle.ascii.proofs.Room.{put-none, put-more, put-as, put-length}
-use Rattle.verdict.specs.Ranks.{verdicts}
+use Rattle.card.specs.Ranks.{verdicts}
 use Rattle.totals.specs.Totals.{verdictLine, verdictLines}
 use Rattle.totals.proofs.Counting.{lines-none, lines-next}
 use Rattle.totals.proofs.put_lines.Statement.{statement}

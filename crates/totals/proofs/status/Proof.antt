@@ -3,7 +3,7 @@ use borrow.Author.Needs.{needs}
 use mathlib.Core.Path.{sym, _∙_}
 use native.Mathlib.Omega.{arith}
 use borrow.Author.Tests.{lt-ltb, le-ltb}
-use Rattle.verdict.specs.Ranks.{cannotBeRead}
+use Rattle.card.specs.Ranks.{cannotBeRead}
 use Rattle.totals.specs.Totals.{howMany, statusOf}
 use Rattle.totals.proofs.status.Statement.{statement}
 use Rattle.totals.proofs.status.Tie as tie

@@ -3,7 +3,7 @@ use borrow.Author.Needs.{needs}
 use mathlib.Core.Path.{ap}
 use mathlib.Core.List.{_++_}
 use Rattle.ascii.proofs.Room.{put-more, put-as, told}
-use Rattle.verdict.specs.Ranks.{verdicts}
+use Rattle.card.specs.Ranks.{verdicts}
 use Rattle.totals.specs.Totals.{firstLine, verdictLines, lastLine, totalsText}
 use Rattle.totals.proofs.totals.Statement.{statement}
 use Rattle.totals.proofs.totals.Tie as tie

@@ -1,0 +1,3 @@
+pub mod Fits
+pub mod Cells
+pub mod Sums
