@@ -7,8 +7,10 @@ use Prim.Native.Nat.{ℕ, suc, _≤_}
 use native.Mathlib.Omega.{arith}
 use lib.Dec.{lit≤}
 use lib.ListN.{length}
-use Rattle.supervisor.specs.Phases.{Hearing, Exception, inAttempt}
-use Rattle.startup.specs.Attempts.{count, ltuNeeds, ntuNeeds, need, shown, InTime, StillOpen, EndsInData, fresh, counted, OpensAt, opens}
+use Rattle.supervisor.specs.Names.{Hearing, Exception}
+use Rattle.supervisor.specs.Phases.{inAttempt}
+use Rattle.startup.specs.Reports.{count, need, shown}
+use Rattle.startup.specs.Attempts.{ltuNeeds, ntuNeeds, InTime, StillOpen, EndsInData, fresh, counted, OpensAt, opens}
 use Rattle.startup.specs.Scan.{Attempt, attempt, Listed}
 use Rattle.startup.specs.Make.{Make, Ran, phaseAt, replyTo, FirstShows, ranOver}
 use Rattle.startup.proofs.Counts.{in-order-le}

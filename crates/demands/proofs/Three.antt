@@ -8,9 +8,10 @@ use native.Mathlib.Omega.{arith}
 use lib.ListN.{take}
 use Rattle.supervisor.specs.declared.Supervisor.{Supervisor as State}
 use Rattle.supervisor.specs.declared.Answer.{Answer}
-use Rattle.supervisor.specs.Phases.{Settling, Exception}
+use Rattle.supervisor.specs.Names.{Settling, Exception}
 use Rattle.supervisor.specs.Step.{startOf, fresh}
-use Rattle.startup.specs.Attempts.{at, one, Needs, needsOf, meant}
+use Rattle.startup.specs.Reports.{at, one}
+use Rattle.startup.specs.Attempts.{Needs, needsOf, meant}
 use Rattle.startup.specs.Stands.{Stands}
 use Rattle.startup.specs.Scan.{Attempt, attempts}
 use Rattle.startup.specs.declared.Run.{Run as StartupRun}

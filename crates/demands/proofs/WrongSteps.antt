@@ -14,10 +14,11 @@ use lib.ListN.{take, replicate}
 use Rattle.answer.specs.Answer.{answer, held}
 use Rattle.supervisor.specs.declared.Supervisor.{Supervisor as State}
 use Rattle.supervisor.specs.Limits.{attemptTicks, mostAttempt}
-use Rattle.supervisor.specs.Phases.{Ready, Gap, Await, Hearing, Settling, Exception, inAttempt}
-use Rattle.supervisor.specs.Step.{changed, entered, counted, moved}
+use Rattle.supervisor.specs.Names.{Ready, Gap, Await, Hearing, Settling, Exception}
+use Rattle.supervisor.specs.Phases.{inAttempt}
+use Rattle.supervisor.specs.Rules.{changed, entered, counted, moved}
 use Rattle.supervisor.proofs.Laws.{by-cases}
-use Rattle.startup.specs.Attempts.{at, upto}
+use Rattle.startup.specs.Reports.{at, upto}
 use Rattle.startup.specs.Make.{Make, stepsBy, phaseAt, replyTo, Taken}
 use Rattle.host.specs.declared.supervising.Supervisor.{Supervisor}
 use Rattle.host.specs.Supervising.{stateIn, stateOf}

@@ -1,4 +1,4 @@
--- DEMAND 3, over a supervisor of any make. What a list says is in startup/specs/Attempts.antt and Stands.antt; a make, its run, and what it shows
+-- DEMAND 3, over a supervisor of any make. What a list says is in startup/specs/Reports.antt, Attempts.antt and Stands.antt; a make, its run, and what it shows
 -- of a list are in startup/specs/Make.antt.
 use mathlib.Core.Path.{_≡_}
 use mathlib.Core.Bool.{cond}
@@ -8,8 +8,9 @@ use Prim.Native.Nat.{ℕ, suc, _≤_, _<_}
 use lib.Dec.{eqb}
 use lib.ListN.{length, take}
 use Rattle.supervisor.specs.Limits.{attemptTicks}
-use Rattle.supervisor.specs.Phases.{Ready, Cr, Hearing, Settling, Exception}
-use Rattle.startup.specs.Attempts.{at, count, Needs, needsOf, meant, EndsInData, EndsInException, OpensAt}
+use Rattle.supervisor.specs.Names.{Ready, Cr, Hearing, Settling, Exception}
+use Rattle.startup.specs.Reports.{at, count}
+use Rattle.startup.specs.Attempts.{Needs, needsOf, meant, EndsInData, EndsInException, OpensAt}
 use Rattle.startup.specs.Stands.{Stands}
 use Rattle.startup.specs.Scan.{Attempt, Listed}
 use Rattle.startup.specs.Make.{Make, stepsBy, phaseAt, replyTo, Enters, FirstShows, ranOver, Taken}

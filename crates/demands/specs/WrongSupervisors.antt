@@ -4,8 +4,10 @@ use mathlib.Core.Bool.{true}
 use mathlib.Core.List.{List}
 use Prim.Native.Nat.{ℕ, suc, _≤_, _<_}
 use Rattle.supervisor.specs.Limits.{attemptTicks}
-use Rattle.supervisor.specs.Phases.{Cr, Hearing, Settling, Exception, inAttempt}
-use Rattle.startup.specs.Attempts.{at, count, needsOf, meant, StillOpen, OpensAt}
+use Rattle.supervisor.specs.Names.{Cr, Hearing, Settling, Exception}
+use Rattle.supervisor.specs.Phases.{inAttempt}
+use Rattle.startup.specs.Reports.{at, count}
+use Rattle.startup.specs.Attempts.{needsOf, meant, StillOpen, OpensAt}
 use Rattle.startup.specs.Make.{Make, phaseAt, replyTo, Taken}
 
 -- what holds of every run from a fresh start: of the state it begins in, and the list

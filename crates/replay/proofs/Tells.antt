@@ -8,7 +8,7 @@ use borrow.Author.Tests.{eqb-true, eqb-false, leb-true}
 use lib.Dec.{leb, eqb, lit≤}
 use lib.ListN.{length, getD, drop, replicate}
 use Rattle.ascii.specs.Text.{reading}
-use Rattle.startup.specs.Attempts.{at}
+use Rattle.startup.specs.Reports.{at}
 use Rattle.startup.specs.Make.{Taken}
 use Rattle.startup.proofs.Counts.{and-right}
 use Rattle.log.specs.declared.Line.{Line}

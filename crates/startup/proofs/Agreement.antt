@@ -16,7 +16,8 @@ use Rattle.supervisor.specs.Phases.{inAttempt}
 use Rattle.supervisor.specs.Step.{stateRefusals, stepOf, fresh}
 use Rattle.supervisor.proofs.Laws.{by-cases, clash}
 use Rattle.startup.specs.declared.Run.{Run}
-use Rattle.startup.specs.Attempts.{at, one, Needs, needsOf, meant, OpensAt}
+use Rattle.startup.specs.Reports.{at, one}
+use Rattle.startup.specs.Attempts.{Needs, needsOf, meant, OpensAt}
 use Rattle.startup.specs.Make.{steps, after, Taken}
 use Rattle.startup.specs.Scan.{Attempt, logged, attempts, Fate, Listed}
 use Rattle.startup.specs.Run.{eventOf, noted, takenOf, runFrom, begun, runOf}

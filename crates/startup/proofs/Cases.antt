@@ -6,8 +6,9 @@ use mathlib.Core.Path.{_≡_, refl, _∙_}
 use mathlib.Core.List.{List, [], _∷_, _++_}
 use borrow.Author.Tests.{ne-eqb}
 use lib.ListN.{replicate}
-use Rattle.supervisor.specs.Phases.{Sr, Tr}
-use Rattle.startup.specs.Attempts.{Needs, needsOf, need}
+use Rattle.supervisor.specs.Names.{Sr, Tr}
+use Rattle.startup.specs.Reports.{need}
+use Rattle.startup.specs.Attempts.{Needs, needsOf}
 use Rattle.startup.specs.Scan.{Attempt, attempt, Stand, trying, scan, attempts}
 
 -- NTU: a 1 and 300 ticks, so that the attempt opens at the place 300; then to the end of Quiet, with a 4 too early

@@ -10,7 +10,7 @@ use mathlib.Core.Bool.{Bool, true, false, false≢true, _&&_}
 use borrow.Author.Tests.{leb-true, leb-false, le-leb}
 use lib.Dec.{leb, eqb}
 use Rattle.supervisor.proofs.Laws.{by-cases, clash}
-use Rattle.startup.specs.Attempts.{at, one, upto, count, Need, reported, shown, Completes, InOrder}
+use Rattle.startup.specs.Reports.{at, one, upto, count, Need, reported, shown, Completes, InOrder}
 
 -- COUNTS
 

@@ -9,7 +9,8 @@ use mathlib.Core.List.{List}
 use borrow.Author.Tests.{leb-true, leb-false, eq-eqb, eqb-true}
 use lib.Dec.{leb, eqb}
 use Rattle.supervisor.proofs.Laws.{by-cases, clash}
-use Rattle.startup.specs.Attempts.{at, count, InOrder, Needs, all, InTime, StillOpen}
+use Rattle.startup.specs.Reports.{at, count, InOrder}
+use Rattle.startup.specs.Attempts.{Needs, all, InTime, StillOpen}
 use Rattle.startup.specs.Attempts.{EndsInData, EndsInException, OpensAt, opens, SilenceBegins, abnormal, late}
 use Rattle.startup.proofs.Counts.{upto-mono, calm-more, calm-last, calm-less, count-self, in-order-le, in-order-once}
 use Rattle.startup.proofs.History.{begun, Now, find, not-all}

@@ -7,7 +7,8 @@ use mathlib.Core.Logic.{_⊎_, inl, inr}
 use mathlib.Core.List.{List, [], _∷_}
 use mathlib.Core.Bool.{false}
 use Rattle.supervisor.proofs.Laws.{by-cases}
-use Rattle.startup.specs.Attempts.{Need, shown, Completes, InOrder, Needs, all}
+use Rattle.startup.specs.Reports.{Need, shown, Completes, InOrder}
+use Rattle.startup.specs.Attempts.{Needs, all}
 use Rattle.startup.proofs.Counts.{completes-after, completes-once, first-shown, in-order-le}
 
 -- an attempt opened at the moment m is in the need d since the moment e, with the needs ds to come

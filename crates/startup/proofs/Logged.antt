@@ -10,7 +10,8 @@ use borrow.Author.Tests.{leb-true, leb-false, eqb-true}
 use lib.Dec.{leb, eqb}
 use lib.ListN.{length, drop}
 use Rattle.supervisor.proofs.Laws.{by-cases}
-use Rattle.startup.specs.Attempts.{at, count, Need, shown, Needs, StillOpen, EndsInData, EndsInException, OpensAt, opens}
+use Rattle.startup.specs.Reports.{at, count, Need, shown}
+use Rattle.startup.specs.Attempts.{Needs, StillOpen, EndsInData, EndsInException, OpensAt, opens}
 use Rattle.startup.specs.Scan.{Attempt, attempt, Stand, scanned, event, closed, logged, scan, attempts, Fate, Listed}
 use Rattle.startup.proofs.History.{reached-le, not-all}
 use Rattle.startup.proofs.Unique.{Hist, ready as readyH, await, trying, done, failed, onward, next, Holds, Sound, choose, forth, histOf, unique, holds}

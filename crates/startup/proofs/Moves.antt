@@ -9,11 +9,13 @@ use borrow.Author.Tests.{leb-true, leb-false, le-leb, lt-leb, lt-ltb, eq-eqb, eq
 use lib.Dec.{leb, ltb, eqb, leb·zero}
 use Rattle.answer.specs.Answer.{answer}
 use Rattle.supervisor.specs.declared.Supervisor.{Supervisor}
-use Rattle.supervisor.specs.Phases.{Ready, Gap, Await, Cr, Hearing, Sc, Sr, Tc, Tr, Settling}
-use Rattle.supervisor.specs.Phases.{Valid, Exception, Row, row, ntu, ltu, phasesOf, rowOf, inAttempt, counts}
-use Rattle.supervisor.specs.Step.{heard, acted, among, here, moved, stateRefusals, stepOf}
+use Rattle.supervisor.specs.Names.{Ready, Gap, Await, Cr, Hearing, Sc, Sr, Tc, Tr, Settling}
+use Rattle.supervisor.specs.Names.{Valid, Exception}
+use Rattle.supervisor.specs.Phases.{Row, row, ntuPhases, ltuPhases, phasesOf, rowOf, inAttempt, counts}
+use Rattle.supervisor.specs.Rules.{heard, acted, among, here, moved}
+use Rattle.supervisor.specs.Step.{stateRefusals, stepOf}
 use Rattle.supervisor.proofs.Laws.{by-cases}
-use Rattle.startup.specs.Attempts.{one}
+use Rattle.startup.specs.Reports.{one}
 use Rattle.startup.proofs.Counts.{and-left, and-right}
 
 -- a state by its numbers
@@ -192,7 +194,7 @@ not-among x (y ∷ ys) h s =
     let z : y ≤ 8 = leb-true y 8 (and-left (leb y 8) (small ys) s) in
     rw (ne-eqb x y (λ q. omega arith), not-among x ys h (and-right (leb y 8) (small ys) s))
 
-table-small : (b : Bool) (silence : ℕ) → smalls (cond b (ntu silence) (ltu silence)) ≡ true
+table-small : (b : Bool) (silence : ℕ) → smalls (cond b (ntuPhases silence) (ltuPhases silence)) ≡ true
 table-small true silence = refl
 table-small false silence = refl
 

@@ -7,7 +7,8 @@ use mathlib.Core.Bool.{Bool, true, false, cond, _&&_}
 use borrow.Author.Tests.{leb-true, leb-false, le-leb, lt-leb, eq-eqb, ne-eqb}
 use lib.Dec.{leb, eqb}
 use Rattle.supervisor.proofs.Laws.{by-cases}
-use Rattle.startup.specs.Attempts.{at, one, count, Need, need, reported, shown, Needs, InTime}
+use Rattle.startup.specs.Reports.{at, one, count, Need, need, reported, shown}
+use Rattle.startup.specs.Attempts.{Needs, InTime}
 use Rattle.startup.specs.Scan.{without, less, empty, nothing, Stand, ready, told, trying, settled, silent, onward, scanned}
 use Rattle.startup.proofs.Counts.{count-step, count-self}
 use Rattle.startup.proofs.History.{reached-le}

@@ -9,11 +9,14 @@ use lib.Dec.{leb, eqb, leb·zero}
 use lib.ListN.{take}
 use Rattle.answer.specs.Answer.{answer}
 use Rattle.supervisor.specs.declared.Supervisor.{Supervisor}
-use Rattle.supervisor.specs.Phases.{Ready, Gap, Await, Cr, Hearing, Quiet, Sc, Sr, Tc}
-use Rattle.supervisor.specs.Phases.{Tr, Fc, Settling, Valid, Exception, row, phasesOf, isOf, inAttempt, counts}
-use Rattle.supervisor.specs.Step.{among, acted, moved, stateRefusals, stepOf, fresh}
+use Rattle.supervisor.specs.Names.{Ready, Gap, Await, Cr, Hearing, Quiet, Sc, Sr, Tc}
+use Rattle.supervisor.specs.Names.{Tr, Fc, Settling, Valid, Exception}
+use Rattle.supervisor.specs.Phases.{row, phasesOf, isOf, inAttempt, counts}
+use Rattle.supervisor.specs.Rules.{among, acted, moved}
+use Rattle.supervisor.specs.Step.{stateRefusals, stepOf, fresh}
 use Rattle.supervisor.proofs.Laws.{by-cases}
-use Rattle.startup.specs.Attempts.{at, one, count, Need, need, shown, Needs, ntuNeeds, ltuNeeds, all, InTime}
+use Rattle.startup.specs.Reports.{at, one, count, Need, need, shown}
+use Rattle.startup.specs.Attempts.{Needs, ntuNeeds, ltuNeeds, all, InTime}
 use Rattle.startup.specs.Make.{steps}
 use Rattle.startup.proofs.Counts.{upto-mono, count-self, count-mono, count-step}
 use Rattle.startup.proofs.History.{Reached, begun, went, reached-le, Real, AllReal}

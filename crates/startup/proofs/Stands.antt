@@ -9,10 +9,12 @@ use mathlib.Core.Bool.{Bool, true, false, cond, false≢true}
 use lib.Dec.{leb}
 use Rattle.supervisor.specs.declared.Supervisor.{Supervisor}
 use Rattle.supervisor.specs.Limits.{settlingTicks}
-use Rattle.supervisor.specs.Phases.{Ready, Settling, Valid, Exception, inAttempt}
+use Rattle.supervisor.specs.Names.{Ready, Settling, Valid, Exception}
+use Rattle.supervisor.specs.Phases.{inAttempt}
 use Rattle.supervisor.specs.Step.{fresh}
 use Rattle.supervisor.proofs.Laws.{by-cases}
-use Rattle.startup.specs.Attempts.{at, one, count, Need, shown, InOrder, FirstLacking, Needs, ntuNeeds}
+use Rattle.startup.specs.Reports.{at, one, count, Need, shown, InOrder, FirstLacking}
+use Rattle.startup.specs.Attempts.{Needs, ntuNeeds}
 use Rattle.startup.specs.Attempts.{ltuNeeds, needsOf, meant, all, InTime, StillOpen, EndsInData, SilenceBegins, OpensAt}
 use Rattle.startup.specs.Stands.{Stands, ready, waiting, trying, settling, valid, silent, Exactly}
 use Rattle.startup.specs.Make.{after, answerTo, Taken}

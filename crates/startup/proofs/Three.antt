@@ -12,10 +12,13 @@ use Rattle.answer.specs.Answer.{answer}
 use Rattle.supervisor.specs.declared.Supervisor.{Supervisor}
 use Rattle.supervisor.specs.declared.Answer.{Answer}
 use Rattle.supervisor.specs.Limits.{attemptTicks}
-use Rattle.supervisor.specs.Phases.{Ready, Gap, Await, Cr, Hearing, Settling, Valid, Exception, phasesOf, isOf, inAttempt}
-use Rattle.supervisor.specs.Step.{moved, stateRefusals, answered as answeredOf, stepOf, fresh, startOf}
+use Rattle.supervisor.specs.Names.{Ready, Gap, Await, Cr, Hearing, Settling, Valid, Exception}
+use Rattle.supervisor.specs.Phases.{phasesOf, isOf, inAttempt}
+use Rattle.supervisor.specs.Rules.{moved}
+use Rattle.supervisor.specs.Step.{stateRefusals, answered as answeredOf, stepOf, fresh, startOf}
 use Rattle.supervisor.proofs.Laws.{by-cases, clash}
-use Rattle.startup.specs.Attempts.{at, one, count, Need, shown, Needs, meant, all, StillOpen, EndsInData, EndsInException, OpensAt}
+use Rattle.startup.specs.Reports.{at, one, count, Need, shown}
+use Rattle.startup.specs.Attempts.{Needs, meant, all, StillOpen, EndsInData, EndsInException, OpensAt}
 use Rattle.startup.specs.Make.{after, answerTo, Enters, FirstShows, Taken, ours}
 use Rattle.startup.proofs.Counts.{count-self, shown-less}
 use Rattle.startup.proofs.History.{Reached, begun, went, reached-le, not-all}

@@ -9,7 +9,8 @@ use mathlib.Core.Bool.{Bool, true, false, cond}
 use borrow.Author.Tests.{leb-true, leb-false, le-leb, lt-leb, eq-eqb, eqb-true}
 use lib.Dec.{leb, eqb}
 use Rattle.supervisor.proofs.Laws.{clash}
-use Rattle.startup.specs.Attempts.{at, count, Need, shown, Completes, InOrder, Needs, all, InTime}
+use Rattle.startup.specs.Reports.{at, count, Need, shown, Completes, InOrder}
+use Rattle.startup.specs.Attempts.{Needs, all, InTime}
 use Rattle.startup.specs.Attempts.{ReadyAt, fresh, rested, CountedOne, counted, OpensAt, opens, SilenceBegins, abnormal, late}
 use Rattle.startup.proofs.Counts.{calm-more, calm-less, calm-last, count-self, count-mono, shown-less, in-order-le}
 use Rattle.startup.proofs.History.{Reached, begun, went, Real, AllReal, reached-le, whole-from, last, find, not-all}

@@ -1,3 +1,4 @@
+pub mod Reports
 pub mod Attempts
 pub mod Stands
 pub mod Run

@@ -7,9 +7,9 @@ use lib.ListN.{length, take}
 use Rattle.supervisor.specs.declared.Supervisor.{Supervisor}
 use Rattle.supervisor.specs.declared.Answer.{Answer}
 use Rattle.supervisor.specs.Limits.{shortestSilence, longestSilence}
-use Rattle.supervisor.specs.Phases.{Settling, Exception}
+use Rattle.supervisor.specs.Names.{Settling, Exception}
 use Rattle.supervisor.specs.Step.{startOf, stepOf}
-use Rattle.startup.specs.Attempts.{at}
+use Rattle.startup.specs.Reports.{at}
 use Rattle.startup.specs.Run.{runOf}
 use Rattle.startup.specs.Scan.{Attempt}
 

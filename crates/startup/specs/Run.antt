@@ -5,7 +5,8 @@ use mathlib.Core.List.{List, [], _∷_}
 use lib.Dec.{eqb, ltb}
 use Rattle.answer.specs.Answer.{answer, held}
 use Rattle.supervisor.specs.declared.Supervisor.{Supervisor}
-use Rattle.supervisor.specs.Phases.{Settling, inAttempt}
+use Rattle.supervisor.specs.Names.{Settling}
+use Rattle.supervisor.specs.Phases.{inAttempt}
 use Rattle.supervisor.specs.Step.{stateRefusals, stepOf}
 use Rattle.startup.specs.declared.Run.{Run}
 

@@ -6,7 +6,8 @@ use mathlib.Core.Logic.{_⊎_}
 use mathlib.Core.List.{List, [], _∷_}
 use lib.Dec.{eqb, ltb}
 use Rattle.supervisor.specs.Limits.{attemptTicks}
-use Rattle.startup.specs.Attempts.{Need, need, Needs, StillOpen, EndsInData, EndsInException, OpensAt}
+use Rattle.startup.specs.Reports.{Need, need}
+use Rattle.startup.specs.Attempts.{Needs, StillOpen, EndsInData, EndsInException, OpensAt}
 
 -- an attempt: the place of the code that opened it, how it ended (1 still open, 2 data mode, 3 exception), and the place of the code that ended it, else 0
 pub record Attempt : Type 0 where

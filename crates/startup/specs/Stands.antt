@@ -5,8 +5,10 @@ use mathlib.Core.Path.{_≡_}
 use mathlib.Core.Bool.{true, false}
 use mathlib.Core.Logic.{_↔_}
 use mathlib.Core.List.{List}
-use Rattle.supervisor.specs.Phases.{Ready, Settling, Valid, Exception, inAttempt}
-use Rattle.startup.specs.Attempts.{count, Need, shown, FirstLacking, Needs, all, StillOpen, EndsInData, ReadyAt, SilenceBegins, CountedOne, OpensAt}
+use Rattle.supervisor.specs.Names.{Ready, Settling, Valid, Exception}
+use Rattle.supervisor.specs.Phases.{inAttempt}
+use Rattle.startup.specs.Reports.{count, Need, shown, FirstLacking}
+use Rattle.startup.specs.Attempts.{Needs, all, StillOpen, EndsInData, ReadyAt, SilenceBegins, CountedOne, OpensAt}
 
 -- at the moment n the list l says this phase and these ticks, for an end that needs k
 pub data Stands (k : Needs) (l : List ℕ) (n : ℕ) : ℕ → ℕ → Type 0 where

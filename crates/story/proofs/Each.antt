@@ -9,12 +9,14 @@ use native.Mathlib.Omega.{arith}
 use borrow.Author.Tests.{ne-eqb, eqb-true}
 use lib.Dec.{eqb}
 use Rattle.supervisor.specs.declared.Supervisor.{Supervisor}
-use Rattle.supervisor.specs.Phases.{Settling, inAttempt}
+use Rattle.supervisor.specs.Names.{Settling}
+use Rattle.supervisor.specs.Phases.{inAttempt}
 use Rattle.supervisor.specs.Step.{fresh}
 use Rattle.supervisor.specs.Step.{startOf as supervisorStart}
 use Rattle.supervisor.proofs.Laws.{clash}
 use Rattle.startup.specs.Run.{eventOf as attemptEvent}
-use Rattle.startup.specs.Attempts.{at, one, count, Needs, needsOf, meant, StillOpen, EndsInData, EndsInException, OpensAt}
+use Rattle.startup.specs.Reports.{at, one, count}
+use Rattle.startup.specs.Attempts.{Needs, needsOf, meant, StillOpen, EndsInData, EndsInException, OpensAt}
 use Rattle.startup.specs.Make.{Taken, after}
 use Rattle.startup.proofs.Counts.{count-step}
 use Rattle.startup.proofs.Unique.{Sound}

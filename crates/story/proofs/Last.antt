@@ -9,10 +9,12 @@ use native.Mathlib.Omega.{arith}
 use borrow.Author.Tests.{ltb-true, ltb-false, eqb-true, eqb-false}
 use lib.Dec.{eqb, ltb}
 use Rattle.supervisor.specs.declared.Supervisor.{Supervisor}
-use Rattle.supervisor.specs.Phases.{Settling, inAttempt}
+use Rattle.supervisor.specs.Names.{Settling}
+use Rattle.supervisor.specs.Phases.{inAttempt}
 use Rattle.supervisor.specs.Step.{startOf as supervisorStart}
 use Rattle.startup.specs.Run.{eventOf as attemptEvent}
-use Rattle.startup.specs.Attempts.{at, upto, Needs, needsOf, meant}
+use Rattle.startup.specs.Reports.{at, upto}
+use Rattle.startup.specs.Attempts.{Needs, needsOf, meant}
 use Rattle.startup.specs.Make.{Taken, after}
 use Rattle.story.specs.declared.Outcome.{Outcome}
 use Rattle.story.specs.Events.{outcome, noOutcome, sinceOpening}

@@ -11,7 +11,7 @@ use Rattle.supervisor.specs.declared.Supervisor.{Supervisor}
 use Rattle.supervisor.specs.declared.Answer.{Answer}
 use Rattle.supervisor.specs.Step.{stepOf, stateRefusals}
 use Rattle.supervisor.proofs.Laws.{legal}
-use Rattle.startup.specs.Attempts.{one}
+use Rattle.startup.specs.Reports.{one}
 use Rattle.startup.specs.Run.{eventOf as attemptEvent}
 use Rattle.story.specs.declared.Outcome.{Outcome}
 use Rattle.story.specs.declared.Story.{Story}

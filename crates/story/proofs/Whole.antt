@@ -18,7 +18,8 @@ use Rattle.supervisor.specs.Step.{startOf as supervisorStart}
 use Rattle.startup.specs.declared.Run.{Run}
 use Rattle.startup.specs.Run.{goesOn, opens, ends, noted, takenOf, runFrom, begun}
 use Rattle.startup.specs.Run.{eventOf as attemptEvent}
-use Rattle.startup.specs.Attempts.{at, one, upto, count, Needs, needsOf, meant, StillOpen, OpensAt}
+use Rattle.startup.specs.Reports.{at, one, upto, count}
+use Rattle.startup.specs.Attempts.{Needs, needsOf, meant, StillOpen, OpensAt}
 use Rattle.startup.specs.Make.{Taken, steps, after}
 use Rattle.startup.specs.Scan.{Attempt}
 use Rattle.startup.specs.Scan.{attempts as attemptsOf}

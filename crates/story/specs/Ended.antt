@@ -4,7 +4,8 @@ use mathlib.Core.Path.{_≡_}
 use mathlib.Core.Logic.{_⊎_}
 use mathlib.Core.List.{List}
 use Rattle.supervisor.specs.declared.Supervisor.{Supervisor}
-use Rattle.startup.specs.Attempts.{at, upto, count, Needs, EndsInData, EndsInException, OpensAt}
+use Rattle.startup.specs.Reports.{at, upto, count}
+use Rattle.startup.specs.Attempts.{Needs, EndsInData, EndsInException, OpensAt}
 use Rattle.startup.specs.Make.{after}
 use Rattle.story.specs.declared.Outcome.{Outcome}
 

@@ -9,7 +9,7 @@ use Rattle.supervisor.specs.declared.Answer.{Answer}
 use Rattle.supervisor.specs.Phases.{inAttempt}
 use Rattle.supervisor.specs.Step.{stepOf}
 use Rattle.supervisor.specs.Step.{startOf as supervisorStart}
-use Rattle.startup.specs.Attempts.{one}
+use Rattle.startup.specs.Reports.{one}
 use Rattle.startup.specs.Run.{eventOf as attemptEvent}
 use Rattle.story.specs.declared.Outcome.{Outcome}
 use Rattle.story.specs.declared.Story.{Story}

@@ -7,7 +7,8 @@ use mathlib.Core.List.{List}
 use lib.ListN.{length}
 use Rattle.supervisor.specs.Phases.{inAttempt}
 use Rattle.supervisor.specs.Step.{startOf as supervisorStart}
-use Rattle.startup.specs.Attempts.{upto, count, needsOf, meant, StillOpen, EndsInData, EndsInException, OpensAt}
+use Rattle.startup.specs.Reports.{upto, count}
+use Rattle.startup.specs.Attempts.{needsOf, meant, StillOpen, EndsInData, EndsInException, OpensAt}
 use Rattle.startup.specs.Make.{steps, after}
 use Rattle.startup.specs.Scan.{attempts as attemptsOf}
 use Rattle.story.specs.declared.Story.{Story}

@@ -3,7 +3,7 @@ ghost use mathlib.Core.Path.{_≡_};
 ghost use mathlib.Core.Bool.{cond};
 ghost use Prim.Native.Nat.{_≤_, _<_};
 ghost use lib.Dec.{eqb, ltb};
-ghost use Rattle.startup.specs.Attempts.{one};
+ghost use Rattle.startup.specs.Reports.{one};
 ghost use Rattle.story.specs.Events.{most, outcome, beginning, refusedWith, kindOf, sinceOpening, numberOf, told};
 ghost use Rattle.story.specs.Events.{startOf, eventOf};
 use startup::Run;

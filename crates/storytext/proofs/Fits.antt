@@ -11,7 +11,8 @@ use Rattle.ascii.specs.Promises.{Put}
 use Rattle.ascii.proofs.Numbers.{decimal-length}
 use Rattle.ascii.proofs.Room.{told, told-whole}
 use Rattle.supervisor.specs.declared.Supervisor.{Supervisor}
-use Rattle.supervisor.specs.Phases.{Ready, Gap, Await, Cr, Hearing, Quiet, Sc, Sr, Tc, Tr, Fc, Settling, Valid, Exception, inAttempt}
+use Rattle.supervisor.specs.Names.{Ready, Gap, Await, Cr, Hearing, Quiet, Sc, Sr, Tc, Tr, Fc, Settling, Valid, Exception}
+use Rattle.supervisor.specs.Phases.{inAttempt}
 use Rattle.story.specs.declared.Outcome.{Outcome}
 use Rattle.story.specs.declared.Story.{Story}
 use Rattle.story.specs.declared.Event.{Event}

@@ -11,8 +11,10 @@ use lib.Dec.{eqb}
 use Rattle.answer.specs.Answer.{answer}
 use Rattle.ascii.specs.Text.{decimal, decimalIn}
 use Rattle.supervisor.specs.declared.Supervisor.{Supervisor}
-use Rattle.supervisor.specs.Phases.{Ready, Exception, Row, row, ntu, ltu, phasesOf, isOf, rowOf}
-use Rattle.supervisor.specs.Step.{stateRefusals, here}
+use Rattle.supervisor.specs.Names.{Ready, Exception}
+use Rattle.supervisor.specs.Phases.{Row, row, ntuPhases, ltuPhases, phasesOf, isOf, rowOf}
+use Rattle.supervisor.specs.Rules.{here}
+use Rattle.supervisor.specs.Step.{stateRefusals}
 use Rattle.supervisor.proofs.Laws.{legal}
 use Rattle.phrases.specs.Phrases.{thousandths}
 use Rattle.storytext.specs.Events.{seconds, reportName, nameOf, phaseText}
@@ -33,11 +35,11 @@ exception-told : (end silence : ℕ) → phaseText (inPhase end silence Exceptio
 unfolding phaseText ruleText
 exception-told end silence = simp append-assoc
 
-ntu-told : (silence : ℕ) → AllTold 1 silence (ntu silence)
+ntu-told : (silence : ℕ) → AllTold 1 silence (ntuPhases silence)
 unfolding phaseText nameOf ruleText awaitsText reportName seconds thousandths decimal decimalIn
 ntu-told silence = (refl, (refl, (refl, (refl, (refl, (refl, (refl, (refl, (exception-told 1 silence, tt)))))))))
 
-ltu-told : (silence : ℕ) → AllTold 0 silence (ltu silence)
+ltu-told : (silence : ℕ) → AllTold 0 silence (ltuPhases silence)
 unfolding phaseText nameOf ruleText awaitsText reportName seconds thousandths decimal decimalIn
 ltu-told silence = (refl, (refl, (refl, (refl, (refl, (refl, (refl, (refl, (refl, (exception-told 0 silence, tt))))))))))
 
@@ -66,8 +68,8 @@ told-by-row s h = let w = legal s h in go (s .end) (w .known) (w .of)
     go : (e : ℕ) → e ≤ 1 → Told e
     go e k =
         ⊎-elim
-        (λ q. subst Told (sym q) (pick 1 (s .silence) (s .phase) (ntu (s .silence)) (ntu-told (s .silence))))
-        (λ z. let q : e ≡ 0 = omega arith in subst Told (sym q) (pick 0 (s .silence) (s .phase) (ltu (s .silence)) (ltu-told (s .silence))))
+        (λ q. subst Told (sym q) (pick 1 (s .silence) (s .phase) (ntuPhases (s .silence)) (ntu-told (s .silence))))
+        (λ z. let q : e ≡ 0 = omega arith in subst Told (sym q) (pick 0 (s .silence) (s .phase) (ltuPhases (s .silence)) (ltu-told (s .silence))))
         (eq-or-lt-of-le k)
 
 -- and what is told as left of a phase outside an attempt is counted from its row's limit
@@ -75,10 +77,10 @@ pub left-by-row : (s : Supervisor) → answer (stateRefusals s) ≡ 0 → (s .ph
     → lasts (s .silence) (s .phase) ≡ here s .lasts
 left-by-row s h = go (s .phase) (eqb (s .end) 1) (legal s h .of)
   where
-    go : (p : ℕ) (b : Bool) → isOf p (cond b (ntu (s .silence)) (ltu (s .silence))) ≡ true → (p ≡ 1) ⊎ ((p ≡ 11) ⊎ (p ≡ 13))
-        → lasts (s .silence) p ≡ rowOf p (cond b (ntu (s .silence)) (ltu (s .silence))) .lasts
+    go : (p : ℕ) (b : Bool) → isOf p (cond b (ntuPhases (s .silence)) (ltuPhases (s .silence))) ≡ true → (p ≡ 1) ⊎ ((p ≡ 11) ⊎ (p ≡ 13))
+        → lasts (s .silence) p ≡ rowOf p (cond b (ntuPhases (s .silence)) (ltuPhases (s .silence))) .lasts
     go p true k (inl q) = rw q
-    go p false k (inl q) = absurd (false≢true (ap (λ (x : ℕ). isOf x (ltu (s .silence))) (sym q) ∙ k))
+    go p false k (inl q) = absurd (false≢true (ap (λ (x : ℕ). isOf x (ltuPhases (s .silence))) (sym q) ∙ k))
     go p true k (inr (inl q)) = rw q
     go p false k (inr (inl q)) = rw q
     go p true k (inr (inr q)) = rw q

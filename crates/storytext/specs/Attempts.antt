@@ -6,7 +6,7 @@ use lib.Dec.{eqb}
 use Rattle.ascii.specs.Text.{text}
 use Rattle.supervisor.specs.declared.Supervisor.{Supervisor}
 use Rattle.supervisor.specs.Limits.{attemptTicks}
-use Rattle.supervisor.specs.Phases.{Cr, Hearing, Quiet, Sc, Sr, Tc, Tr, Fc}
+use Rattle.supervisor.specs.Names.{Cr, Hearing, Quiet, Sc, Sr, Tc, Tr, Fc}
 use Rattle.story.specs.declared.Outcome.{Outcome}
 use Rattle.story.specs.declared.Story.{Story}
 use Rattle.storytext.specs.Events.{numbered, seconds}

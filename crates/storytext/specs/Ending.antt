@@ -7,7 +7,8 @@ use lib.Dec.{eqb}
 use Rattle.ascii.specs.Text.{text, decimal}
 use Rattle.supervisor.specs.declared.Supervisor.{Supervisor}
 use Rattle.supervisor.specs.Limits.{gapTicks, settlingTicks}
-use Rattle.supervisor.specs.Phases.{Ready, Gap, Await, Settling, Valid, Exception, inAttempt}
+use Rattle.supervisor.specs.Names.{Ready, Gap, Await, Settling, Valid, Exception}
+use Rattle.supervisor.specs.Phases.{inAttempt}
 use Rattle.story.specs.declared.Story.{Story}
 use Rattle.storytext.specs.Events.{numbered, seconds, ticksText}
 use Rattle.storytext.specs.Attempts.{tryingText, outcomeText}

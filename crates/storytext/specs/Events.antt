@@ -7,7 +7,7 @@ use lib.Dec.{eqb}
 use Rattle.ascii.specs.Text.{text, decimal}
 use Rattle.phrases.specs.Phrases.{thousandths}
 use Rattle.supervisor.specs.declared.Supervisor.{Supervisor}
-use Rattle.supervisor.specs.Phases.{Ready, Gap, Await, Cr, Hearing, Quiet, Sc, Sr, Tc, Tr, Fc, Settling, Valid, Exception}
+use Rattle.supervisor.specs.Names.{Ready, Gap, Await, Cr, Hearing, Quiet, Sc, Sr, Tc, Tr, Fc, Settling, Valid, Exception}
 use Rattle.story.specs.declared.Event.{Event}
 
 -- ---- numbers

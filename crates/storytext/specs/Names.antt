@@ -6,7 +6,8 @@ use mathlib.Core.List.{List, [], _∷_, _++_}
 use lib.Dec.{eqb}
 use lib.ListN.{getD}
 use Rattle.ascii.specs.Text.{text}
-use Rattle.supervisor.specs.Phases.{Exception, Row}
+use Rattle.supervisor.specs.Names.{Exception}
+use Rattle.supervisor.specs.Phases.{Row}
 use Rattle.storytext.specs.Events.{seconds, codeName}
 
 -- the phases' names, by number

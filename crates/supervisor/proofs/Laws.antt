@@ -12,8 +12,10 @@ use Rattle.answer.specs.Answer.{refuse, answer}
 use Rattle.answer.proofs.Laws.{none}
 use Rattle.supervisor.specs.declared.Supervisor.{Supervisor}
 use Rattle.supervisor.specs.declared.Answer.{Answer}
-use Rattle.supervisor.specs.Phases.{Ready, Row, ntu, ltu, phasesOf, isOf, rowOf}
-use Rattle.supervisor.specs.Step.{acted, moved, stateRefusals, answered, stepOf, none as noState, silenceOf, startRefusals, fresh, startOf}
+use Rattle.supervisor.specs.Names.{Ready}
+use Rattle.supervisor.specs.Phases.{Row, ntuPhases, ltuPhases, phasesOf, isOf, rowOf}
+use Rattle.supervisor.specs.Rules.{acted, moved}
+use Rattle.supervisor.specs.Step.{stateRefusals, answered, stepOf, none as noState, silenceOf, startRefusals, fresh, startOf}
 
 -- the same either way
 pub same-both : {A : Type 0} (b : Bool) (x : A) → cond b x x ≡ x
@@ -89,13 +91,13 @@ each P a b c d e f g h i j k l m n p le =
     top n z = eq-or-lt-of-le z
 
 -- no end has a phase over 13
-beyond : (p : ℕ) (b : Bool) (silence : ℕ) → 13 < p → isOf p (cond b (ntu silence) (ltu silence)) ≡ false
+beyond : (p : ℕ) (b : Bool) (silence : ℕ) → 13 < p → isOf p (cond b (ntuPhases silence) (ltuPhases silence)) ≡ false
 beyond p b silence h = go b
   where
     no : (k : ℕ) → k ≤ 13 → eqb p k ≡ false
     no k i = ne-eqb p k (λ q. omega arith)
 
-    go : (b : Bool) → isOf p (cond b (ntu silence) (ltu silence)) ≡ false
+    go : (b : Bool) → isOf p (cond b (ntuPhases silence) (ltuPhases silence)) ≡ false
     go true =
         simp (
           no 0 (omega arith),
@@ -125,19 +127,19 @@ beyond p b silence h = go b
         )
 
 -- what each end's phases are, by number
-pub of-ntu : (b : Bool) (silence p : ℕ) → (p ≡ 1) ⊎ ((p ≡ 3) ⊎ ((p ≡ 7) ⊎ (p ≡ 9))) → b ≡ isOf p (cond b (ntu silence) (ltu silence))
+pub of-ntu : (b : Bool) (silence p : ℕ) → (p ≡ 1) ⊎ ((p ≡ 3) ⊎ ((p ≡ 7) ⊎ (p ≡ 9))) → b ≡ isOf p (cond b (ntuPhases silence) (ltuPhases silence))
 of-ntu true silence p h = ⊎-elim (λ q. rw q) (⊎-elim (λ q. rw q) (⊎-elim (λ q. rw q) (λ q. rw q))) h
 of-ntu false silence p h = ⊎-elim (λ q. rw q) (⊎-elim (λ q. rw q) (⊎-elim (λ q. rw q) (λ q. rw q))) h
 
-pub of-ltu : (b : Bool) (silence p : ℕ) → (p ≡ 2) ⊎ ((p ≡ 4) ⊎ ((p ≡ 6) ⊎ ((p ≡ 8) ⊎ (p ≡ 10)))) → not b ≡ isOf p (cond b (ntu silence) (ltu silence))
+pub of-ltu : (b : Bool) (silence p : ℕ) → (p ≡ 2) ⊎ ((p ≡ 4) ⊎ ((p ≡ 6) ⊎ ((p ≡ 8) ⊎ (p ≡ 10)))) → not b ≡ isOf p (cond b (ntuPhases silence) (ltuPhases silence))
 of-ltu true silence p h = ⊎-elim (λ q. rw q) (⊎-elim (λ q. rw q) (⊎-elim (λ q. rw q) (⊎-elim (λ q. rw q) (λ q. rw q)))) h
 of-ltu false silence p h = ⊎-elim (λ q. rw q) (⊎-elim (λ q. rw q) (⊎-elim (λ q. rw q) (⊎-elim (λ q. rw q) (λ q. rw q)))) h
 
 of-both : (b : Bool) (silence p : ℕ) → p ≤ 13 → ((p ≡ 1) ⊎ ((p ≡ 3) ⊎ ((p ≡ 7) ⊎ (p ≡ 9))) → ⊥)
-    → ((p ≡ 2) ⊎ ((p ≡ 4) ⊎ ((p ≡ 6) ⊎ ((p ≡ 8) ⊎ (p ≡ 10)))) → ⊥) → true ≡ isOf p (cond b (ntu silence) (ltu silence))
+    → ((p ≡ 2) ⊎ ((p ≡ 4) ⊎ ((p ≡ 6) ⊎ ((p ≡ 8) ⊎ (p ≡ 10)))) → ⊥) → true ≡ isOf p (cond b (ntuPhases silence) (ltuPhases silence))
 of-both b silence p h =
     each (λ p. ((p ≡ 1) ⊎ ((p ≡ 3) ⊎ ((p ≡ 7) ⊎ (p ≡ 9))) → ⊥) → ((p ≡ 2) ⊎ ((p ≡ 4) ⊎ ((p ≡ 6) ⊎ ((p ≡ 8) ⊎ (p ≡ 10)))) → ⊥)
-    → true ≡ isOf p (cond b (ntu silence) (ltu silence)))
+    → true ≡ isOf p (cond b (ntuPhases silence) (ltuPhases silence)))
     (λ n l. go b 0 refl refl)
     (λ n l. absurd (n (inl refl))) (λ n l. absurd (l (inl refl))) (λ n l. absurd (n (inr (inl refl)))) (λ n l. absurd (l (inr (inl refl))))
     (λ n l. go b 5 refl refl)
@@ -146,17 +148,17 @@ of-both b silence p h =
     (λ n l. go b 11 refl refl) (λ n l. go b 12 refl refl) (λ n l. go b 13 refl refl)
     p h
   where
-    go : (b : Bool) (k : ℕ) → true ≡ isOf k (ntu silence) → true ≡ isOf k (ltu silence) → true ≡ isOf k (cond b (ntu silence) (ltu silence))
+    go : (b : Bool) (k : ℕ) → true ≡ isOf k (ntuPhases silence) → true ≡ isOf k (ltuPhases silence) → true ≡ isOf k (cond b (ntuPhases silence) (ltuPhases silence))
     go true k n l = n
     go false k n l = l
 
 pub of-rest : (b : Bool) (silence p : ℕ) → ((p ≡ 1) ⊎ ((p ≡ 3) ⊎ ((p ≡ 7) ⊎ (p ≡ 9))) → ⊥)
-    → ((p ≡ 2) ⊎ ((p ≡ 4) ⊎ ((p ≡ 6) ⊎ ((p ≡ 8) ⊎ (p ≡ 10)))) → ⊥) → leb p 13 ≡ isOf p (cond b (ntu silence) (ltu silence))
+    → ((p ≡ 2) ⊎ ((p ≡ 4) ⊎ ((p ≡ 6) ⊎ ((p ≡ 8) ⊎ (p ≡ 10)))) → ⊥) → leb p 13 ≡ isOf p (cond b (ntuPhases silence) (ltuPhases silence))
 of-rest b silence p n l =
     by-cases (leb p 13) (λ t. t ∙ of-both b silence p (leb-true _ _ t) n l) (λ f. f ∙ sym (beyond p b silence (leb-false _ _ f)))
 
 -- an end's phase is at most 13
-pub within : (p : ℕ) (b : Bool) (silence : ℕ) → isOf p (cond b (ntu silence) (ltu silence)) ≡ true → p ≤ 13
+pub within : (p : ℕ) (b : Bool) (silence : ℕ) → isOf p (cond b (ntuPhases silence) (ltuPhases silence)) ≡ true → p ≤ 13
 within p b silence h = by-cases (leb p 13) (λ t. leb-true _ _ t) (λ f. clash _ h (beyond p b silence (leb-false _ _ f)))
 
 -- p is none of the numbers below n, as a match that has them all says
@@ -174,7 +176,7 @@ of-end s p at taken = sym (ap (λ (k : ℕ). isOf k (phasesOf (s .end) (s .silen
 
 -- a rule that goes by the end is that of the end's row
 acts-by-end : (b : Bool) (s : Supervisor) (c p silence : ℕ)
-    → cond b (acted (rowOf p (ntu silence)) s c) (acted (rowOf p (ltu silence)) s c) ≡ acted (rowOf p (cond b (ntu silence) (ltu silence))) s c
+    → cond b (acted (rowOf p (ntuPhases silence)) s c) (acted (rowOf p (ltuPhases silence)) s c) ≡ acted (rowOf p (cond b (ntuPhases silence) (ltuPhases silence))) s c
 acts-by-end true s c p silence = refl
 acts-by-end false s c p silence = refl
 
@@ -184,30 +186,30 @@ module _ (s : Supervisor) (c p : ℕ) {x : Supervisor} (at : s .phase ≡ p) (ta
   by-row e = e ∙ ap (λ (k : ℕ). acted (rowOf k (phasesOf (s .end) (s .silence))) s c) (sym at)
 
   -- a phase whose rule goes by the end
-  pub by-end : x ≡ cond (eqb (s .end) 1) (acted (rowOf p (ntu (s .silence))) s c) (acted (rowOf p (ltu (s .silence))) s c) → x ≡ moved s c
+  pub by-end : x ≡ cond (eqb (s .end) 1) (acted (rowOf p (ntuPhases (s .silence))) s c) (acted (rowOf p (ltuPhases (s .silence))) s c) → x ≡ moved s c
   by-end e = by-row (e ∙ acts-by-end (eqb (s .end) 1) s c p (s .silence))
 
   -- a phase that both ends have, with the same row; one of the NTU alone; one of the LTU alone
-  pub by-either : rowOf p (ltu (s .silence)) ≡ rowOf p (ntu (s .silence)) → x ≡ acted (rowOf p (ntu (s .silence))) s c → x ≡ moved s c
+  pub by-either : rowOf p (ltuPhases (s .silence)) ≡ rowOf p (ntuPhases (s .silence)) → x ≡ acted (rowOf p (ntuPhases (s .silence))) s c → x ≡ moved s c
   by-either q e = by-row (e ∙ ap (λ (r : Row). acted r s c) (go (eqb (s .end) 1)))
     where
-      go : (b : Bool) → rowOf p (ntu (s .silence)) ≡ rowOf p (cond b (ntu (s .silence)) (ltu (s .silence)))
+      go : (b : Bool) → rowOf p (ntuPhases (s .silence)) ≡ rowOf p (cond b (ntuPhases (s .silence)) (ltuPhases (s .silence)))
       go true = refl
       go false = sym q
 
-  pub by-ntu : isOf p (ltu (s .silence)) ≡ false → x ≡ acted (rowOf p (ntu (s .silence))) s c → x ≡ moved s c
+  pub by-ntu : isOf p (ltuPhases (s .silence)) ≡ false → x ≡ acted (rowOf p (ntuPhases (s .silence))) s c → x ≡ moved s c
   by-ntu f e = by-row (e ∙ ap (λ (r : Row). acted r s c) (go (eqb (s .end) 1) (of-end s p at taken)))
     where
-      go : (b : Bool) → isOf p (cond b (ntu (s .silence)) (ltu (s .silence))) ≡ true
-          → rowOf p (ntu (s .silence)) ≡ rowOf p (cond b (ntu (s .silence)) (ltu (s .silence)))
+      go : (b : Bool) → isOf p (cond b (ntuPhases (s .silence)) (ltuPhases (s .silence))) ≡ true
+          → rowOf p (ntuPhases (s .silence)) ≡ rowOf p (cond b (ntuPhases (s .silence)) (ltuPhases (s .silence)))
       go true h = refl
       go false h = clash _ h f
 
-  pub by-ltu : isOf p (ntu (s .silence)) ≡ false → x ≡ acted (rowOf p (ltu (s .silence))) s c → x ≡ moved s c
+  pub by-ltu : isOf p (ntuPhases (s .silence)) ≡ false → x ≡ acted (rowOf p (ltuPhases (s .silence))) s c → x ≡ moved s c
   by-ltu f e = by-row (e ∙ ap (λ (r : Row). acted r s c) (go (eqb (s .end) 1) (of-end s p at taken)))
     where
-      go : (b : Bool) → isOf p (cond b (ntu (s .silence)) (ltu (s .silence))) ≡ true
-          → rowOf p (ltu (s .silence)) ≡ rowOf p (cond b (ntu (s .silence)) (ltu (s .silence)))
+      go : (b : Bool) → isOf p (cond b (ntuPhases (s .silence)) (ltuPhases (s .silence))) ≡ true
+          → rowOf p (ltuPhases (s .silence)) ≡ rowOf p (cond b (ntuPhases (s .silence)) (ltuPhases (s .silence)))
       go true h = clash _ h f
       go false h = refl
 
@@ -231,7 +233,7 @@ module _ (s : Supervisor) (c : ℕ) where
 fresh-refusal : (end silence : ℕ) → answer (stateRefusals (fresh end (silenceOf silence))) ≡ answer (startRefusals end silence)
 fresh-refusal end silence = rw (ready (eqb end 1) (silenceOf silence))
   where
-    ready : (b : Bool) (silence : ℕ) → isOf Ready (cond b (ntu silence) (ltu silence)) ≡ true
+    ready : (b : Bool) (silence : ℕ) → isOf Ready (cond b (ntuPhases silence) (ltuPhases silence)) ≡ true
     ready true silence = refl
     ready false silence = refl
 

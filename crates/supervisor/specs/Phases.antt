@@ -4,64 +4,7 @@ use mathlib.Core.Bool.{Bool, false, cond, not, _&&_, _||_}
 use mathlib.Core.List.{List, [], _∷_}
 use lib.Dec.{leb, eqb}
 use Rattle.supervisor.specs.Limits.{gapTicks, crTicks, ntuQuietTicks, ltuQuietTicks, scTicks, settlingTicks}
-
--- THE PHASES BY NUMBER, in the order of a start-up
-
--- either end: waits for a 1
-abbrev pub Ready : ℕ
-Ready = 0
-
--- NTU: before the attempt
-abbrev pub Gap : ℕ
-Gap = 1
-
--- LTU: before the attempt
-abbrev pub Await : ℕ
-Await = 2
-
--- NTU: C_r, which opens the attempt
-abbrev pub Cr : ℕ
-Cr = 3
-
--- LTU: opens the attempt
-abbrev pub Hearing : ℕ
-Hearing = 4
-
--- either end, with a limit of its own
-abbrev pub Quiet : ℕ
-Quiet = 5
-
--- LTU: S_c
-abbrev pub Sc : ℕ
-Sc = 6
-
--- NTU: S_r
-abbrev pub Sr : ℕ
-Sr = 7
-
--- LTU: T_c
-abbrev pub Tc : ℕ
-Tc = 8
-
--- NTU: T_r, the attempt's last
-abbrev pub Tr : ℕ
-Tr = 9
-
--- LTU: F_c, the attempt's last
-abbrev pub Fc : ℕ
-Fc = 10
-
--- either end: data mode
-abbrev pub Settling : ℕ
-Settling = 11
-
--- either end
-abbrev pub Valid : ℕ
-Valid = 12
-
--- either end: silent
-abbrev pub Exception : ℕ
-Exception = 13
+use Rattle.supervisor.specs.Names.{Ready, Gap, Await, Cr, Hearing, Quiet, Sc, Sr, Tc, Tr, Fc, Settling, Valid, Exception}
 
 -- a phase, the ticks that it lasts, the reports that must come in it, and the phase that it then starts
 pub record Row : Type 0 where
@@ -76,8 +19,8 @@ row p t rs q = record { phase = p; lasts = t; awaits = rs; starts = q }
 
 -- "NTU: Ready; 1 starts Gap, 300 ticks; C_r, 1,000; Quiet, 1,500; S_r until both 4 and 5 have come, in either order, during S_r;
 -- T_r until 7; Settling, 1,000 ticks; Valid." Nothing but an 8 ends Valid. "After the silence the phase is Ready."
-abbrev pub ntu : ℕ → List Row
-ntu silence =
+abbrev pub ntuPhases : ℕ → List Row
+ntuPhases silence =
     row Ready 0 (1 ∷ []) Gap
     ∷ row Gap gapTicks [] Cr
     ∷ row Cr crTicks [] Quiet
@@ -91,8 +34,8 @@ ntu silence =
 
 -- "LTU: Ready; 1 starts Await; 2 starts Hearing; 3 starts Quiet, 500 ticks; S_c until it has lasted 5,000 ticks and 4 has come during it;
 -- T_c until 6; F_c until 7; Settling, 1,000; Valid."
-abbrev pub ltu : ℕ → List Row
-ltu silence =
+abbrev pub ltuPhases : ℕ → List Row
+ltuPhases silence =
     row Ready 0 (1 ∷ []) Await
     ∷ row Await 0 (2 ∷ []) Hearing
     ∷ row Hearing 0 (3 ∷ []) Quiet
@@ -107,7 +50,7 @@ ltu silence =
 
 -- the phases of an end, LTU 0 and NTU 1
 abbrev pub phasesOf : ℕ → ℕ → List Row
-phasesOf end silence = cond (eqb end 1) (ntu silence) (ltu silence)
+phasesOf end silence = cond (eqb end 1) (ntuPhases silence) (ltuPhases silence)
 
 -- whether a phase is one of these
 abbrev pub isOf : ℕ → List Row → Bool

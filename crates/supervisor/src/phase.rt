@@ -1,4 +1,4 @@
-// The phases of both ends by number, in the order of a start-up. An attempt is C_r to F_c. specs/Phases.antt has the same names.
+// The phases of both ends by number, in the order of a start-up. An attempt is C_r to F_c. specs/Names.antt has the same names.
 
 // Either end: waits for a 1.
 pub const READY: u32 = 0;

@@ -5,8 +5,10 @@ ghost use Prim.Native.Nat.{_+_, _≤_};
 ghost use lib.Dec.{leb, eqb};
 ghost use Rattle.answer.specs.Answer.{answer};
 ghost use Rattle.supervisor.specs.Limits.{attemptTicks, mostAttempt, mostTicks};
-ghost use Rattle.supervisor.specs.Phases.{Ready, Gap, Await, Cr, Hearing, Quiet, Sc, Sr, Tc, Tr, Fc, Settling, Valid, Exception, ntu, ltu, rowOf};
-ghost use Rattle.supervisor.specs.Step.{changed, entered, counted, acted, moved, stateRefusals};
+ghost use Rattle.supervisor.specs.Names.{Ready, Gap, Await, Cr, Hearing, Quiet, Sc, Sr, Tc, Tr, Fc, Settling, Valid, Exception};
+ghost use Rattle.supervisor.specs.Phases.{ntuPhases, ltuPhases, rowOf};
+ghost use Rattle.supervisor.specs.Rules.{changed, entered, counted, acted, moved};
+ghost use Rattle.supervisor.specs.Step.{stateRefusals};
 use crate::Supervisor;
 use crate::code;
 use crate::phase;
@@ -108,7 +110,7 @@ impl Supervisor {
     // Ready until 1, which starts Gap at the NTU and Await at the LTU.
     fn in_ready(self, code: u32) -> Supervisor
         ensures { λ r. ⌜ r ≡ cond (eqb (self .end) 1)
-            (acted (rowOf Ready (ntu (self .silence))) self code) (acted (rowOf Ready (ltu (self .silence))) self code) ⌝ }
+            (acted (rowOf Ready (ntuPhases (self .silence))) self code) (acted (rowOf Ready (ltuPhases (self .silence))) self code) ⌝ }
     {
         match code {
             code::PRE_ACTIVATED => if self.end == Self::NTU {
@@ -124,7 +126,7 @@ impl Supervisor {
     // NTU: Gap, 300 ticks.
     fn in_gap(self, code: u32) -> Supervisor
         requires { ⌜ self .ticks ≤ mostTicks ⌝ }
-        ensures { λ r. ⌜ r ≡ acted (rowOf Gap (ntu (self .silence))) self code ⌝ }
+        ensures { λ r. ⌜ r ≡ acted (rowOf Gap (ntuPhases (self .silence))) self code ⌝ }
     {
         match code {
             code::TICK => self.waited(Self::GAP, phase::C_R),
@@ -135,7 +137,7 @@ impl Supervisor {
 
     // LTU: Await until 2. The attempt opens with it.
     fn in_await(self, code: u32) -> Supervisor
-        ensures { λ r. ⌜ r ≡ acted (rowOf Await (ltu (self .silence))) self code ⌝ }
+        ensures { λ r. ⌜ r ≡ acted (rowOf Await (ltuPhases (self .silence))) self code ⌝ }
     {
         match code {
             code::C_R_BEGINS => self.entered(phase::HEARING, 0),
@@ -147,7 +149,7 @@ impl Supervisor {
     // NTU: C_r, 1,000 ticks.
     fn in_cr(self, code: u32) -> Supervisor
         requires { ⌜ (self .ticks ≤ mostTicks) × (self .attempt ≤ mostAttempt) ⌝ }
-        ensures { λ r. ⌜ r ≡ acted (rowOf Cr (ntu (self .silence))) self code ⌝ }
+        ensures { λ r. ⌜ r ≡ acted (rowOf Cr (ntuPhases (self .silence))) self code ⌝ }
     {
         match code {
             code::TICK => self.tried(true, Self::C_R, phase::QUIET),
@@ -159,7 +161,7 @@ impl Supervisor {
     // LTU: Hearing until 3.
     fn in_hearing(self, code: u32) -> Supervisor
         requires { ⌜ (self .ticks ≤ mostTicks) × (self .attempt ≤ mostAttempt) ⌝ }
-        ensures { λ r. ⌜ r ≡ acted (rowOf Hearing (ltu (self .silence))) self code ⌝ }
+        ensures { λ r. ⌜ r ≡ acted (rowOf Hearing (ltuPhases (self .silence))) self code ⌝ }
     {
         match code {
             code::TICK => self.tried(false, 0, phase::QUIET),
@@ -173,7 +175,7 @@ impl Supervisor {
     fn in_quiet(self, code: u32) -> Supervisor
         requires { ⌜ (self .ticks ≤ mostTicks) × (self .attempt ≤ mostAttempt) ⌝ }
         ensures { λ r. ⌜ r ≡ cond (eqb (self .end) 1)
-            (acted (rowOf Quiet (ntu (self .silence))) self code) (acted (rowOf Quiet (ltu (self .silence))) self code) ⌝ }
+            (acted (rowOf Quiet (ntuPhases (self .silence))) self code) (acted (rowOf Quiet (ltuPhases (self .silence))) self code) ⌝ }
     {
         match code {
             code::TICK => if self.end == Self::NTU {
@@ -189,7 +191,7 @@ impl Supervisor {
     // NTU: S_r until both 4 and 5 have come, in either order, during S_r.
     fn in_sr(self, code: u32) -> Supervisor
         requires { ⌜ (self .ticks ≤ mostTicks) × (self .attempt ≤ mostAttempt) ⌝ }
-        ensures { λ r. ⌜ r ≡ acted (rowOf Sr (ntu (self .silence))) self code ⌝ }
+        ensures { λ r. ⌜ r ≡ acted (rowOf Sr (ntuPhases (self .silence))) self code ⌝ }
     {
         match code {
             code::TICK => self.tried((self.converged != 0) & (self.seen != 0), 0, phase::T_R),
@@ -203,7 +205,7 @@ impl Supervisor {
     // LTU: S_c until it has lasted 5,000 ticks and 4 has come during it.
     fn in_sc(self, code: u32) -> Supervisor
         requires { ⌜ (self .ticks ≤ mostTicks) × (self .attempt ≤ mostAttempt) ⌝ }
-        ensures { λ r. ⌜ r ≡ acted (rowOf Sc (ltu (self .silence))) self code ⌝ }
+        ensures { λ r. ⌜ r ≡ acted (rowOf Sc (ltuPhases (self .silence))) self code ⌝ }
     {
         match code {
             code::TICK => self.tried(self.converged != 0, Self::S_C, phase::T_C),
@@ -216,7 +218,7 @@ impl Supervisor {
     // NTU: T_r until 7. The attempt ends in data mode.
     fn in_tr(self, code: u32) -> Supervisor
         requires { ⌜ (self .ticks ≤ mostTicks) × (self .attempt ≤ mostAttempt) ⌝ }
-        ensures { λ r. ⌜ r ≡ acted (rowOf Tr (ntu (self .silence))) self code ⌝ }
+        ensures { λ r. ⌜ r ≡ acted (rowOf Tr (ntuPhases (self .silence))) self code ⌝ }
     {
         match code {
             code::TICK => self.tried(false, 0, Self::DATA_MODE),
@@ -229,7 +231,7 @@ impl Supervisor {
     // LTU: T_c until 6.
     fn in_tc(self, code: u32) -> Supervisor
         requires { ⌜ (self .ticks ≤ mostTicks) × (self .attempt ≤ mostAttempt) ⌝ }
-        ensures { λ r. ⌜ r ≡ acted (rowOf Tc (ltu (self .silence))) self code ⌝ }
+        ensures { λ r. ⌜ r ≡ acted (rowOf Tc (ltuPhases (self .silence))) self code ⌝ }
     {
         match code {
             code::TICK => self.tried(false, 0, phase::F_C),
@@ -242,7 +244,7 @@ impl Supervisor {
     // LTU: F_c until 7. The attempt ends in data mode.
     fn in_fc(self, code: u32) -> Supervisor
         requires { ⌜ (self .ticks ≤ mostTicks) × (self .attempt ≤ mostAttempt) ⌝ }
-        ensures { λ r. ⌜ r ≡ acted (rowOf Fc (ltu (self .silence))) self code ⌝ }
+        ensures { λ r. ⌜ r ≡ acted (rowOf Fc (ltuPhases (self .silence))) self code ⌝ }
     {
         match code {
             code::TICK => self.tried(false, 0, Self::DATA_MODE),
@@ -255,7 +257,7 @@ impl Supervisor {
     // Settling, 1,000 ticks.
     fn in_settling(self, code: u32) -> Supervisor
         requires { ⌜ self .ticks ≤ mostTicks ⌝ }
-        ensures { λ r. ⌜ r ≡ acted (rowOf Settling (ntu (self .silence))) self code ⌝ }
+        ensures { λ r. ⌜ r ≡ acted (rowOf Settling (ntuPhases (self .silence))) self code ⌝ }
     {
         match code {
             code::TICK => self.waited(Self::SETTLING, phase::VALID),
@@ -266,7 +268,7 @@ impl Supervisor {
 
     // Valid until an 8.
     fn in_valid(self, code: u32) -> Supervisor
-        ensures { λ r. ⌜ r ≡ acted (rowOf Valid (ntu (self .silence))) self code ⌝ }
+        ensures { λ r. ⌜ r ≡ acted (rowOf Valid (ntuPhases (self .silence))) self code ⌝ }
     {
         match code {
             code::ABNORMAL => self.entered(phase::EXCEPTION, 0),
@@ -277,7 +279,7 @@ impl Supervisor {
     // Exception for the silence. An 8 starts it again: that is no change of phase, so the rest stays as handed in.
     fn in_exception(mut self, code: u32) -> Supervisor
         requires { ⌜ self .ticks ≤ mostTicks ⌝ }
-        ensures { λ r. ⌜ r ≡ acted (rowOf Exception (ntu (self .silence))) self code ⌝ }
+        ensures { λ r. ⌜ r ≡ acted (rowOf Exception (ntuPhases (self .silence))) self code ⌝ }
     {
         match code {
             code::TICK => self.waited(self.silence, phase::READY),

@@ -2,7 +2,7 @@
 use native.Mathlib.Nat.{le-antisymm}
 use mathlib.Core.Path.{refl}
 use lib.Dec.{eqb}
-use Rattle.supervisor.specs.Phases.{Ready, Gap, Await, Cr, Hearing, Quiet, Sc, Sr, Tc, Tr, Fc, Settling, Valid, Exception}
+use Rattle.supervisor.specs.Names.{Ready, Gap, Await, Cr, Hearing, Quiet, Sc, Sr, Tc, Tr, Fc, Settling, Valid, Exception}
 use Rattle.supervisor.proofs.Laws.{legal, within, none-below, by-end, by-either, by-ntu, by-ltu}
 use Rattle.supervisor.proofs.Supervisor.moved.Statement.{statement}
 use Rattle.supervisor.proofs.Supervisor.moved.Tie as tie
