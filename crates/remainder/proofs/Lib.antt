@@ -1,5 +1,6 @@
 pub mod Division
 pub mod Errors
 pub mod One
+pub mod Period
 pub mod Quotient
 pub mod Start

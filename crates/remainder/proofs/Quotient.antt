@@ -69,16 +69,26 @@ module _ (k g : ℕ) where
       let none : 0 * G ≡ 0 = omega arith in
       ap₂ (λ (x y : ℕ). bitXor x (bitXor y 0 * G)) (mod-eq-of-lt (pow-pos k)) (div-eq-of-lt (pow-pos (k - 1))) ∙ ap (bitXor 0) none
 
-  zeros-over : (n : ℕ) (bs : List ℕ) → registerOf k g 0 (digitsOf n 0 ++ bs) ≡ registerOf k g 0 bs
+  pub zeros-over : (n : ℕ) (bs : List ℕ) → registerOf k g 0 (digitsOf n 0 ++ bs) ≡ registerOf k g 0 bs
   unfolding registerOf digitsOf
   zeros-over zero bs = refl
   zeros-over (suc n) bs = ap (λ (r : ℕ). registerOf k g r (digitsOf n 0 ++ bs)) step-zero ∙ zeros-over n bs
 
 -- ---- words that stand for bits
 
+-- a start, turned, as the first of n bits: it stands n - k powers up
+pub start-first : (k n r : ℕ) → k ≤ n → r < 2 ^ k → turnOf n (turnOf k r) * 2 ^ k ≡ r * 2 ^ n
+start-first k n r h l =
+    let j = n - k in
+    let c : k + j ≡ n = omega arith in
+    let c′ : j + k ≡ n = omega arith in
+    ap (λ (x : ℕ). x * 2 ^ k)
+    (ap (λ (m : ℕ). turnOf m (turnOf k r)) (sym c) ∙ turn-long k j (turnOf k r) (turned-lt k r) ∙ ap (λ (x : ℕ). x * 2 ^ j) (turn-turn k r l))
+    ∙ mul-assoc r (2 ^ j) (2 ^ k) ∙ ap (λ (x : ℕ). r * x) (sym (pow-add 2 j k) ∙ ap (λ (m : ℕ). 2 ^ m) c′)
+
 module _ (k g : ℕ) (hk : 1 ≤ k) (dg : Degree g k) where
   -- the remainder is that of any polynomial that differs by a multiple
-  same-left : (a b : List ℕ) → Bits a → Bits b → Multiple g (bitXor (polynomial a) (polynomial b)) → registerOf k g 0 a ≡ registerOf k g 0 b
+  pub same-left : (a b : List ℕ) → Bits a → Bits b → Multiple g (bitXor (polynomial a) (polynomial b)) → registerOf k g 0 a ≡ registerOf k g 0 b
   same-left a b ha hb m =
       let A = exists k g hk dg a ha in
       let B = exists k g hk dg b hb in
@@ -104,15 +114,9 @@ module _ (k g : ℕ) (hk : 1 ≤ k) (dg : Degree g k) where
       let A = exists-from k g hk dg r (digitsOf 64 w) (digits-bits 64 w) l in
       let y = bitXor w (turnOf k r) in
       let B = exists k g hk dg (digitsOf 64 y) (digits-bits 64 y) in
-      let j = 64 - k in
-      let c : k + j ≡ 64 = omega arith in
-      let c′ : j + k ≡ 64 = omega arith in
-      let short : turnOf 64 (turnOf k r) ≡ r * 2 ^ j =
-      ap (λ (n : ℕ). turnOf n (turnOf k r)) (sym c) ∙ turn-long k j (turnOf k r) (turned-lt k r) ∙ ap (λ (x : ℕ). x * 2 ^ j) (turn-turn k r l) in
-      let up : r * 2 ^ j * 2 ^ k ≡ r * 2 ^ 64 = mul-assoc r (2 ^ j) (2 ^ k) ∙ ap (λ (x : ℕ). r * x) (sym (pow-add 2 j k) ∙ ap (λ (n : ℕ). 2 ^ n) c′) in
       let e : turnOf 64 y * 2 ^ k ≡ bitXor (r * 2 ^ 64) (turnOf 64 w * 2 ^ k) =
-      ap (λ (x : ℕ). x * 2 ^ k) (turn-xor 64 w (turnOf k r) ∙ ap (bitXor (turnOf 64 w)) short) ∙ shl-xor k (turnOf 64 w) (r * 2 ^ j)
-      ∙ ap (bitXor (turnOf 64 w * 2 ^ k)) up ∙ xor-comm (turnOf 64 w * 2 ^ k) (r * 2 ^ 64) in
+      ap (λ (x : ℕ). x * 2 ^ k) (turn-xor 64 w (turnOf k r)) ∙ shl-xor k (turnOf 64 w) (turnOf 64 (turnOf k r))
+      ∙ ap (bitXor (turnOf 64 w * 2 ^ k)) (start-first k 64 r h l) ∙ xor-comm (turnOf 64 w * 2 ^ k) (r * 2 ^ 64) in
       let f : bitXor (r * 2 ^ length (digitsOf 64 w)) (turnOf 64 w * 2 ^ k) ≡ bitXor (r * 2 ^ 64) (turnOf 64 w * 2 ^ k) =
       ap (λ (n : ℕ). bitXor (r * 2 ^ n) (turnOf 64 w * 2 ^ k)) (digits-length 64 w) in
       left-unique k g dg (turnOf 64 y * 2 ^ k) (registerOf k g r (digitsOf 64 w)) (registerOf k g 0 (digitsOf 64 y)) (A .quotient) (B .quotient)
@@ -276,10 +280,10 @@ module _ (k g : ℕ) (hk : 1 ≤ k) (dg : Degree g k) where
     pub taken-lt : (n j : ℕ) → registerOf k g r (take j (part at n (bitsOf s))) < 2 ^ k
     taken-lt n j = register-lt r (take j (part at n (bitsOf s))) hr (part-bits s at n j)
 
-    -- n bits more, where a word stands for those before
-    pub word-more : (m n j x : ℕ) (D : List ℕ) → m + n ≡ j → registerOf k g r (part at m (bitsOf s)) ≡ registerOf k g 0 (digitsOf 64 x) → D ≡ part (at + m) n (bitsOf s)
-        → registerOf k g r (part at j (bitsOf s)) ≡ registerOf k g 0 (digitsOf 64 x ++ D)
-    word-more m n j x D e f d =
+    -- n bits more, where a word's digits stand for those before
+    pub word-more : (m n j : ℕ) (W D : List ℕ) → m + n ≡ j → registerOf k g r (part at m (bitsOf s)) ≡ registerOf k g 0 W → D ≡ part (at + m) n (bitsOf s)
+        → registerOf k g r (part at j (bitsOf s)) ≡ registerOf k g 0 (W ++ D)
+    word-more m n j W D e f d =
         let B = bitsOf s in
         sym (ap (registerOf k g r) (part-more B at m n j e)) ∙ register-append k g r (part at m B) (part (at + m) n B)
-        ∙ ap₂ (registerOf k g) f (sym d) ∙ sym (register-append k g 0 (digitsOf 64 x) D)
+        ∙ ap₂ (registerOf k g) f (sym d) ∙ sym (register-append k g 0 W D)

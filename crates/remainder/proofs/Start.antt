@@ -16,7 +16,7 @@ use Rattle.octets.specs.Bits.{bitsOf, part}
 use Rattle.octets.proofs.Digits.{Bits, take-bits, drop-bits}
 use Rattle.octets.proofs.Laws.{bits-bits}
 use Rattle.octets.proofs.Xor.{xor-assoc, shl-xor}
-use Rattle.remainder.specs.Division.{times, polynomial, Degree, Remainder, RemainderFrom, generator}
+use Rattle.remainder.specs.Division.{times, polynomial, Degree, Remainder, RemainderFrom}
 use Rattle.remainder.specs.Promises.{startRefusals, FromStart}
 use Rattle.remainder.specs.Register.{registerOf}
 use Rattle.remainder.proofs.Division.{add, distrib, exists-from}
@@ -54,13 +54,14 @@ follows k g a b start r hb p q =
           ∙ ap (λ (x : ℕ). bitXor x r) (distrib (M .quotient) (q .quotient) g);
     }
 
--- the generator of SCOPE has the degree 16
-pub degree-is : (k : ℕ) → k ≤ 16 → Degree generator k → k ≡ 16
-degree-is k h d = pick (decLe 16 k)
+-- a generator has one degree
+pub degree-one : (g j k : ℕ) → Degree g j → Degree g k → k ≡ j
+degree-one g j k a b = pick (decLe k j) (decLe j k)
   where
-    pick : Dec (16 ≤ k) → k ≡ 16
-    pick (yes l) = omega arith
-    pick (no l) = let m : suc k ≤ 16 = omega arith in absurd (omega (arith, pow-mono m, d .within))
+    pick : Dec (k ≤ j) → Dec (j ≤ k) → k ≡ j
+    pick (yes l) (yes m) = omega arith
+    pick (yes l) (no m) = let n : suc k ≤ j = omega arith in absurd (omega (arith, pow-mono n, a .reached, b .within))
+    pick (no l) m = let n : suc j ≤ k = omega arith in absurd (omega (arith, pow-mono n, a .within, b .reached))
 
 module _ (g k start : ℕ) (s : List ℕ) (at n : ℕ) where
   -- what is given where nothing is refused: the register's run

@@ -1,7 +1,7 @@
 // Check bits: the remainder of a polynomial division over GF(2) (SCOPE, "The activation frame"; 000, clause 4.1.3).
 ghost use mathlib.Core.Path.{_≡_};
 ghost use mathlib.Core.List.{_++_, reverse};
-ghost use Prim.Native.Nat.{ℕ, _+_, _*_, _%_, _^_, _<_, _≤_};
+ghost use Prim.Native.Nat.{ℕ, _+_, _*_, _%_, _^_, _<_, _≤_, min};
 ghost use lib.Bits.{bitXor};
 ghost use lib.ListN.{length};
 ghost use Rattle.answer.specs.Answer.{answer};
@@ -143,6 +143,78 @@ fn after(start: u32, s: &[u8], at: usize, n: u32) -> u32
     by_words(register, s, octet, (rest / WORD) as usize, rest % WORD)
 }
 
+// X^6 + X + 1, each power a digit.
+const SIX: u32 = 0x43;
+
+// Its degree.
+const SIX_DEGREE: u32 = 6;
+
+// X^63 divided by it leaves 1, so 63 digits, the first bit lowest, stand for all bits before them.
+const ROUND: u32 = 63;
+
+// So many bits are read at once, from any place.
+const READ: u32 = 56;
+
+// How many of n bits are read next.
+fn next(n: u32) -> u32
+    ensures { λ r. ⌜ r ≡ min n 56 ⌝ }
+{
+    if n < READ { n } else { READ }
+}
+
+// The digits that stand for x and the n low digits of t behind it: the first n of x come round to the end, and those of t are added to them.
+fn brought_round(x: u64, t: u64, n: u32) -> u64
+    requires { ⌜ (1 ≤ n) × (n ≤ 56) × (x < 2 ^ 63) × (t < 2 ^ n) ⌝ }
+    ensures { λ r. ⌜ (r < 2 ^ 63) × (registerOf 6 67 0 (digitsOf 63 x ++ digitsOf n t) ≡ registerOf 6 67 0 (digitsOf 63 r)) ⌝ }
+{
+    let y = x ^ t;
+    (y >> n) | ((y % (1u64 << n)) << (ROUND - n))
+}
+
+// The digits that stand for a start and the n bits from place `at` on.
+fn stands_for(start: u32, s: &[u8], at: usize, n: u32) -> u64
+    requires { ⌜ (start < 2 ^ 6) × (at + n ≤ 8 * length (now s)) ⌝ }
+    ensures { λ r. ⌜ (r < 2 ^ 63) × (registerOf 6 67 start (part at n (bitsOf (now (s .entry)))) ≡ registerOf 6 67 0 (digitsOf 63 r)) ⌝ }
+{
+    let mut x = bitfields::turned(SIX_DEGREE, start) as u64;
+    let mut seen: u32 = 0;
+    while seen < n {
+        let v = octets::bits(s, at, seen, n - seen);
+        let m = next(n - seen);
+        x = brought_round(x, v, m);
+        seen += m;
+    }
+    x
+}
+
+// The register of X^6 + X + 1 after the 64 bits of x, from zero, turned: the quotients by its eighth power, the fourth, the square and
+// itself, and what reaches over.
+fn six_settled(x: u64) -> u64
+    ensures { λ r. ⌜ r ≡ valueOf (reverse (digitsOf 6 (registerOf 6 67 0 (digitsOf 64 x)))) ⌝ }
+{
+    let d = (x ^ (x << 40)) ^ (x << 48);
+    let c = (d ^ (d << 20)) ^ (d << 24);
+    let b = (c ^ (c << 10)) ^ (c << 12);
+    let q = (b ^ (b << 5)) ^ (b << 6);
+    (q >> 59) ^ (q >> 58)
+}
+
+// The register of X^6 + X + 1 after the n bits from place `at` on. A zero goes before the digits that stand for them, to make 64, and counts
+// for nothing. Nor does what lies past the end.
+fn six_after(start: u32, s: &[u8], at: usize, n: u32) -> u32
+    requires { ⌜ start < 2 ^ 6 ⌝ }
+    ensures { λ r. ⌜ r ≡ registerOf 6 67 start (part at n (bitsOf (now (s .entry)))) ⌝ }
+{
+    if n == 0 {
+        return start;
+    }
+    if !octets::has(s, at, n - 1) {
+        return by_bits(SIX, SIX_DEGREE, start, s, at, n);
+    }
+    let x = stands_for(start, s, at, n);
+    bitfields::turned(SIX_DEGREE, six_settled(x << 1) as u32)
+}
+
 // The check bits of the n bits from place `at` on, the first of them highest; c1 is the digit of weight 2^15. Nothing past the end counts.
 pub fn check_bits(s: &[u8], at: usize, n: u32) -> u32
     ensures { λ r. ⌜ CheckBits (now (s .entry)) at n r ⌝ }
@@ -198,6 +270,12 @@ pub fn from_start(generator: u32, degree: u32, start: u32, s: &[u8], at: usize, 
         return Left {
             answer: answer::DONE,
             remainder: after(start, s, at, n),
+        };
+    }
+    if generator == SIX {
+        return Left {
+            answer: answer::DONE,
+            remainder: six_after(start, s, at, n),
         };
     }
     Left {

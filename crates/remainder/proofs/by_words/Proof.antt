@@ -50,7 +50,7 @@ returns c =
     let R = registerOf 16 generator 0 (digitsOf 64 (y .result)) in
     c .turned .ensures ∙ ap (turnOf 16) (c .before .settled .ensures)
     ∙ turn-turn 16 R (register-lt 16 generator (lit≤ tt) generator-degree 0 (digitsOf 64 (y .result)) (lit< tt) (digits-bits 64 (y .result)))
-    ∙ sym (word-more 16 generator (lit≤ tt) generator-degree s (8 * a .i) (a .start) (z .pre .0) n (a .n) (n + a .n) (x .result)
+    ∙ sym (word-more 16 generator (lit≤ tt) generator-degree s (8 * a .i) (a .start) (z .pre .0) n (a .n) (n + a .n) (digitsOf 64 (x .result))
     (part (8 * (a .i + 8 * a .count)) (a .n) (bitsOf s)) refl (x .ensures) (ap (λ (q : ℕ). part q (a .n) (bitsOf s)) p)
     ∙ y .ensures)
 

@@ -75,7 +75,7 @@ loop-again c =
     let d = ap (digitsOf 64) (w .ensures) ∙ field-digits s p 64 (omega arith) ∙ ap (λ (q : ℕ). part q 64 (bitsOf s)) f in (
       omega arith,
       omega arith,
-      word-more 16 generator (lit≤ tt) generator-degree s (8 * a .i) (a .start) (z .pre .0) (64 * l .k) 64 (64 * (l .k + 1)) (l .x) (digitsOf 64 (w .result)) e
+      word-more 16 generator (lit≤ tt) generator-degree s (8 * a .i) (a .start) (z .pre .0) (64 * l .k) 64 (64 * (l .k + 1)) (digitsOf 64 (l .x)) (digitsOf 64 (w .result)) e
           (l .inv .2) d
           ∙ c .folded .ensures (w .result) (omega arith),
     )
