@@ -14,7 +14,6 @@
 #include "bench.h"
 
 #include <cpuid.h>
-#include <stdbool.h>
 #include <stdio.h>
 #include <stdlib.h>
 #include <string.h>
@@ -322,6 +321,23 @@ static void print_to_spare(const struct row *row)
            row->operation, own, symbol, symbol / own, emulated() ? " (EMULATED; says little of a real x86-64)" : "");
 }
 
+/* The longest that a data-mode frame took: by the usual inputs of a row, or by its dearest. */
+static void print_longest(void)
+{
+    double longest = 0;
+    const struct row *of = data_row;
+    for (size_t r = (size_t)(data_row - rows); r < row_count; r++) {
+        double dear = dear_best[r][worst_of(r)];
+        double took = dear > sides[r][0].best ? dear : sides[r][0].best;
+        if (took > longest) {
+            longest = took;
+            of = &rows[r];
+        }
+    }
+    printf("a data-mode frame takes at most %.0f ns (%s); it may take %d: %s%s.\n", longest, of->operation, DATA_NANOSECONDS,
+           longest <= DATA_NANOSECONDS ? "met" : "not met", emulated() ? " (EMULATED)" : "");
+}
+
 static int write_frames_to(const char *folder)
 {
     for (int i = 0; i < CARDS; i++) {
@@ -338,7 +354,10 @@ static int write_frames_to(const char *folder)
 
 int main(int count, char **words)
 {
-    make_inputs();
+    if (!make_inputs()) {
+        fprintf(stderr, "bench: sdsl_data_write refused an input\n");
+        return 2;
+    }
     if (count == 3 && strcmp(words[1], "--frames") == 0) {
         return write_frames_to(words[2]);
     }
@@ -370,6 +389,7 @@ int main(int count, char **words)
     printf("\n");
     print_to_spare(encoder_row);
     print_to_spare(precoder_row);
+    print_longest();
     print_worst();
     printf("%s\n", differing == 0 ? "All sides agree." : "SIDES DIFFER.");
     return differing == 0 ? 0 : 1;

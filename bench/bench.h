@@ -3,6 +3,8 @@
  *
  *   bench.c     rounds, the clock, the table
  *   rows.c      what is measured: inputs, and a pass over them for each operation
+ *   data.c      inputs and operations of the data-mode frame
+ *   bybit.c     the data-mode frame in plain C, a bit at a time
  *   dear.c      the inputs that are dearest by construction
  *   others.c    other ways: a bit-serial register in plain C, and where they were found libosmocore, libcrcutil and GNU Radio
  *   crcutil.cpp libcrcutil
@@ -17,6 +19,7 @@
 
 #include "sdsl.h"
 
+#include <stdbool.h>
 #include <stddef.h>
 #include <stdint.h>
 
@@ -25,7 +28,7 @@
 #define RUN 2048    /* symbols in a run of the encoder or precoder */
 #define CODES 20000 /* codes for the supervisor */
 
-/* A side: the functions of sdsl.h, ours or those of tests/second/reference.c. */
+/* A side: the functions of sdsl.h, ours or those of tests/second/reference.c and bybit.c. */
 struct library {
     const char *name;
     __typeof__(sdsl_frame_write) *frame_write;
@@ -40,8 +43,17 @@ struct library {
     __typeof__(sdsl_start) *start;
     __typeof__(sdsl_step) *step;
     __typeof__(sdsl_run_codes) *run_codes;
+    __typeof__(sdsl_data_write) *data_write;
+    __typeof__(sdsl_data_crc) *data_crc;
+    __typeof__(sdsl_data_read) *data_read;
+    __typeof__(sdsl_data_check) *data_check;
 };
 extern const struct library ours, plain;
+
+__typeof__(sdsl_data_write) plain_data_write;
+__typeof__(sdsl_data_crc) plain_data_crc;
+__typeof__(sdsl_data_read) plain_data_read;
+__typeof__(sdsl_data_check) plain_data_check;
 
 /* What a pass found. One of these is written by all sides in turn, so that all are lent the same memory. */
 struct results {
@@ -70,6 +82,8 @@ struct row {
 extern const struct row rows[];
 extern const size_t row_count;
 extern const struct row *const encoder_row, *const precoder_row;
+extern const struct row *const data_row; /* the first of those of the data-mode frame; they are the last rows */
+#define DATA_NANOSECONDS 60000           /* that a data-mode frame may take */
 
 /* The inputs that are dearest by construction, one for each row: cases, and a pass over one of them. */
 #define CASES 520 /* of one row, at most */
@@ -84,14 +98,36 @@ extern const size_t dear_count;
 void make_dear_inputs(void);
 
 /* Inputs, made once from one seed. */
-void make_inputs(void);
+bool make_inputs(void); /* false where one could not be made */
 extern uint8_t batch[BATCH][SDSL_FRAME_OCTETS]; /* frames with good sync, pad and reserved bits; three with bad check bits */
 extern uint8_t cards[CARDS][SDSL_FRAME_OCTETS]; /* training and final frames, 36 of them refused with 5 to 8 */
 
 extern uint8_t training[BATCH][SDSL_FRAME_OCTETS];
 extern uint8_t line[2][BATCH][SDSL_FRAME_OCTETS]; /* `training`, scrambled by each end from its start, one after the other */
 
-extern const struct other check_others[];
+/* Data-mode frames of each form, with the smallest and the largest payload. */
+enum { SYNCHRONOUS_24, SYNCHRONOUS_289, PLESIOCHRONOUS_24, PLESIOCHRONOUS_289, DATA_SETS };
+enum { ALL_ONE, ALL_ZERO, OTHER_CHECK, DATA_CASES }; /* the dear ones: the last is refused, the check bits behind it being others */
+struct data_frame {
+    uint32_t sync;
+    struct sdsl_data_overhead overhead;
+    uint32_t next_crc; /* the check bits of this frame */
+    uint8_t payload[SDSL_DATA_PAYLOAD_OCTETS(SDSL_DATA_SIZE_MAX)];
+    uint8_t frame[SDSL_DATA_PLESIOCHRONOUS_OCTETS];
+};
+struct data_set {
+    uint32_t form, size;
+    size_t room; /* octets of a frame */
+    struct data_frame usual[BATCH], dear[DATA_CASES];
+};
+extern struct data_set data_sets[DATA_SETS];
+bool make_data_inputs(void); /* false where a frame was refused */
+
+/* One data-mode frame through an operation: what is found goes to place i of `results`. */
+typedef void data_operation(const struct library *library, const struct data_set *set, const struct data_frame *one, size_t i);
+data_operation write_data, check_data, read_data, six_of_data;
+
+extern const struct other check_others[], six_24_others[], six_289_others[];
 extern const struct other scramble_ltu_others[], scramble_ntu_others[], descramble_ltu_others[], descramble_ntu_others[];
 void prepare_others(void);
 extern const char others_found[]; /* which libraries the program was compiled with */

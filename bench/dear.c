@@ -260,6 +260,43 @@ static void run_codes(const struct library *library, size_t which)
     results.state = run.state;
 }
 
+/* ---- Data-mode frames ---- */
+
+/* For operations that are not handed the next frame's check bits: the cases that do not differ in them alone. */
+#define WRITTEN_CASES OTHER_CHECK
+
+/* One frame again and again. */
+static void same_frame(const struct library *library, data_operation *operation, const struct data_set *set, size_t which)
+{
+    for (size_t i = 0; i < BATCH; i++) {
+        operation(library, set, &set->dear[which], i);
+    }
+}
+
+static void data_name(size_t which, char *text, size_t room)
+{
+    static const char *const names[DATA_CASES] = {"every bit one", "every bit zero", "refused for its check bits, the last check"};
+    snprintf(text, room, "%s", names[which]);
+}
+
+#define DATA_PASS(name, operation, set) \
+    static void name(const struct library *library, size_t which) { same_frame(library, operation, &data_sets[set], which); }
+
+DATA_PASS(write_synchronous_24, write_data, SYNCHRONOUS_24)
+DATA_PASS(write_synchronous_289, write_data, SYNCHRONOUS_289)
+DATA_PASS(write_plesiochronous_24, write_data, PLESIOCHRONOUS_24)
+DATA_PASS(write_plesiochronous_289, write_data, PLESIOCHRONOUS_289)
+DATA_PASS(check_synchronous_24, check_data, SYNCHRONOUS_24)
+DATA_PASS(check_synchronous_289, check_data, SYNCHRONOUS_289)
+DATA_PASS(check_plesiochronous_24, check_data, PLESIOCHRONOUS_24)
+DATA_PASS(check_plesiochronous_289, check_data, PLESIOCHRONOUS_289)
+DATA_PASS(read_synchronous_24, read_data, SYNCHRONOUS_24)
+DATA_PASS(read_synchronous_289, read_data, SYNCHRONOUS_289)
+DATA_PASS(read_plesiochronous_24, read_data, PLESIOCHRONOUS_24)
+DATA_PASS(read_plesiochronous_289, read_data, PLESIOCHRONOUS_289)
+DATA_PASS(six_24, six_of_data, SYNCHRONOUS_24)
+DATA_PASS(six_289, six_of_data, SYNCHRONOUS_289)
+
 /* In the order of rows.c. */
 const struct dear dears[] = {
     {2, BATCH, write_training, ends_name}, {2, BATCH, write_final, ends_name},
@@ -268,6 +305,13 @@ const struct dear dears[] = {
     {2, BATCH, descramble_ltu, bits_name}, {2, BATCH, descramble_ntu, bits_name}, {2, RUN, encode_run, symbols_name},
     {2, RUN, encode_each, symbols_name}, {2, RUN, precode, samples_name}, {2, RUN, unprecode, samples_name},
     {CODE_CASES, STEPS, step, code_name}, {CODE_CASES, STEPS, run_codes, code_name}, {FRAME_CASES, 1, read_cards, frame_name},
+    {WRITTEN_CASES, BATCH, write_synchronous_24, data_name}, {WRITTEN_CASES, BATCH, write_synchronous_289, data_name},
+    {WRITTEN_CASES, BATCH, write_plesiochronous_24, data_name}, {WRITTEN_CASES, BATCH, write_plesiochronous_289, data_name},
+    {DATA_CASES, BATCH, check_synchronous_24, data_name}, {DATA_CASES, BATCH, check_synchronous_289, data_name},
+    {DATA_CASES, BATCH, check_plesiochronous_24, data_name}, {DATA_CASES, BATCH, check_plesiochronous_289, data_name},
+    {DATA_CASES, BATCH, read_synchronous_24, data_name}, {DATA_CASES, BATCH, read_synchronous_289, data_name},
+    {DATA_CASES, BATCH, read_plesiochronous_24, data_name}, {DATA_CASES, BATCH, read_plesiochronous_289, data_name},
+    {WRITTEN_CASES, BATCH, six_24, data_name}, {WRITTEN_CASES, BATCH, six_289, data_name},
 };
 const size_t dear_count = ITEMS(dears);
 

@@ -12,6 +12,7 @@
 #include <osmocom/core/bits.h>
 #include <osmocom/core/crc16.h>
 #include <osmocom/core/crc16gen.h>
+#include <osmocom/core/crc8gen.h>
 #endif
 
 #define MESSAGE_BITS (SDSL_CHECK_BIT - SDSL_COEFFICIENT_BIT)
@@ -63,11 +64,79 @@ __attribute__((unused)) static void by_octets(octets_way *way)
 static const struct osmo_crc16gen_code code = {.bits = 16, .poly = 0x1021, .init = 0, .remainder = 0};
 static ubit_t unpacked[BATCH][SDSL_FRAME_BITS];
 
+/* The six check bits of a data-mode frame: X^6 + X + 1, over the bits that they cover. */
+#define COVERED_MOST (48 * SDSL_DATA_SIZE_MAX + 28)
+static const struct osmo_crc8gen_code six_code = {.bits = 6, .poly = 3, .init = 0, .remainder = 0};
+static ubit_t covered[DATA_SETS][BATCH][COVERED_MOST];
+
+static size_t covered_in(size_t size)
+{
+    return 48 * size + 28;
+}
+
+/* Unpacks the four runs of bits that a synchronous frame's check bits cover, one behind the other. */
+static void unpack_covered(ubit_t *bits, const uint8_t *frame, unsigned int size)
+{
+    unsigned int block = 12 * size;
+    osmo_pbit2ubit_ext(bits, 0, frame, 14, block + 6, 1);
+    osmo_pbit2ubit_ext(bits, block + 6, frame, block + 22, block + 8, 1);
+    osmo_pbit2ubit_ext(bits, 2 * block + 14, frame, 2 * block + 32, block + 8, 1);
+    osmo_pbit2ubit_ext(bits, 3 * block + 22, frame, 3 * block + 42, block + 6, 1);
+}
+
 void prepare_others(void)
 {
     for (size_t i = 0; i < BATCH; i++) {
         osmo_pbit2ubit_ext(unpacked[i], 0, batch[i], 0, SDSL_FRAME_BITS, 1);
+        unpack_covered(covered[SYNCHRONOUS_24][i], data_sets[SYNCHRONOUS_24].usual[i].frame, 24);
+        unpack_covered(covered[SYNCHRONOUS_289][i], data_sets[SYNCHRONOUS_289].usual[i].frame, 289);
     }
+}
+
+/* What sdsl_data_crc gives; the six that stand in the frame are read by the bit. */
+static void put_sixes(size_t i, const uint8_t *frame, size_t size, const ubit_t *bits)
+{
+    size_t block = 12 * size;
+    results.numbers[3 * i] = SDSL_DONE;
+    results.numbers[3 * i + 1] = bit_of(frame, block + 21) << 5 | bit_of(frame, block + 22) << 4 | bit_of(frame, 2 * block + 31) << 3 |
+                                 bit_of(frame, 2 * block + 32) << 2 | bit_of(frame, 3 * block + 41) << 1 | bit_of(frame, 3 * block + 42);
+    results.numbers[3 * i + 2] = osmo_crc8gen_compute_bits(&six_code, bits, (int)covered_in(size));
+}
+
+static void osmo_six(const struct data_set *set)
+{
+    for (size_t i = 0; i < BATCH; i++) {
+        ubit_t bits[COVERED_MOST];
+        unpack_covered(bits, set->usual[i].frame, set->size);
+        put_sixes(i, set->usual[i].frame, set->size, bits);
+    }
+}
+
+static void osmo_six_unpacked(const struct data_set *set)
+{
+    for (size_t i = 0; i < BATCH; i++) {
+        put_sixes(i, set->usual[i].frame, set->size, covered[set - data_sets][i]);
+    }
+}
+
+static void osmo_six_24(void)
+{
+    osmo_six(&data_sets[SYNCHRONOUS_24]);
+}
+
+static void osmo_six_289(void)
+{
+    osmo_six(&data_sets[SYNCHRONOUS_289]);
+}
+
+static void osmo_six_24_unpacked(void)
+{
+    osmo_six_unpacked(&data_sets[SYNCHRONOUS_24]);
+}
+
+static void osmo_six_289_unpacked(void)
+{
+    osmo_six_unpacked(&data_sets[SYNCHRONOUS_289]);
 }
 
 static uint32_t judged(const ubit_t *bits)
@@ -108,6 +177,10 @@ static void osmo_table(void)
 #define osmo_gen NULL
 #define osmo_gen_unpacked NULL
 #define osmo_table NULL
+#define osmo_six_24 NULL
+#define osmo_six_289 NULL
+#define osmo_six_24_unpacked NULL
+#define osmo_six_289_unpacked NULL
 
 void prepare_others(void)
 {
@@ -133,6 +206,17 @@ const struct other check_others[] = {
     {"osmo_crc16_ccitt, by the octet", osmo_table},
     {"libcrcutil, by the word", crcutil_words},
     {"bit-serial register, plain C", register_by_bit},
+    {NULL, NULL},
+};
+
+const struct other six_24_others[] = {
+    {"osmo_crc8gen", osmo_six_24},
+    {"osmo_crc8gen, bits unpacked beforehand", osmo_six_24_unpacked},
+    {NULL, NULL},
+};
+const struct other six_289_others[] = {
+    {"osmo_crc8gen", osmo_six_289},
+    {"osmo_crc8gen, bits unpacked beforehand", osmo_six_289_unpacked},
     {NULL, NULL},
 };
 

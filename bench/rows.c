@@ -10,11 +10,13 @@ const struct library ours = {
     "ours",
     sdsl_frame_write, sdsl_frame_check, sdsl_frame_read, sdsl_scramble_frame, sdsl_descramble_frame,
     sdsl_encode, sdsl_encode_run, sdsl_precode, sdsl_unprecode, sdsl_start, sdsl_step, sdsl_run_codes,
+    sdsl_data_write, sdsl_data_crc, sdsl_data_read, sdsl_data_check,
 };
 const struct library plain = {
     "plain C",
     ref_frame_write, ref_frame_check, ref_frame_read, ref_scramble_frame, ref_descramble_frame,
     ref_encode, ref_encode_run, ref_precode, ref_unprecode, ref_start, ref_step, ref_run_codes,
+    plain_data_write, plain_data_crc, plain_data_read, plain_data_check,
 };
 
 struct results results;
@@ -118,13 +120,14 @@ static void make_codes(void)
     }
 }
 
-void make_inputs(void)
+bool make_inputs(void)
 {
     start_chance(0x5d51, 1.0);
     make_frames();
     make_symbols();
     make_codes();
     make_dear_inputs();
+    return make_data_inputs();
 }
 
 /* ---- A pass of each operation ---- */
@@ -264,6 +267,32 @@ static void run_codes(const struct library *library)
     results.state = run.state;
 }
 
+static void data_frames(const struct library *library, data_operation *operation, const struct data_set *set)
+{
+    for (size_t i = 0; i < BATCH; i++) {
+        operation(library, set, &set->usual[i], i);
+    }
+}
+
+/* A pass of an operation over the usual frames of a set. */
+#define DATA_PASS(name, operation, set) \
+    static void name(const struct library *library) { data_frames(library, operation, &data_sets[set]); }
+
+DATA_PASS(write_synchronous_24, write_data, SYNCHRONOUS_24)
+DATA_PASS(write_synchronous_289, write_data, SYNCHRONOUS_289)
+DATA_PASS(write_plesiochronous_24, write_data, PLESIOCHRONOUS_24)
+DATA_PASS(write_plesiochronous_289, write_data, PLESIOCHRONOUS_289)
+DATA_PASS(check_synchronous_24, check_data, SYNCHRONOUS_24)
+DATA_PASS(check_synchronous_289, check_data, SYNCHRONOUS_289)
+DATA_PASS(check_plesiochronous_24, check_data, PLESIOCHRONOUS_24)
+DATA_PASS(check_plesiochronous_289, check_data, PLESIOCHRONOUS_289)
+DATA_PASS(read_synchronous_24, read_data, SYNCHRONOUS_24)
+DATA_PASS(read_synchronous_289, read_data, SYNCHRONOUS_289)
+DATA_PASS(read_plesiochronous_24, read_data, PLESIOCHRONOUS_24)
+DATA_PASS(read_plesiochronous_289, read_data, PLESIOCHRONOUS_289)
+DATA_PASS(six_24, six_of_data, SYNCHRONOUS_24)
+DATA_PASS(six_289, six_of_data, SYNCHRONOUS_289)
+
 const struct row rows[] = {
     {"write a training frame", "frame", BATCH, 4, 25, write_training, NULL},
     {"write a final frame", "frame", BATCH, 4, 10, write_final, NULL},
@@ -281,6 +310,20 @@ const struct row rows[] = {
     {"supervisor, a call each", "step", CODES, 1, 1, step, NULL},
     {"supervisor, in a run", "step", CODES, 1, 1, run_codes, NULL},
     {"sorter's heart: read 340 frames", "340", 1, 1, 1, read_cards, NULL},
+    {"write a data-mode frame, synchronous, k = 24", "frame", BATCH, 10, 10, write_synchronous_24, NULL},
+    {"write a data-mode frame, synchronous, k = 289", "frame", BATCH, 10, 10, write_synchronous_289, NULL},
+    {"write a data-mode frame, plesiochronous, k = 24", "frame", BATCH, 10, 10, write_plesiochronous_24, NULL},
+    {"write a data-mode frame, plesiochronous, k = 289", "frame", BATCH, 10, 10, write_plesiochronous_289, NULL},
+    {"check a data-mode frame, synchronous, k = 24", "frame", BATCH, 10, 10, check_synchronous_24, NULL},
+    {"check a data-mode frame, synchronous, k = 289", "frame", BATCH, 10, 10, check_synchronous_289, NULL},
+    {"check a data-mode frame, plesiochronous, k = 24", "frame", BATCH, 10, 10, check_plesiochronous_24, NULL},
+    {"check a data-mode frame, plesiochronous, k = 289", "frame", BATCH, 10, 10, check_plesiochronous_289, NULL},
+    {"read a data-mode frame, synchronous, k = 24", "frame", BATCH, 10, 10, read_synchronous_24, NULL},
+    {"read a data-mode frame, synchronous, k = 289", "frame", BATCH, 10, 10, read_synchronous_289, NULL},
+    {"read a data-mode frame, plesiochronous, k = 24", "frame", BATCH, 10, 10, read_plesiochronous_24, NULL},
+    {"read a data-mode frame, plesiochronous, k = 289", "frame", BATCH, 10, 10, read_plesiochronous_289, NULL},
+    {"six check bits, synchronous, k = 24", "frame", BATCH, 10, 10, six_24, six_24_others},
+    {"six check bits, synchronous, k = 289", "frame", BATCH, 10, 10, six_289, six_289_others},
 };
 const size_t row_count = ITEMS(rows);
-const struct row *const encoder_row = &rows[9], *const precoder_row = &rows[11];
+const struct row *const encoder_row = &rows[9], *const precoder_row = &rows[11], *const data_row = &rows[16];

@@ -5,8 +5,8 @@
  * - Every call ends and answers with one of the numbers of enum sdsl_answer. There is nothing to check before a call.
  * - A refused call (any answer but 0) leaves all lent memory as it was and hands a state back unchanged; every other number that it
  *   returns is 0.
- * - Checks run in the order of the answers' numbers, and the first that applies is answered. Each function's comment lists the answers
- *   that it can give; it gives no other.
+ * - Checks run in the order of the answers' numbers, and the first that applies is answered; for data-mode frames the order is 1, 2, 4,
+ *   5, 9, 6, 7. Each function's comment lists the answers that it can give, in their order; it gives no other.
  * - All memory is the caller's. A buffer is lent for the time of the call, as a pointer and its length in octets; the library keeps no
  *   pointer. A pointer may be NULL where its length is 0. A buffer that is written (no `const`) must not overlap another buffer of the
  *   same call: to work in place, lend a copy.
@@ -49,13 +49,14 @@ extern "C" {
 enum sdsl_answer {
     SDSL_DONE = 0,         /* done */
     SDSL_BAD_LENGTH = 1,   /* a lent buffer has the wrong length */
-    SDSL_UNKNOWN = 2,      /* unknown end, frame kind or report code */
+    SDSL_UNKNOWN = 2,      /* unknown end, frame kind, form or report code */
     SDSL_BAD_COUNT = 3,    /* coefficient count outside 128 to 180 */
     SDSL_OUT_OF_RANGE = 4, /* a number outside its range */
-    SDSL_NO_SYNC = 5,      /* the sync word is neither of the two */
-    SDSL_BAD_PAD = 6,      /* a pad bit is not zero */
+    SDSL_NO_SYNC = 5,      /* the sync word is not an expected one */
+    SDSL_BAD_PAD = 6,      /* an unused bit behind the frame is not zero */
     SDSL_BAD_CHECK = 7,    /* the check bits differ */
-    SDSL_RESERVED = 8      /* a reserved bit is not zero (training frame) */
+    SDSL_RESERVED = 8,     /* a reserved bit is not zero (training frame) */
+    SDSL_BAD_STUFFING = 9  /* stuffing bits that the form cannot have (data-mode frame) */
 };
 
 /*
@@ -74,19 +75,21 @@ static inline const char *sdsl_answer_text(uint32_t answer)
     case SDSL_BAD_LENGTH:
         return "a lent buffer has the wrong length";
     case SDSL_UNKNOWN:
-        return "unknown end, frame kind or report code";
+        return "unknown end, frame kind, form or report code";
     case SDSL_BAD_COUNT:
         return "coefficient count outside 128 to 180";
     case SDSL_OUT_OF_RANGE:
         return "a number outside its range";
     case SDSL_NO_SYNC:
-        return "the sync word is neither of the two";
+        return "the sync word is not an expected one";
     case SDSL_BAD_PAD:
-        return "a pad bit is not zero";
+        return "an unused bit behind the frame is not zero";
     case SDSL_BAD_CHECK:
         return "the check bits differ";
     case SDSL_RESERVED:
         return "a reserved bit is not zero (training frame)";
+    case SDSL_BAD_STUFFING:
+        return "stuffing bits that the form cannot have (data-mode frame)";
     default:
         return "not an answer of this library";
     }
@@ -211,6 +214,137 @@ struct sdsl_frame_fields sdsl_frame_read(const uint8_t *frame, size_t frame_len,
  *     assert(sdsl_frame_check(frame, sizeof frame) == SDSL_BAD_CHECK);
  */
 uint32_t sdsl_frame_check(const uint8_t *frame, size_t frame_len);
+
+/* ---- The data-mode frame (part 1, clauses 7.1.2 to 7.1.5) ---- */
+
+/* The two forms: in the plesiochronous form four stuffing bits or none stand at the frame's end, in the synchronous two spare bits. */
+enum sdsl_data_form { SDSL_SYNCHRONOUS = 0, SDSL_PLESIOCHRONOUS = 1 };
+
+#define SDSL_DATA_SYNC 0x0C3Fu          /* the sync word that the paper prints, 11111100001100, its first bit lowest */
+#define SDSL_DATA_SIZE_MIN 24           /* the size k = i + 8 n of a payload sub-block, from n = 3, i = 0 */
+#define SDSL_DATA_SIZE_MAX 289          /* to n = 36, i = 1 */
+#define SDSL_DATA_SYNCHRONOUS_OCTETS 1740   /* the room of a frame, whatever its size is */
+#define SDSL_DATA_PLESIOCHRONOUS_OCTETS 1741
+#define SDSL_DATA_PAYLOAD_OCTETS(size) (6 * (size_t)(size)) /* 48 sub-blocks */
+
+/* The indicator bits. Each is ONE when all is well; where one has no meaning (ps from the LTU), send ONE. */
+#define SDSL_LOSD 1u /* ZERO: no signal at the far end's application interface */
+#define SDSL_SEGA 2u /* ZERO: check bits of a frame that came in were wrong */
+#define SDSL_PS 4u   /* ZERO: the NTU's local power has failed */
+#define SDSL_SEGD 8u /* ZERO: loss of synchronization on what comes in */
+
+/*
+ * What a data-mode frame carries beside its sync word and its payload. In each number the first bit on the line weighs 1; only crc is
+ * the other way about, as the paper has it: crc1 weighs 32 and crc6 weighs 1.
+ */
+struct sdsl_data_overhead {
+    uint32_t indicators; /* losd 1, sega 2, ps 4, segd 8 */
+    uint32_t eoc;        /* 20 bits: eoc01 weighs 1, eoc20 weighs 524288 */
+    uint32_t spare;      /* synchronous form: sbid1 1, sbid2 2, spa1 4, spa2 8; send ONEs where they have no use. In the plesiochronous
+                            form it is not looked at and comes back 0 */
+    uint32_t stuffing;   /* plesiochronous form: 4 or 0 stuffing bits, which are ONE; synchronous form: 0 */
+    uint32_t crc;        /* the six check bits that stand in this frame: those of the frame before it. In a first frame any value */
+};
+
+/* What writing a data-mode frame gives. */
+struct sdsl_data_written {
+    uint32_t answer; /* enum sdsl_answer */
+    uint32_t crc;    /* the six check bits of this frame, which the next frame has to carry */
+};
+
+/*
+ * Writes a data-mode frame: sync word, overhead bits, payload, stuffing or spare bits; the rest of the room becomes zero.
+ *   form      SDSL_SYNCHRONOUS or SDSL_PLESIOCHRONOUS
+ *   size      k, 24 to 289 bits: i Z-bits and n B-channels of 8
+ *   sync      the sync word that pre-activation agreed on, 14 bits, the first lowest; the paper prints SDSL_DATA_SYNC
+ *   overhead  the other bits
+ *   payload   6 * size octets, the first bit on the line at weight 1 of the first
+ *   frame     1,740 octets (synchronous) or 1,741 (plesiochronous), written
+ * Answers 0, 1, 2 (form), 4 (size, sync, indicators, eoc, crc; spare in the synchronous form), 9 (stuffing), in this order.
+ *
+ * Example:
+ *     uint8_t payload[SDSL_DATA_PAYLOAD_OCTETS(24)] = {0}, frame[SDSL_DATA_SYNCHRONOUS_OCTETS];
+ *     struct sdsl_data_overhead overhead = {.indicators = SDSL_LOSD | SDSL_SEGA};
+ *     struct sdsl_data_written one = sdsl_data_write(SDSL_SYNCHRONOUS, 24, SDSL_DATA_SYNC, overhead, payload, sizeof payload,
+ *                                                    frame, sizeof frame);
+ *     assert(one.answer == SDSL_DONE && frame[0] == 0x3F && frame[1] == 0xCC); // sync, then losd and sega
+ *     overhead.crc = one.crc; // the next frame carries this one's check bits
+ */
+struct sdsl_data_written sdsl_data_write(uint32_t form, uint32_t size, uint32_t sync,
+                                         struct sdsl_data_overhead overhead,
+                                         const uint8_t *payload, size_t payload_len,
+                                         uint8_t *frame, size_t frame_len);
+
+/* The six check bits that stand in a frame, and the six that the next frame has to carry. */
+struct sdsl_data_crcs {
+    uint32_t answer;  /* enum sdsl_answer */
+    uint32_t carried; /* those of the frame before */
+    uint32_t due;     /* those of this frame */
+};
+
+/*
+ * The check bits of a data-mode frame. Its sync word, stuffing bits and the room behind it are not looked at, so that the six that it
+ * carries can be had of a frame that is itself damaged.
+ * Answers 0, 1, 2 (form), 4 (size), in this order.
+ *
+ * Example:
+ *     uint8_t frame[SDSL_DATA_PLESIOCHRONOUS_OCTETS] = {0};
+ *     frame[1197 / 8] |= 1 << (1197 % 8); // the last payload bit of a frame of size 24
+ *     struct sdsl_data_crcs six = sdsl_data_crc(SDSL_PLESIOCHRONOUS, 24, frame, sizeof frame);
+ *     assert(six.answer == SDSL_DONE && six.carried == 0 && six.due == 3);
+ */
+struct sdsl_data_crcs sdsl_data_crc(uint32_t form, uint32_t size, const uint8_t *frame, size_t frame_len);
+
+/* What reading a data-mode frame gives. */
+struct sdsl_data_fields {
+    uint32_t answer; /* enum sdsl_answer */
+    struct sdsl_data_overhead overhead;
+};
+
+/*
+ * Reads a data-mode frame and writes its payload.
+ *   form      SDSL_SYNCHRONOUS or SDSL_PLESIOCHRONOUS
+ *   size      k, 24 to 289
+ *   sync      the sync word that the frame has to have, 14 bits
+ *   next_crc  the six check bits that the frame after this one carries
+ *   frame     1,740 or 1,741 octets
+ *   payload   6 * size octets, written
+ * The check bits of a frame travel in the frame after it. So a receiver reads a frame when the next has come. One that cannot wait, or
+ * has no next frame, passes the six that are due by sdsl_data_crc: then 7 cannot come, and it compares when the next frame is there.
+ * Answers 0, 1, 2 (form), 4 (size, sync, next_crc), 5 (another sync word), 9 (sbid1 and sbid2 differ, or announce stuffing bits that
+ * are not all ONE), 6 (a bit behind the frame is not zero), 7 (next_crc is not the one due), in this order.
+ *
+ * Example:
+ *     uint8_t payload[SDSL_DATA_PAYLOAD_OCTETS(24)] = "hello", first[SDSL_DATA_SYNCHRONOUS_OCTETS], second[SDSL_DATA_SYNCHRONOUS_OCTETS];
+ *     struct sdsl_data_overhead overhead = {.indicators = 15, .spare = 15};
+ *     struct sdsl_data_written one = sdsl_data_write(SDSL_SYNCHRONOUS, 24, SDSL_DATA_SYNC, overhead, payload, sizeof payload,
+ *                                                    first, sizeof first);
+ *     overhead.crc = one.crc;
+ *     sdsl_data_write(SDSL_SYNCHRONOUS, 24, SDSL_DATA_SYNC, overhead, payload, sizeof payload, second, sizeof second);
+ *     // The first frame is here and cannot wait: its own six are handed in, so all but 7 is checked.
+ *     struct sdsl_data_crcs own = sdsl_data_crc(SDSL_SYNCHRONOUS, 24, first, sizeof first);
+ *     struct sdsl_data_fields got = sdsl_data_read(SDSL_SYNCHRONOUS, 24, SDSL_DATA_SYNC, own.due, first, sizeof first,
+ *                                                  payload, sizeof payload);
+ *     assert(got.answer == SDSL_DONE && got.overhead.indicators == 15 && memcmp(payload, "hello", 5) == 0);
+ *     // The second has come: were the bits of the first right?
+ *     assert(sdsl_data_crc(SDSL_SYNCHRONOUS, 24, second, sizeof second).carried == own.due);
+ */
+struct sdsl_data_fields sdsl_data_read(uint32_t form, uint32_t size, uint32_t sync, uint32_t next_crc,
+                                       const uint8_t *frame, size_t frame_len,
+                                       uint8_t *payload, size_t payload_len);
+
+/*
+ * Gives the answer that sdsl_data_read would give with room for the payload, and writes nothing.
+ * Answers 0, 1, 2 (form), 4 (size, sync, next_crc), 5, 9, 6, 7, in this order.
+ *
+ * Example:
+ *     uint8_t frame[SDSL_DATA_PLESIOCHRONOUS_OCTETS] = {0x3F, 0x0C};
+ *     assert(sdsl_data_check(SDSL_PLESIOCHRONOUS, 24, SDSL_DATA_SYNC, 0, frame, sizeof frame) == SDSL_DONE);
+ *     frame[311 / 8] ^= 1 << (311 % 8); // sbid1 alone announces stuffing
+ *     assert(sdsl_data_check(SDSL_PLESIOCHRONOUS, 24, SDSL_DATA_SYNC, 0, frame, sizeof frame) == SDSL_BAD_STUFFING);
+ */
+uint32_t sdsl_data_check(uint32_t form, uint32_t size, uint32_t sync, uint32_t next_crc,
+                         const uint8_t *frame, size_t frame_len);
 
 /* ---- The scrambler (clause 4.1.5; part 1, clause 7.1.6) ---- */
 

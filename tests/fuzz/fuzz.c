@@ -28,7 +28,7 @@
 
 int LLVMFuzzerTestOneInput(const uint8_t *data, size_t size);
 
-#define ANSWERS 9
+#define ANSWERS 10
 #define ITEMS(array) (sizeof(array) / sizeof((array)[0]))
 
 /* ---- The input ---- */
@@ -246,6 +246,80 @@ static void fill_frame(struct lent *l)
     }
 }
 
+/* What reading a data-mode frame is asked, mostly what is right for it. */
+struct data_request {
+    uint32_t sync, next_crc;
+};
+
+static size_t data_octets(uint32_t form)
+{
+    return form == SDSL_SYNCHRONOUS ? SDSL_DATA_SYNCHRONOUS_OCTETS : SDSL_DATA_PLESIOCHRONOUS_OCTETS;
+}
+
+/* Mostly a small size, which takes less time. */
+static uint32_t data_size(void)
+{
+    return take8() % 4 == 0 ? number(SDSL_DATA_SIZE_MIN, SDSL_DATA_SIZE_MAX) : number(SDSL_DATA_SIZE_MIN, SDSL_DATA_SIZE_MIN + 8);
+}
+
+/* The payload's length. Of a size that is too large for any buffer here it is six times the size only in 32 bits, or in 16. */
+static size_t data_payload(uint32_t size)
+{
+    uint32_t six = 6 * size;
+    return length(six <= 2048 ? six : six % 65536 % 2048);
+}
+
+/* The six check bits due after the first 48 size + 46 bits of a frame and, in the synchronous form, two more. */
+static uint32_t data_due(const uint8_t *frame, uint32_t form, uint32_t size)
+{
+    uint32_t rest = 0;
+    for (size_t n = 15; n <= 48 * size + (form == SDSL_SYNCHRONOUS ? 48 : 46); n++) {
+        size_t in_row = n <= 12 * size + 16 ? 0 : (n - 17) % (12 * size + 10) + 1 - 12 * size; /* 1 to 10: before a payload block */
+        if (in_row != 5 && in_row != 6) { /* where the crc stands */
+            uint32_t bit = frame[(n - 1) / 8] >> ((n - 1) % 8) & 1;
+            rest = (rest << 1 ^ ((rest >> 5 ^ bit) & 1 ? 3 : 0)) & 63;
+        }
+    }
+    return rest;
+}
+
+/* A frame that is right as far as the input says: sync, stuffing, room behind, check bits; and then perhaps a bit that is not. */
+static struct data_request fill_data_frame(struct lent *l, uint32_t form, uint32_t size)
+{
+    struct data_request q = {.sync = number(0, 16383)};
+    q.next_crc = number(0, 63);
+    fill(l);
+    unsigned right = take8() % 8, stuffed = take8() & 1, wrong = (unsigned)take(2);
+    if (form > SDSL_PLESIOCHRONOUS || l->len != data_octets(form) || size < SDSL_DATA_SIZE_MIN || size > SDSL_DATA_SIZE_MAX) {
+        return q;
+    }
+    unsigned last = 48 * size + (form == SDSL_SYNCHRONOUS ? 48 : stuffed ? 50 : 46);
+    for (unsigned i = 0; right >= 1 && i < 14; i++) {
+        put_bit(l->p, 1 + i, q.sync >> i & 1);
+    }
+    if (right >= 2 && form == SDSL_PLESIOCHRONOUS) {
+        put_bit(l->p, 12 * size + 24, stuffed);
+        put_bit(l->p, 24 * size + 36, stuffed);
+        for (unsigned n = 48 * size + 47; n <= last; n++) {
+            put_bit(l->p, n, 1);
+        }
+    }
+    if (right >= 3) {
+        unsigned n = last;
+        while (n % 8 != 0) {
+            put_bit(l->p, ++n, 0);
+        }
+        memset(l->p + n / 8, 0, l->len - n / 8);
+    }
+    if (right >= 4) {
+        q.next_crc = data_due(l->p, form, size);
+    }
+    if (right >= 7 && wrong < 8 * l->len) {
+        put_bit(l->p, wrong + 1, take8() & 1);
+    }
+    return q;
+}
+
 static void keep(void)
 {
     for (unsigned i = 0; i < lent_count; i++) {
@@ -309,6 +383,63 @@ static uint32_t try_frame_check(void)
     return sdsl_frame_check(f->p, f->len);
 }
 
+static uint32_t try_data_write(void)
+{
+    uint32_t form = number(SDSL_SYNCHRONOUS, SDSL_PLESIOCHRONOUS), size = data_size(), sync = number(0, 16383);
+    struct sdsl_data_overhead overhead = {.indicators = number(0, 15)};
+    overhead.eoc = number(0, 1048575);
+    overhead.crc = number(0, 63);
+    overhead.spare = form == SDSL_SYNCHRONOUS ? number(0, 15) : (uint32_t)take(4);
+    overhead.stuffing = take8() % 16 == 0 ? number(0, 4) : form == SDSL_SYNCHRONOUS ? 0 : 4 * (take8() % 2);
+    struct lent *p = lend(data_payload(size), false), *f = lend(length(data_octets(form)), true);
+    fill(p);
+    fill(f);
+    keep();
+    struct sdsl_data_written r = sdsl_data_write(form, size, sync, overhead, p->p, p->len, f->p, f->len);
+    want(r.answer == SDSL_DONE ? r.crc <= 63 : r.crc == 0, "gives wrong check bits");
+    return r.answer;
+}
+
+static uint32_t try_data_crc(void)
+{
+    uint32_t form = number(SDSL_SYNCHRONOUS, SDSL_PLESIOCHRONOUS), size = data_size();
+    struct lent *f = lend(length(data_octets(form)), false);
+    fill_data_frame(f, form, size);
+    keep();
+    struct sdsl_data_crcs r = sdsl_data_crc(form, size, f->p, f->len);
+    want(r.answer == SDSL_DONE ? r.carried <= 63 && r.due <= 63 : (r.carried | r.due) == 0, "gives wrong check bits");
+    return r.answer;
+}
+
+static uint32_t try_data_read(void)
+{
+    uint32_t form = number(SDSL_SYNCHRONOUS, SDSL_PLESIOCHRONOUS), size = data_size();
+    struct lent *f = lend(length(data_octets(form)), false), *p = lend(data_payload(size), true);
+    struct data_request q = fill_data_frame(f, form, size);
+    fill(p);
+    keep();
+    struct sdsl_data_fields r = sdsl_data_read(form, size, q.sync, q.next_crc, f->p, f->len, p->p, p->len);
+    struct sdsl_data_overhead o = r.overhead;
+    if (r.answer == SDSL_DONE) {
+        bool synchronous = form == SDSL_SYNCHRONOUS;
+        want(o.indicators <= 15 && o.eoc <= 1048575 && o.crc <= 63, "gives a number out of its range");
+        want(synchronous ? o.spare <= 15 && o.stuffing == 0 : o.spare == 0 && (o.stuffing == 0 || o.stuffing == 4),
+             "gives spare or stuffing bits that the form does not have");
+    } else {
+        want((o.indicators | o.eoc | o.spare | o.stuffing | o.crc) == 0, "gives numbers and refuses");
+    }
+    return r.answer;
+}
+
+static uint32_t try_data_check(void)
+{
+    uint32_t form = number(SDSL_SYNCHRONOUS, SDSL_PLESIOCHRONOUS), size = data_size();
+    struct lent *f = lend(length(data_octets(form)), false);
+    struct data_request q = fill_data_frame(f, form, size);
+    keep();
+    return sdsl_data_check(form, size, q.sync, q.next_crc, f->p, f->len);
+}
+
 typedef struct sdsl_scrambled run_function(uint32_t, uint32_t, const uint8_t *, size_t, size_t, uint8_t *, size_t);
 typedef struct sdsl_scrambled frame_function(uint32_t, uint32_t, const uint8_t *, size_t, uint8_t *, size_t);
 
@@ -351,7 +482,10 @@ static uint32_t try_run(run_function *f)
     size_t len = take(2) % 300;
     struct lent *in = lend(len, false), *out = lend(length(len), true);
     uint8_t how = take8() % 8;
-    size_t bits = how == 0 ? (size_t)take(8) : how == 1 ? 8 * len + take8() % 3 - 1 : (size_t)take(3) % (8 * len + 1);
+    size_t bits = how == 0   ? (size_t)take(8)
+                  : how == 1 ? 8 * len + take8() % 3 - 1
+                  : how == 2 ? SIZE_MAX - take8() % 16 /* so many that adding to them runs over */
+                             : (size_t)take(3) % (8 * len + 1);
     fill(in);
     fill(out);
     keep();
@@ -578,10 +712,10 @@ static const struct {
     uint32_t (*call)(void);
 } tries[] = {
 #define TRY(function) {"sdsl_" #function, try_##function}
-    TRY(frame_write), TRY(frame_read), TRY(frame_check), TRY(scrambler_start), TRY(scramble_bit), TRY(descramble_bit), TRY(scramble),
-    TRY(descramble), TRY(scramble_frame), TRY(descramble_frame), TRY(activation_level), TRY(data_level), TRY(level_code),
-    TRY(encoder_start), TRY(encode), TRY(encode_run), TRY(history_start), TRY(precode), TRY(unprecode), TRY(shaper), TRY(start), TRY(step),
-    TRY(run_codes),
+    TRY(frame_write), TRY(frame_read), TRY(frame_check), TRY(data_write), TRY(data_crc), TRY(data_read), TRY(data_check),
+    TRY(scrambler_start), TRY(scramble_bit), TRY(descramble_bit), TRY(scramble), TRY(descramble), TRY(scramble_frame),
+    TRY(descramble_frame), TRY(activation_level), TRY(data_level), TRY(level_code), TRY(encoder_start), TRY(encode), TRY(encode_run),
+    TRY(history_start), TRY(precode), TRY(unprecode), TRY(shaper), TRY(start), TRY(step), TRY(run_codes),
 };
 
 static uint64_t seen[ITEMS(fuzz_functions)][ANSWERS];

@@ -7,6 +7,7 @@
 #include <string.h>
 
 #define GUARD_OCTETS 64
+#define MAX_GUARDS (2 * GUARD_OCTETS + 7) /* both guards of a zone, the first one up to 7 octets longer */
 #define MAX_LINES 20
 #define MAX_LINES_EACH 5 /* so that one function cannot hide another */
 
@@ -107,21 +108,23 @@ static uint8_t *take_memory(size_t len)
     return memory;
 }
 
-/* The guard zones' octets at place i of a zone. */
-static uint8_t guard_octet(uint64_t guard, size_t i)
+/* The octets of a zone's two guards, one after the other. */
+static void make_guards(uint64_t guard, uint8_t *octets, size_t len)
 {
-    return (uint8_t)(mixed(guard + i / 8) >> (8 * (i % 8)));
+    uint64_t eight = 0;
+    for (size_t i = 0; i < len; i++) {
+        eight = i % 8 == 0 ? mixed(guard + i / 8) : eight >> 8;
+        octets[i] = (uint8_t)(eight & 255);
+    }
 }
 
 static uint8_t *make_zone(const uint8_t *contents, size_t len, size_t front, uint64_t guard)
 {
+    uint8_t guards[MAX_GUARDS];
+    make_guards(guard, guards, front + GUARD_OCTETS);
     uint8_t *zone = take_memory(front + len + GUARD_OCTETS);
-    for (size_t i = 0; i < front; i++) {
-        zone[i] = guard_octet(guard, i);
-    }
-    for (size_t i = 0; i < GUARD_OCTETS; i++) {
-        zone[front + len + i] = guard_octet(guard, front + i);
-    }
+    memcpy(zone, guards, front);
+    memcpy(zone + front + len, guards + front, GUARD_OCTETS);
     if (len > 0) {
         memcpy(zone + front, contents, len);
     }
@@ -130,17 +133,9 @@ static uint8_t *make_zone(const uint8_t *contents, size_t len, size_t front, uin
 
 static bool guards_whole(const uint8_t *zone, size_t len, size_t front, uint64_t guard)
 {
-    for (size_t i = 0; i < front; i++) {
-        if (zone[i] != guard_octet(guard, i)) {
-            return false;
-        }
-    }
-    for (size_t i = 0; i < GUARD_OCTETS; i++) {
-        if (zone[front + len + i] != guard_octet(guard, front + i)) {
-            return false;
-        }
-    }
-    return true;
+    uint8_t guards[MAX_GUARDS];
+    make_guards(guard, guards, front + GUARD_OCTETS);
+    return memcmp(zone, guards, front) == 0 && memcmp(zone + front + len, guards + front, GUARD_OCTETS) == 0;
 }
 
 struct pair lend(const uint8_t *contents, size_t len)

@@ -25,6 +25,32 @@ uint32_t sdsl_frame_check(const uint8_t *frame, size_t frame_len)
     return ref_frame_check(frame, frame_len);
 }
 
+struct sdsl_data_written sdsl_data_write(uint32_t form, uint32_t size, uint32_t sync,
+                                         struct sdsl_data_overhead overhead,
+                                         const uint8_t *payload, size_t payload_len,
+                                         uint8_t *frame, size_t frame_len)
+{
+    return ref_data_write(form, size, sync, overhead, payload, payload_len, frame, frame_len);
+}
+
+struct sdsl_data_crcs sdsl_data_crc(uint32_t form, uint32_t size, const uint8_t *frame, size_t frame_len)
+{
+    return ref_data_crc(form, size, frame, frame_len);
+}
+
+struct sdsl_data_fields sdsl_data_read(uint32_t form, uint32_t size, uint32_t sync, uint32_t next_crc,
+                                       const uint8_t *frame, size_t frame_len,
+                                       uint8_t *payload, size_t payload_len)
+{
+    return ref_data_read(form, size, sync, next_crc, frame, frame_len, payload, payload_len);
+}
+
+uint32_t sdsl_data_check(uint32_t form, uint32_t size, uint32_t sync, uint32_t next_crc,
+                         const uint8_t *frame, size_t frame_len)
+{
+    return ref_data_check(form, size, sync, next_crc, frame, frame_len);
+}
+
 struct sdsl_scrambled sdsl_scrambler_start(uint32_t end)
 {
     return ref_scrambler_start(end);

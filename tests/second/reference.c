@@ -285,6 +285,330 @@ uint32_t ref_frame_check(const uint8_t *frame, size_t frame_len)
     return judge(bits, &kind);
 }
 
+/* ---- The data-mode frame ---- */
+
+/*
+ * Table 7.2 in letters, one for each bit, in the order in which they are sent:
+ *
+ *     s  sync word       e  eoc01 to eoc20   i  sbid1, sbid2
+ *     f  fbit1 to fbit4  c  crc1 to crc6     x  stuffing bits, or the two spare bits of the synchronous form
+ *
+ * So the third e is eoc03: the bits of each letter come in their own order, from the first on. Behind each of these four rows come 12
+ * payload sub-blocks of k bits, and at the frame's end a tail of x.
+ */
+static const char *const overhead_rows[4] = {"ssssssssssssssff", "eeeeccfiee", "eeeeccfeei", "eeeecceeee"};
+
+#define DATA_BITS_ROOM 14000 /* more than the bits of the longest frame, 13,922 */
+
+/* How many x a frame of this form has, if nothing is stuffed. */
+static size_t plain_tail(uint32_t form)
+{
+    return form == SDSL_SYNCHRONOUS ? 2 : 0;
+}
+
+/* Bit n of octets, from 1. */
+static uint8_t data_bit(const uint8_t *octets, size_t n)
+{
+    return (uint8_t)((octets[(n - 1) / 8] >> ((n - 1) % 8)) % 2);
+}
+
+/* A frame taken apart, bit by bit. */
+struct dealt {
+    uint32_t number['x' + 1]; /* for each letter its bits as a number, the first at weight 1 */
+    uint32_t weight['x' + 1]; /* that of the letter's next bit */
+    uint8_t payload[DATA_BITS_ROOM]; /* bits 1 to payload_bits */
+    size_t payload_bits;
+    uint8_t covered[DATA_BITS_ROOM]; /* what the crc covers, bits 1 to m */
+    size_t m;
+    size_t frame_bits; /* without the room behind */
+};
+
+static void deal_letter(uint32_t form, char letter, uint8_t bit, struct dealt *d)
+{
+    size_t l = (size_t)letter;
+    d->number[l] += d->weight[l] * bit;
+    d->weight[l] *= 2;
+    bool stuffing = letter == 'x' && form == SDSL_PLESIOCHRONOUS;
+    if (letter != 's' && letter != 'c' && !stuffing) {
+        d->m++;
+        d->covered[d->m] = bit;
+    }
+}
+
+static void deal(uint32_t form, uint32_t k, size_t tail, const uint8_t *frame, struct dealt *d)
+{
+    for (size_t l = 0; l <= 'x'; l++) {
+        d->number[l] = 0;
+        d->weight[l] = 1;
+    }
+    d->payload_bits = 0;
+    d->m = 0;
+    size_t n = 0;
+    for (size_t row = 0; row < 4; row++) {
+        for (const char *letter = overhead_rows[row]; *letter != '\0'; letter++) {
+            n++;
+            deal_letter(form, *letter, data_bit(frame, n), d);
+        }
+        size_t run = 12 * (size_t)k;
+        uint8_t *payload = d->payload + d->payload_bits;
+        uint8_t *covered = d->covered + d->m;
+        for (size_t i = 1; i <= run; i++) {
+            uint8_t bit = data_bit(frame, n + i);
+            payload[i] = bit;
+            covered[i] = bit;
+        }
+        n += run;
+        d->payload_bits += run;
+        d->m += run;
+    }
+    for (size_t i = 0; i < tail; i++) {
+        n++;
+        deal_letter(form, 'x', data_bit(frame, n), d);
+    }
+    d->frame_bits = n;
+}
+
+/* The six c that stand in a frame: the first, crc1, weighs 32. */
+static uint32_t carried_crc(const struct dealt *d)
+{
+    uint32_t crc = 0;
+    for (size_t i = 0; i < 6; i++) {
+        crc = 2 * crc + (d->number['c'] >> i) % 2;
+    }
+    return crc;
+}
+
+/*
+ * The crc that the next frame has to carry, by schoolbook division: the covered bits, the first of them the coefficient of the highest
+ * power, with six zeros behind them, by X^6 + X + 1. The coefficient of X^5 in what is left is crc1 and weighs 32.
+ */
+static uint32_t due_crc(struct dealt *d)
+{
+    uint8_t *rest = d->covered;
+    for (size_t i = 1; i <= 6; i++) {
+        rest[d->m + i] = 0;
+    }
+    /* From each coefficient on the divisor is taken away as often as the coefficient says: its X^6 there, its X and 1 behind. */
+    size_t m = d->m;
+    for (size_t i = 1; i <= m; i++) {
+        rest[i + 5] = (uint8_t)((rest[i + 5] + rest[i]) % 2);
+        rest[i + 6] = (uint8_t)((rest[i + 6] + rest[i]) % 2);
+    }
+    uint32_t crc = 0;
+    for (size_t i = 1; i <= 6; i++) {
+        crc = 2 * crc + rest[m + i];
+    }
+    return crc;
+}
+
+/* A form that there is not might have the room of either. */
+static bool is_data_room(uint32_t form, size_t frame_len)
+{
+    if (form == SDSL_SYNCHRONOUS) {
+        return frame_len == 1740;
+    }
+    if (form == SDSL_PLESIOCHRONOUS) {
+        return frame_len == 1741;
+    }
+    return frame_len == 1740 || frame_len == 1741;
+}
+
+static bool is_data_payload(uint32_t size, size_t payload_len)
+{
+    return (uint64_t)payload_len == 6 * (uint64_t)size;
+}
+
+static bool is_data_form(uint32_t form)
+{
+    return form == SDSL_SYNCHRONOUS || form == SDSL_PLESIOCHRONOUS;
+}
+
+/* k = i + 8 n with i from 0 to 7 and n from 3 to 36; where n is 36, i is 0 or 1. */
+static bool is_data_size(uint32_t size)
+{
+    uint32_t i = size % 8;
+    uint32_t n = size / 8;
+    return n >= 3 && n <= 36 && (n < 36 || i <= 1);
+}
+
+/* Puts the next bit, number *n + 1, into a frame of zeros. */
+static void put_next(uint8_t *frame, size_t *n, uint32_t bit)
+{
+    frame[*n / 8] = (uint8_t)(frame[*n / 8] + (bit << (*n % 8)));
+    (*n)++;
+}
+
+struct sdsl_data_written ref_data_write(uint32_t form, uint32_t size, uint32_t sync,
+                                        struct sdsl_data_overhead overhead,
+                                        const uint8_t *payload, size_t payload_len,
+                                        uint8_t *frame, size_t frame_len)
+{
+    struct sdsl_data_written result = {0, 0};
+    if (!is_data_room(form, frame_len) || !is_data_payload(size, payload_len)) {
+        result.answer = SDSL_BAD_LENGTH;
+        return result;
+    }
+    if (!is_data_form(form)) {
+        result.answer = SDSL_UNKNOWN;
+        return result;
+    }
+    bool synchronous = form == SDSL_SYNCHRONOUS;
+    if (!is_data_size(size) || sync > 16383 || overhead.indicators > 15 || overhead.eoc > 1048575 || overhead.crc > 63 ||
+        (synchronous && overhead.spare > 15)) {
+        result.answer = SDSL_OUT_OF_RANGE;
+        return result;
+    }
+    if (overhead.stuffing != 0 && (synchronous || overhead.stuffing != 4)) {
+        result.answer = SDSL_BAD_STUFFING;
+        return result;
+    }
+
+    for (size_t i = 0; i < frame_len; i++) {
+        frame[i] = 0;
+    }
+    /* What i and x hold, the first at weight 1: the spare bits, or whether there is stuffing, and stuffing bits, which are ONE. */
+    uint32_t spare = synchronous ? overhead.spare : overhead.stuffing == 4 ? 63 : 0;
+    size_t tail = synchronous ? 2 : overhead.stuffing;
+    size_t n = 0;
+    size_t payload_bits = 0;
+    for (size_t row = 0; row < 4; row++) {
+        for (const char *letter = overhead_rows[row]; *letter != '\0'; letter++) {
+            switch (*letter) {
+            case 's':
+                put_next(frame, &n, sync % 2);
+                sync /= 2;
+                break;
+            case 'f':
+                put_next(frame, &n, overhead.indicators % 2);
+                overhead.indicators /= 2;
+                break;
+            case 'e':
+                put_next(frame, &n, overhead.eoc % 2);
+                overhead.eoc /= 2;
+                break;
+            case 'c': /* crc1 weighs 32: once it is out, crc2 does */
+                put_next(frame, &n, overhead.crc / 32 % 2);
+                overhead.crc *= 2;
+                break;
+            default: /* i */
+                put_next(frame, &n, spare % 2);
+                spare /= 2;
+                break;
+            }
+        }
+        for (size_t i = 0; i < 12 * (size_t)size; i++) {
+            payload_bits++;
+            put_next(frame, &n, data_bit(payload, payload_bits));
+        }
+    }
+    for (size_t i = 0; i < tail; i++) {
+        put_next(frame, &n, spare % 2);
+        spare /= 2;
+    }
+    struct dealt d;
+    deal(form, size, tail, frame, &d);
+    result.crc = due_crc(&d);
+    return result;
+}
+
+struct sdsl_data_crcs ref_data_crc(uint32_t form, uint32_t size, const uint8_t *frame, size_t frame_len)
+{
+    struct sdsl_data_crcs result = {0, 0, 0};
+    if (!is_data_room(form, frame_len)) {
+        result.answer = SDSL_BAD_LENGTH;
+    } else if (!is_data_form(form)) {
+        result.answer = SDSL_UNKNOWN;
+    } else if (!is_data_size(size)) {
+        result.answer = SDSL_OUT_OF_RANGE;
+    } else {
+        struct dealt d;
+        deal(form, size, plain_tail(form), frame, &d);
+        result.carried = carried_crc(&d);
+        result.due = due_crc(&d);
+    }
+    return result;
+}
+
+/* The refusals of a reader, but that for its payload's length. Where there is none the frame comes back taken apart. */
+static uint32_t judge_data(uint32_t form, uint32_t size, uint32_t sync, uint32_t next_crc, const uint8_t *frame, size_t frame_len,
+                           struct dealt *d)
+{
+    if (!is_data_room(form, frame_len)) {
+        return SDSL_BAD_LENGTH;
+    }
+    if (!is_data_form(form)) {
+        return SDSL_UNKNOWN;
+    }
+    if (!is_data_size(size) || sync > 16383 || next_crc > 63) {
+        return SDSL_OUT_OF_RANGE;
+    }
+
+    for (size_t n = 1; n <= 14; n++) {
+        if (data_bit(frame, n) != (sync >> (n - 1)) % 2) {
+            return SDSL_NO_SYNC;
+        }
+    }
+    deal(form, size, plain_tail(form), frame, d);
+    if (form == SDSL_PLESIOCHRONOUS && d->number['i'] != 0) {
+        if (d->number['i'] != 3) {
+            return SDSL_BAD_STUFFING;
+        }
+        deal(form, size, 4, frame, d);
+        if (d->number['x'] != 15) {
+            return SDSL_BAD_STUFFING;
+        }
+    }
+    /* Bits to the end of the octet in which the frame ends, then octets. */
+    size_t n = d->frame_bits;
+    while (n % 8 != 0) {
+        n++;
+        if (data_bit(frame, n) != 0) {
+            return SDSL_BAD_PAD;
+        }
+    }
+    for (size_t i = n / 8; i < frame_len; i++) {
+        if (frame[i] != 0) {
+            return SDSL_BAD_PAD;
+        }
+    }
+    if (due_crc(d) != next_crc) {
+        return SDSL_BAD_CHECK;
+    }
+    return SDSL_DONE;
+}
+
+struct sdsl_data_fields ref_data_read(uint32_t form, uint32_t size, uint32_t sync, uint32_t next_crc,
+                                      const uint8_t *frame, size_t frame_len,
+                                      uint8_t *payload, size_t payload_len)
+{
+    struct sdsl_data_fields fields = {0, {0, 0, 0, 0, 0}};
+    if (!is_data_payload(size, payload_len)) {
+        fields.answer = SDSL_BAD_LENGTH;
+        return fields;
+    }
+    struct dealt d;
+    fields.answer = judge_data(form, size, sync, next_crc, frame, frame_len, &d);
+    if (fields.answer != SDSL_DONE) {
+        return fields;
+    }
+    fields.overhead.indicators = d.number['f'];
+    fields.overhead.eoc = d.number['e'];
+    fields.overhead.crc = carried_crc(&d);
+    if (form == SDSL_SYNCHRONOUS) {
+        fields.overhead.spare = d.number['i'] + 4 * d.number['x'];
+    } else {
+        fields.overhead.stuffing = d.number['i'] == 3 ? 4 : 0;
+    }
+    pack(d.payload, d.payload_bits, payload);
+    return fields;
+}
+
+uint32_t ref_data_check(uint32_t form, uint32_t size, uint32_t sync, uint32_t next_crc, const uint8_t *frame, size_t frame_len)
+{
+    struct dealt d;
+    return judge_data(form, size, sync, next_crc, frame, frame_len, &d);
+}
+
 /* ---- The scrambler ---- */
 
 /*

@@ -20,6 +20,18 @@ struct sdsl_frame_fields ref_frame_read(const uint8_t *frame, size_t frame_len,
                                         uint8_t *vendor, size_t vendor_len);
 uint32_t ref_frame_check(const uint8_t *frame, size_t frame_len);
 
+/* The data-mode frame. */
+struct sdsl_data_written ref_data_write(uint32_t form, uint32_t size, uint32_t sync,
+                                        struct sdsl_data_overhead overhead,
+                                        const uint8_t *payload, size_t payload_len,
+                                        uint8_t *frame, size_t frame_len);
+struct sdsl_data_crcs ref_data_crc(uint32_t form, uint32_t size, const uint8_t *frame, size_t frame_len);
+struct sdsl_data_fields ref_data_read(uint32_t form, uint32_t size, uint32_t sync, uint32_t next_crc,
+                                      const uint8_t *frame, size_t frame_len,
+                                      uint8_t *payload, size_t payload_len);
+uint32_t ref_data_check(uint32_t form, uint32_t size, uint32_t sync, uint32_t next_crc,
+                        const uint8_t *frame, size_t frame_len);
+
 /* The scrambler. */
 struct sdsl_scrambled ref_scrambler_start(uint32_t end);
 struct sdsl_scrambled_bit ref_scramble_bit(uint32_t end, uint32_t state, uint32_t bit);

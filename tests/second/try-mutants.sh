@@ -1,21 +1,24 @@
 #!/bin/bash
-# try-mutants.sh [include-directory [scale]]: shows that the driver notices.
+# try-mutants.sh [include-directory [scale [group...]]]: shows that the driver notices.
 #
-# The driver is built once with reference.c as it is. Then, for each mutant, a copy of reference.c with one line changed by sed (ref_...
-# renamed to mut_...) stands in for the library behind mock.c. Each mutant has to make the driver end with status 1; the mock with no
-# change has to make it end with 0. (A mutant that makes it crash is caught too.) The scale is the driver's second argument. Status 0
-# only if all of that holds.
+# The driver is built with reference.c as it is, once for each of its groups. Then, for each mutant, a copy of reference.c with one line
+# changed by sed (ref_... renamed to mut_...) stands in for the library behind mock.c. Each mutant has to make its own group of the
+# driver end with status 1; the mock with no change has to make it end with 0. (A mutant that makes it crash is caught too.) The scale
+# is the driver's second argument. Groups: frame, data, scrambler, symbols, startup; all if none is named. Status 0 only if all of that
+# holds.
 set -u
 include=$(cd "${1:-$(dirname "$0")/../../include}" && pwd) || exit 2
 cd "$(dirname "$0")" || exit 2
 scale=${2:-0.1}
+groups=${*:3}
+groups=${groups:-frame data scrambler symbols startup}
 cc=${CC:-gcc}
 flags="-std=c11 -Wall -Wextra -Wconversion -Werror -O2 -I$include"
 
 work=$(mktemp -d) || exit 2
 trap 'rm -rf "$work"' EXIT
 
-for file in second harness second_frame second_scrambler second_symbols second_startup bylist reference; do
+for file in harness bylist reference; do
     $cc $flags -c "$file.c" -o "$work/$file.o" || exit 2
 done
 sed 's/\bref_/mut_/g' reference.h > "$work/mutant.h"
@@ -24,6 +27,24 @@ $cc $flags -I"$work" -c "$work/mock.c" -o "$work/mock.o" || exit 2
 
 tried=0
 missed=0
+on=false
+
+# group NAME: from here on the driver has this group alone. Says whether it agrees with the mock as it is.
+group() {
+    on=false
+    case " $groups " in *" $1 "*) ;; *) return ;; esac
+    on=true
+    echo "-- $1"
+    for file in second "second_$1"; do
+        $cc $flags "-DSECOND_${1^^}" -c "$file.c" -o "$work/${file/#second_*/group}.o" || exit 2
+    done
+    if ! build 0 -e '' || ! "$work/driver" 0x5eed "$scale" > "$work/output"; then
+        echo "the mock with no change already differs:"
+        cat "$work/output"
+        exit 1
+    fi
+    echo "no change: $(tail -n 1 "$work/output")"
+}
 
 # build LINES SED...: the driver against the changed copy. Fails if not exactly so many lines changed.
 build() {
@@ -45,6 +66,7 @@ build() {
 mutant() {
     local text=$1 lines=1
     shift
+    $on || return
     case $text in *"(two lines)"*) lines=2 ;; esac
     tried=$((tried + 1))
     if ! build "$lines" "$@"; then
@@ -65,14 +87,7 @@ mutant() {
     fi
 }
 
-if ! build 0 -e '' || ! "$work/driver" 0x5eed "$scale" > "$work/output"; then
-    echo "the mock with no change already differs:"
-    cat "$work/output"
-    exit 1
-fi
-echo "no change: $(tail -n 1 "$work/output")"
-
-echo "-- frame"
+group frame
 mutant "A and B read last bit first" -e '/^static int64_t get_field/,/^}/s/bits\[first + i\]/bits[first + (width == 21 ? 20 - i : i)]/'
 mutant "A and B written last bit first" -e '/^static void put_field/,/^}/s/bits\[first + i\]/bits[first + (width == 21 ? 20 - i : i)]/'
 mutant "a coefficient's sign lost" -e 's/^                number -= 4194304;$/                number -= 0;/'
@@ -92,7 +107,65 @@ mutant "one octet too many written" -e '/^uint32_t ref_frame_write/,/^}/s/^    p
 mutant "a const buffer written" -e '/^uint32_t ref_frame_write/,/^}/s/^    put_check_bits(bits);/    put_check_bits(bits); ((uint8_t *)vendor)[15] ^= 128;/'
 mutant "vendor data written before a refusal" -e '/^struct sdsl_frame_fields ref_frame_read/,/^}/s/^    fields.answer = judge(bits, &kind);/    fields.answer = judge(bits, \&kind); pack(bits + 4016, 128, vendor);/'
 
-echo "-- scrambler"
+group data
+mutant "own check bits written into the frame" -e '/^struct sdsl_data_written ref_data_write/,/^}/s/^    result.crc = due_crc(&d);/& size_t p[6] = {12*size+20, 12*size+21, 24*size+30, 24*size+31, 36*size+40, 36*size+41}; for (int j = 0; j < 6; j++) frame[p[j]\/8] = (frame[p[j]\/8] \& ~(1 << p[j]%8)) | (result.crc >> (5-j) \& 1) << p[j]%8;/'
+mutant "check bits compared with those in the same frame" -e '/^static uint32_t judge_data/,/^}/s/^    if (due_crc(d) != next_crc) {/    next_crc = carried_crc(d); if (due_crc(d) != next_crc) {/'
+mutant "stuffing bits covered" -e '/^static void deal_letter/,/^}/s/bool stuffing = .*/bool stuffing = false;/'
+mutant "sbid not covered" -e "/^static void deal_letter/,/^}/s/letter != 'c' \&\&/letter != 'c' \&\& letter != 'i' \&\&/"
+mutant "spa not covered" -e "/^static void deal_letter/,/^}/s/bool stuffing = .*/bool stuffing = letter == 'x';/"
+mutant "sync word covered" -e "/^static void deal_letter/,/^}/s/letter != 's' \&\& //"
+mutant "crc bits covered" -e "/^static void deal_letter/,/^}/s/letter != 'c' \&\& //"
+mutant "crc6 written first (two lines)" -e 's/overhead.crc \/ 32 % 2/overhead.crc % 2/' -e 's/overhead.crc \*= 2;/overhead.crc \/= 2;/'
+mutant "crc6 read first" -e "s/^        crc = 2 \* crc + (d->number\['c'\] >> i) % 2;/        crc = d->number['c'];/"
+mutant "crc6 as the coefficient of X^5" -e '/^static uint32_t due_crc/,/^}/s/rest\[m + i\]/rest[m + 7 - i]/'
+mutant "six crc bits in one row" -e 's/"eeeeccfiee", "eeeeccfeei", "eeeecceeee"/"eeeecccccc", "fieeeeeefe", "eieeeeeeee"/'
+mutant "sbid2 at 24k+34" -e 's/"eeeeccfeei"/"eeeeccfiee"/'
+mutant "segd taken for ps" -e "/^struct sdsl_data_fields ref_data_read/,/^}/s/fields.overhead.indicators = d.number\['f'\];/fields.overhead.indicators = d.number['f'] % 4 + d.number['f'] \/ 8 * 4 + d.number['f'] \/ 4 % 2 * 8;/"
+mutant "another divisor, X^6 + X^5 + 1" -e '/^static uint32_t due_crc/,/^}/s/rest\[i + 5\]/rest[i + 1]/g'
+mutant "k a multiple of 8" -e '/^static bool is_data_size/,/^}/s/^    return .*/    return n >= 3 \&\& n <= 36 \&\& i == 0;/'
+mutant "i = 2 at n = 36 taken" -e '/^static bool is_data_size/,/^}/s/i <= 1/i <= 2/'
+mutant "n = 2 taken" -e '/^static bool is_data_size/,/^}/s/n >= 3/n >= 2 \&\& size >= 23/'
+mutant "six times the size runs over" -e '/^static bool is_data_payload/,/^}/s/6 \* (uint64_t)size/(uint32_t)(6 * size)/'
+mutant "a longer payload taken" -e '/^static bool is_data_payload/,/^}/s/payload_len ==/payload_len >=/'
+mutant "one room for both forms" -e '/^static bool is_data_room/,/^}/s/return frame_len == 1740;/return frame_len == 1741;/'
+mutant "either room for both forms" -e '/^static bool is_data_room/,/^}/s/return frame_len == 1740;/return frame_len == 1740 || frame_len == 1741;/'
+mutant "a room of 6k + 7 octets taken" -e '/^struct sdsl_data_written ref_data_write/,/^}/s/^    if (!is_data_room(form, frame_len) /    if ((!is_data_room(form, frame_len) \&\& frame_len != 6 * (size_t)size + 7) /'
+mutant "an unknown form has any room" -e '/^static bool is_data_room/,/^}/s/^    return frame_len == 1740 || .*/    return true;/'
+mutant "a form taken as one octet" -e '/^static uint32_t judge_data/,/^}/s/^    if (!is_data_room/    form %= 256; if (!is_data_room/'
+mutant "ones behind the payload where nothing is stuffed (two lines)" -e 's/overhead.stuffing == 4 ? 63 : 0;/overhead.stuffing == 4 ? 63 : 60;/' -e 's/size_t tail = synchronous ? 2 : overhead.stuffing;/size_t tail = synchronous ? 2 : 4;/'
+mutant "sbid1 alone looked at (two lines)" -e "/^static uint32_t judge_data/,/^}/s/d->number\['i'\] != 0/d->number['i'] % 2 != 0/" -e "/^static uint32_t judge_data/,/^}/s/d->number\['i'\] != 3/false/"
+mutant "sbid1 and sbid2 never different" -e "/^static uint32_t judge_data/,/^}/s/d->number\['i'\] != 3/false/"
+mutant "stuffing bits not looked at" -e "/^static uint32_t judge_data/,/^}/s/d->number\['x'\] != 15/false/"
+mutant "stuffing bits zero" -e 's/overhead.stuffing == 4 ? 63 : 0;/overhead.stuffing == 4 ? 3 : 0;/'
+mutant "sbid looked at in the synchronous form" -e '/^static uint32_t judge_data/,/^}/s/form == SDSL_PLESIOCHRONOUS && //'
+mutant "stuffing ignored in the synchronous form" -e 's/(synchronous || overhead.stuffing != 4)/!synchronous \&\& overhead.stuffing != 4/'
+mutant "two stuffing bits taken" -e 's/(synchronous || overhead.stuffing != 4)/(synchronous || overhead.stuffing % 2 == 1 || overhead.stuffing > 4)/'
+mutant "spare bits of the plesiochronous form refused" -e 's/(synchronous && overhead.spare > 15)/overhead.spare > 15/'
+mutant "spare bits of the plesiochronous form handed back" -e "/^struct sdsl_data_fields ref_data_read/,/^}/s/^        fields.overhead.stuffing = /        fields.overhead.spare = d.number['i']; fields.overhead.stuffing = /"
+mutant "checks in another order: 6 before 9" -e '/^static uint32_t judge_data/,/^}/s/^    if (form == SDSL_PLESIOCHRONOUS/    for (size_t j = 6 * size + 7; j < frame_len; j++) if (frame[j] != 0) return SDSL_BAD_PAD; &/'
+mutant "checks in another order: 7 before 6" -e '/^static uint32_t judge_data/,/^}/s/^    size_t n = d->frame_bits;/    struct dealt e = *d; if (due_crc(\&e) != next_crc) return SDSL_BAD_CHECK; &/'
+mutant "checks in another order: 9 before 5" -e "/^static uint32_t judge_data/,/^}/s/^    for (size_t n = 1; n <= 14; n++) {/    deal(form, size, 0, frame, d); if (form == 1 \&\& d->number['i'] % 3 != 0) return SDSL_BAD_STUFFING; &/"
+mutant "checks in another order: 9 before 4" -e '/^struct sdsl_data_written ref_data_write/,/^}/s/^    bool synchronous = .*/& if (overhead.stuffing > 4) { result.answer = SDSL_BAD_STUFFING; return result; }/'
+mutant "checks in another order: 2 before 1" -e '/^static uint32_t judge_data/,/^}/s/^    if (!is_data_room/    if (form > 1) return SDSL_UNKNOWN; &/'
+mutant "checks in another order: 4 before 2" -e '/^static uint32_t judge_data/,/^}/s/^    if (!is_data_form/    if (!is_data_size(size)) return SDSL_OUT_OF_RANGE; &/'
+mutant "next_crc cut to six bits" -e '/^static uint32_t judge_data/,/^}/s/ || next_crc > 63/ || (next_crc %= 64) > 63/'
+mutant "an eoc of 21 bits taken" -e 's/overhead.eoc > 1048575/overhead.eoc > 2097151/'
+mutant "sync word last bit first" -e '/^static uint32_t judge_data/,/^}/s/(sync >> (n - 1))/(sync >> (14 - n))/'
+mutant "payload octets written last bit first" -e 's/data_bit(payload, payload_bits)/data_bit(payload, payload_bits + 7 - 2 * ((payload_bits - 1) % 8))/'
+mutant "payload octets read last bit first" -e 's/^    pack(d.payload, d.payload_bits, payload);/    for (size_t p = 1; p <= d.payload_bits; p += 8) for (int j = 0; j < 4; j++) { uint8_t t = d.payload[p + j]; d.payload[p + j] = d.payload[p + 7 - j]; d.payload[p + 7 - j] = t; } &/'
+mutant "the second block read one bit early" -e '/^static void deal(/,/^}/s/data_bit(frame, n + i)/data_bit(frame, n + i - (row == 1))/'
+mutant "the second block written one bit early" -e '/^struct sdsl_data_written ref_data_write/,/^}/s/^    struct dealt d;/    uint8_t t[2] = {data_bit(frame, 12 * size + 26), data_bit(frame, 12 * size + 27)}; for (size_t p = 0; p < 2; p++) { n = 12 * size + 25 + p; frame[n \/ 8] \&= ~(1 << n % 8); put_next(frame, \&n, t[1 - p]); } &/'
+mutant "the room behind not cleared" -e '/^struct sdsl_data_written ref_data_write/,/^}/s/i < frame_len; i++/i < (48 * size + 57) \/ 8; i++/'
+mutant "the room not looked at to its end" -e '/^static uint32_t judge_data/,/^}/s/i < frame_len; i++/i < frame_len - 1; i++/'
+mutant "the bits beside the frame's last not looked at" -e '/^static uint32_t judge_data/,/^}/s/^        if (data_bit(frame, n) != 0) {/        if (false) {/'
+mutant "one octet too many written" -e '/^struct sdsl_data_written ref_data_write/,/^}/s/^    struct dealt d;/    frame[frame_len] ^= 1; &/'
+mutant "a const buffer written" -e '/^struct sdsl_data_written ref_data_write/,/^}/s/^    struct dealt d;/    ((uint8_t *)payload)[0] ^= 1; &/'
+mutant "payload written before a refusal" -e '/^struct sdsl_data_fields ref_data_read/,/^}/s/^    if (fields.answer != SDSL_DONE) {/    if (fields.answer > 4) pack(d.payload, 8, payload); &/'
+mutant "check bits given with a refusal" -e '/^struct sdsl_data_written ref_data_write/,/^}/s/^        result.answer = SDSL_BAD_STUFFING;/        result.crc = overhead.crc; &/'
+mutant "overhead given with a refusal" -e '/^struct sdsl_data_fields ref_data_read/,/^}/s/^    if (fields.answer != SDSL_DONE) {/    if (fields.answer == SDSL_BAD_CHECK) fields.overhead.crc = carried_crc(\&d); &/'
+mutant "check bits refused of a frame with wrong stuffing" -e "/^struct sdsl_data_crcs ref_data_crc/,/^}/s/^        result.carried = /        if (form == 1 \&\& d.number['i'] % 3 != 0) { result.answer = SDSL_BAD_STUFFING; return result; } &/"
+
+group scrambler
 mutant "taps exchanged" -e 's/end == SDSL_LTU ? 5 : 18/end == SDSL_LTU ? 18 : 5/'
 mutant "scrambler clocked through the sync bits" -e 's/^    size_t straight = 14;/    size_t straight = 0;/'
 mutant "pad of a scrambled frame not checked" -e '/^static struct sdsl_scrambled run_frame/,/^}/s/if (!all_zero(in_bits, LAST_BIT + 1, FRAME_BITS))/if (false)/'
@@ -106,7 +179,7 @@ mutant "a scrambler that starts with a one" -e '/^struct sdsl_scrambled ref_scra
 mutant "a bit of 2 taken" -e '/^static struct sdsl_scrambled_bit run_bit/,/^}/s/bit > 1/bit > 2/'
 mutant "descrambling keeps a plain bit in the state" -e '/^static uint32_t descramble_bits/,/^}/s/state_after(s, count)/state_after(s, count) ^ (count > 0 ? out[count] ^ s[22 + count] : 0)/'
 
-echo "-- symbols"
+group symbols
 mutant "codes 8 to 15 rising in order" -e 's/^    9, 11, 13, 15,  .*/    1, 3, 5, 7, 9, 11, 13, 15,/'
 mutant "A and B exchanged" -e 's/2 \* (left_by_a % 2) + left_by_b % 2/2 * (left_by_b % 2) + left_by_a % 2/'
 mutant "the oldest X1 not masked by a20" -e 's/^        x1\[20 + m\] = symbols\[m\] \/ 4;/        x1[20 + m] = symbols[m] \/ 4; a \&= 1048575;/'
@@ -122,7 +195,7 @@ mutant "a range checked one too wide" -e 's/!all_within(history, 720, -131072, 1
 mutant "a symbol of 8 taken" -e 's/^        if (symbols\[m\] > 7) {/        if (symbols[m] > 8) {/'
 mutant "the float of y / 131,071" -e '/^struct sdsl_shaped ref_shaper/,/^}/s/^    result.value = (float)y;/    result.value = (float)y * 131072.0f \/ 131071.0f;/'
 
-echo "-- startup"
+group startup
 mutant "report 4 heard before S_c or S_r and remembered (two lines)" -e '/^static struct sdsl_supervisor enter(/,/^}/s/^    s.converged = 0;/    s.converged = phase == SDSL_SC || phase == SDSL_SR ? s.converged : 0;/' -e 's/^        if (s.phase == SDSL_SR || s.phase == SDSL_SC) {/        if (s.phase == SDSL_SR || s.phase == SDSL_SC || s.phase == SDSL_QUIET) {/'
 mutant "marks handed in before S_c or S_r kept" -e '/^static struct sdsl_supervisor enter(/,/^}/s/^    s.converged = 0;/    s.converged = phase == SDSL_SC || phase == SDSL_SR ? s.converged : 0;/'
 mutant "the 15,000th tick loses to the end of a phase" -e 's/^        if (s.attempt >= 15000) {/        if (s.attempt >= 15000 \&\& phase_by_now(s) == s.phase) {/'
@@ -145,4 +218,4 @@ mutant "a run counts the end of an attempt opened before it" -e 's/^        } el
 mutant "places not counted over skipped codes" -e '/^struct sdsl_run ref_run_codes/,/^}/s/^            result.opened_at = place;/            for (size_t i = result.opened_at = place; i > 0; i--) result.opened_at -= codes[i - 1] > 8;/'
 
 echo "$tried mutants, $((tried - missed)) caught"
-[ "$missed" -eq 0 ]
+[ "$missed" -eq 0 ] && [ "$tried" -gt 0 ]

@@ -1,7 +1,7 @@
 -- Laws of answers. Assumes nothing.
 use mathlib.Core.Path.{_≡_, refl, ap}
 use mathlib.Core.Bool.{Bool, true, false, cond}
-use mathlib.Core.List.{List, _∷_}
+use mathlib.Core.List.{List, [], _∷_, _++_}
 use Prim.Native.Nat.{ℕ, zero, suc}
 use native.Mathlib.Omega.{arith}
 use Rattle.answer.specs.Answer.{Refusal, refuse, answer, held}
@@ -18,6 +18,16 @@ passed n ts e = ap (λ (b : Bool). cond b n (answer ts)) e
 pub none : (n : ℕ) (t : Bool) (ts : List Refusal) → answer (refuse (suc n) t ∷ ts) ≡ 0 → (t ≡ false) × (answer ts ≡ 0)
 none n true ts e = absurd (omega arith)
 none n false ts e = (refl, e)
+
+-- checks behind others are not reached where one of those applies
+pub stopped : (ts us : List Refusal) → (answer ts ≡ 0 → ⊥) → answer (ts ++ us) ≡ answer ts
+stopped [] us n = absurd (n refl)
+stopped (t ∷ ts) us n = pick (t .applies) n (λ z. stopped ts us z)
+  where
+    pick : (b : Bool) → (cond b (t .number) (answer ts) ≡ 0 → ⊥) → ((answer ts ≡ 0 → ⊥) → answer (ts ++ us) ≡ answer ts)
+        → cond b (t .number) (answer (ts ++ us)) ≡ cond b (t .number) (answer ts)
+    pick true z ih = refl
+    pick false z ih = ih z
 
 -- a refusal gives the old
 pub kept : {A : Type 0} (n : ℕ) (old new : A) → (n ≡ 0 → ⊥) → held n old new ≡ old

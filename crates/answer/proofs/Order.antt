@@ -43,7 +43,7 @@ some-up n (suc k) h = refl
 joined : (a b : Bool) → a ≡ true → b ≡ true → a && b ≡ true
 joined a b p q = ap₂ _&&_ p q
 
-risen : (low : ℕ) (ts : List Refusal) → low ≤ 8 → inOrder low ts ≡ true → inTurn (up low (9 - low)) ts ≡ true
+risen : (low : ℕ) (ts : List Refusal) → low ≤ 8 → inOrder low ts ≡ true → inTurn (up low (10 - low)) ts ≡ true
 unfolding inOrder inTurn
 risen low [] h e = refl
 risen low (t ∷ ts) h e =
@@ -52,10 +52,10 @@ risen low (t ∷ ts) h e =
     let q = both (leb n 8) (inOrder n ts) (p .1) in
     let l : low ≤ n = leb-true low n (p .0) in
     let m : n ≤ 8 = leb-true n 8 (q .0) in
-    let c : low + (9 - low) - n ≡ 9 - n = omega arith in
-    let f : from n (up low (9 - low)) ≡ up n (9 - n) = from-up low n (9 - low) l (omega arith) ∙ ap (up n) c in
+    let c : low + (10 - low) - n ≡ 10 - n = omega arith in
+    let f : from n (up low (10 - low)) ≡ up n (10 - n) = from-up low n (10 - low) l (omega arith) ∙ ap (up n) c in
     subst (λ (o : List ℕ). some o && inTurn o ts ≡ true) (sym f)
-    (joined (some (up n (9 - n))) (inTurn (up n (9 - n)) ts) (some-up n (9 - n) (omega arith)) (risen n ts m (q .1)))
+    (joined (some (up n (10 - n))) (inTurn (up n (10 - n)) ts) (some-up n (10 - n) (omega arith)) (risen n ts m (q .1)))
 
 -- checks whose numbers lie from 1 to 8 and never fall run in SCOPE's order
 pub rising-is : (ts : List Refusal) → inOrder 1 ts ≡ true → inTurn rising ts ≡ true
@@ -90,17 +90,22 @@ answer-in order (t ∷ ts) e =
     pick false h (inl z) = inl z
     pick false h (inr z) = inr (further (answer ts) (t .number) order z)
 
--- and so, in SCOPE's order, it is a number of the table
-pub answer-in-table : (ts : List Refusal) → inTurn rising ts ≡ true → inTable (answer ts) ≡ true
-answer-in-table ts e = pick (answer-in rising ts e)
+-- and so it is a number of the table, where the order's numbers are
+pub listed-in-table : (order : List ℕ) → ((n : ℕ) → some (from n order) ≡ true → inTable n ≡ true)
+    → (ts : List Refusal) → inTurn order ts ≡ true → inTable (answer ts) ≡ true
+listed-in-table order h ts e = pick (answer-in order ts e)
   where
-    beside : (b : Bool) → some (from (answer ts) rising) ≡ true → some (cond b (0 ∷ rising) (from (answer ts) rising)) ≡ true
-    beside true h = refl
-    beside false h = h
-
-    pick : (answer ts ≡ 0) ⊎ (some (from (answer ts) rising) ≡ true) → inTable (answer ts) ≡ true
+    pick : (answer ts ≡ 0) ⊎ (some (from (answer ts) order) ≡ true) → inTable (answer ts) ≡ true
     pick (inl z) = subst (λ (k : ℕ). inTable k ≡ true) (sym z) refl
-    pick (inr z) = beside (eqb 0 (answer ts)) z
+    pick (inr z) = h (answer ts) z
+
+-- in SCOPE's order
+pub answer-in-table : (ts : List Refusal) → inTurn rising ts ≡ true → inTable (answer ts) ≡ true
+answer-in-table ts e = listed-in-table rising (λ n h. beside n (eqb 0 n) h) ts e
+  where
+    beside : (n : ℕ) (b : Bool) → some (from n rising) ≡ true → some (cond b (0 ∷ rising) (from n rising)) ≡ true
+    beside n true h = refl
+    beside n false h = h
 
 -- ---- checks whose numbers rise to 8 answer with a number of the table
 

@@ -20,17 +20,18 @@ means n t = record { number = n; text = t }
 abbrev pub done : Meaning
 done = means 0 "done"
 
--- the refusals, as SCOPE lists them
+-- the refusals, as SCOPE lists them: 1 to 8 of activation frames, bits, symbols and start-up; 9 of data-mode frames, which share 1, 2, 4, 5, 6 and 7
 abbrev pub refusals : List Meaning
 refusals =
     means 1 "a lent buffer has the wrong length"
-    ∷ means 2 "unknown end, frame kind or report code"
+    ∷ means 2 "unknown end, frame kind, form or report code"
     ∷ means 3 "coefficient count outside 128 to 180"
     ∷ means 4 "a number outside its range"
-    ∷ means 5 "the sync word is neither of the two"
-    ∷ means 6 "a pad bit is not zero"
+    ∷ means 5 "the sync word is not an expected one"
+    ∷ means 6 "an unused bit behind the frame is not zero"
     ∷ means 7 "the check bits differ"
     ∷ means 8 "a reserved bit is not zero (training frame)"
+    ∷ means 9 "stuffing bits that the form cannot have (data-mode frame)"
     ∷ []
 
 -- the table's numbers, in its order

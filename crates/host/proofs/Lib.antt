@@ -1,3 +1,4 @@
 pub mod FrameLaws
 pub mod SymbolLaws
 pub mod One
+pub mod DataOne

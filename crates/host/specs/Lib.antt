@@ -1,4 +1,5 @@
 pub mod Frames
+pub mod Data
 pub mod Scrambling
 pub mod Symbols
 pub mod Supervising

@@ -1,0 +1,4 @@
+pub mod Turned
+pub mod Six
+pub mod OneBit
+pub mod Several

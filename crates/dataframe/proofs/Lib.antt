@@ -1,0 +1,9 @@
+pub mod Rows
+pub mod Refused
+pub mod Streams
+pub mod RoundTrip
+pub mod Order
+pub mod Runs
+pub mod Places
+pub mod Names
+pub mod Tables

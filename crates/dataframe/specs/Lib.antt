@@ -1,0 +1,4 @@
+pub mod Table
+pub mod Frame
+pub mod Refusals
+pub mod Places

@@ -1,0 +1,4 @@
+pub mod Laws
+pub mod Flat
+pub mod Promise
+pub mod One
