@@ -264,7 +264,7 @@ struct sdsl_data_written {
  *
  * Example:
  *     uint8_t payload[SDSL_DATA_PAYLOAD_OCTETS(24)] = {0}, frame[SDSL_DATA_SYNCHRONOUS_OCTETS];
- *     struct sdsl_data_overhead overhead = {.indicators = SDSL_LOSD | SDSL_SEGA};
+ *     struct sdsl_data_overhead overhead = {SDSL_LOSD | SDSL_SEGA, 0, 0, 0, 0};
  *     struct sdsl_data_written one = sdsl_data_write(SDSL_SYNCHRONOUS, 24, SDSL_DATA_SYNC, overhead, payload, sizeof payload,
  *                                                    frame, sizeof frame);
  *     assert(one.answer == SDSL_DONE && frame[0] == 0x3F && frame[1] == 0xCC); // sync, then losd and sega
@@ -316,7 +316,7 @@ struct sdsl_data_fields {
  *
  * Example:
  *     uint8_t payload[SDSL_DATA_PAYLOAD_OCTETS(24)] = "hello", first[SDSL_DATA_SYNCHRONOUS_OCTETS], second[SDSL_DATA_SYNCHRONOUS_OCTETS];
- *     struct sdsl_data_overhead overhead = {.indicators = 15, .spare = 15};
+ *     struct sdsl_data_overhead overhead = {15, 0, 15, 0, 0}; // indicators and spare bits are ONE
  *     struct sdsl_data_written one = sdsl_data_write(SDSL_SYNCHRONOUS, 24, SDSL_DATA_SYNC, overhead, payload, sizeof payload,
  *                                                    first, sizeof first);
  *     overhead.crc = one.crc;

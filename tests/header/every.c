@@ -33,6 +33,40 @@ static void frames(void)
     look(back.state == sent.state && memcmp(heard, frame, sizeof frame) == 0, "sdsl_descramble_frame");
 }
 
+/* Two data-mode frames, one behind the other: the second carries the check bits of the first. */
+static void data_frames(void)
+{
+    uint8_t payload[SDSL_DATA_PAYLOAD_OCTETS(SDSL_DATA_SIZE_MAX)], got[SDSL_DATA_PAYLOAD_OCTETS(SDSL_DATA_SIZE_MAX)];
+    uint8_t first[SDSL_DATA_PLESIOCHRONOUS_OCTETS], second[SDSL_DATA_PLESIOCHRONOUS_OCTETS];
+    for (size_t i = 0; i < sizeof payload; i++)
+        payload[i] = (uint8_t)(7 * i);
+    struct sdsl_data_overhead overhead = {SDSL_LOSD | SDSL_SEGA | SDSL_PS | SDSL_SEGD, 0xA5A5A, 0, 4, 21};
+    struct sdsl_data_written one = sdsl_data_write(SDSL_PLESIOCHRONOUS, SDSL_DATA_SIZE_MAX, SDSL_DATA_SYNC, overhead, payload, sizeof payload,
+                                                   first, sizeof first);
+    overhead.crc = one.crc;
+    overhead.stuffing = 0;
+    struct sdsl_data_written two = sdsl_data_write(SDSL_PLESIOCHRONOUS, SDSL_DATA_SIZE_MAX, SDSL_DATA_SYNC, overhead, payload, sizeof payload,
+                                                   second, sizeof second);
+    look(one.answer == SDSL_DONE && two.answer == SDSL_DONE && first[0] == 0x3F && first[1] == 0xCC, "sdsl_data_write");
+    struct sdsl_data_crcs six = sdsl_data_crc(SDSL_PLESIOCHRONOUS, SDSL_DATA_SIZE_MAX, second, sizeof second);
+    look(six.answer == SDSL_DONE && six.carried == one.crc && six.due == two.crc, "sdsl_data_crc");
+    look(sdsl_data_check(SDSL_PLESIOCHRONOUS, SDSL_DATA_SIZE_MAX, SDSL_DATA_SYNC, six.carried, first, sizeof first) == SDSL_DONE &&
+         sdsl_data_check(SDSL_PLESIOCHRONOUS, SDSL_DATA_SIZE_MAX, SDSL_DATA_SYNC, six.carried ^ 1, first, sizeof first) == SDSL_BAD_CHECK,
+         "sdsl_data_check");
+    struct sdsl_data_fields fields = sdsl_data_read(SDSL_PLESIOCHRONOUS, SDSL_DATA_SIZE_MAX, SDSL_DATA_SYNC, six.carried, first, sizeof first,
+                                                    got, sizeof got);
+    look(fields.answer == SDSL_DONE && fields.overhead.indicators == 15 && fields.overhead.eoc == 0xA5A5A && fields.overhead.spare == 0 &&
+         fields.overhead.stuffing == 4 && fields.overhead.crc == 21 && memcmp(got, payload, sizeof got) == 0, "sdsl_data_read");
+
+    uint8_t room[SDSL_DATA_SYNCHRONOUS_OCTETS];
+    overhead.spare = 15;
+    look(sdsl_data_write(SDSL_SYNCHRONOUS, SDSL_DATA_SIZE_MIN, SDSL_DATA_SYNC, overhead, payload, SDSL_DATA_PAYLOAD_OCTETS(SDSL_DATA_SIZE_MIN),
+                         room, sizeof room).answer == SDSL_DONE &&
+         sdsl_data_crc(SDSL_SYNCHRONOUS, SDSL_DATA_SIZE_MIN - 1, room, sizeof room).answer == SDSL_OUT_OF_RANGE &&
+         sdsl_data_crc(SDSL_SYNCHRONOUS, SDSL_DATA_SIZE_MAX + 1, room, sizeof room).answer == SDSL_OUT_OF_RANGE &&
+         sdsl_data_crc(SDSL_PLESIOCHRONOUS + 1, SDSL_DATA_SIZE_MIN, room, sizeof room).answer == SDSL_UNKNOWN, "the limits of a data-mode frame");
+}
+
 /* Example 7 of SCOPE: the NTU from state 0, 24 ones: eighteen 1, five 0, one 1. */
 static void runs(void)
 {
@@ -116,7 +150,7 @@ static void texts(void)
     static const char *const reports[] = {"one millisecond", "pre-activation ended", "C_r begins", "C_r has ended",
                                           "own receiver converged", "T_c seen", "T_r seen", "second F_c frame over", "abnormal"};
     int good = own_texts(sdsl_phase_text, SDSL_PHASE_MAX);
-    look(own_texts(sdsl_answer_text, SDSL_RESERVED) && strcmp(sdsl_answer_text(SDSL_DONE), "done") == 0, "sdsl_answer_text");
+    look(own_texts(sdsl_answer_text, SDSL_BAD_STUFFING) && strcmp(sdsl_answer_text(SDSL_DONE), "done") == 0, "sdsl_answer_text");
     for (uint32_t i = 0; i <= SDSL_PHASE_MAX; i++) {
         good = good && strcmp(sdsl_phase_text(i), phases[i]) == 0;
     }
@@ -234,6 +268,7 @@ static void limits(void)
 int main(void)
 {
     frames();
+    data_frames();
     runs();
     symbols();
     supervisor();

@@ -1,5 +1,5 @@
--- Checks run in document 02's order; and the test of the six is the division: of a frame that is right otherwise the answer is 7 exactly where the
--- six are not those due. Assumes nothing.
+-- Checks run in SCOPE's order for data-mode frames; and the test of the six is the division: of a frame that is right otherwise the answer is 7
+-- exactly where the six are not those due. Assumes nothing.
 use mathlib.Core.Path.{_≡_, refl, sym, ap, _∙_, subst}
 use mathlib.Core.Bool.{Bool, true, false, not}
 use mathlib.Core.Logic.{_↔_}

@@ -1,4 +1,4 @@
--- What writing, checking and reading a data-mode frame refuse, in document 02's order: 1, 2, 4, then 5, 9, 6, 7.
+-- What writing, checking and reading a data-mode frame refuse, in SCOPE's order for them: 1, 2, 4, 5, 9, 6, 7.
 use mathlib.Core.Bool.{Bool, not, _&&_, _||_}
 use mathlib.Core.List.{List, [], _∷_, _++_}
 use Prim.Native.Nat.{ℕ, _-_, _^_}

@@ -26,7 +26,8 @@ pub record RowsOf (word : ℕ) (o : Overhead) (m : Marks) (r : Rows) : Type 0 wh
   pub first-is : digitsOf 10 (r .first)
       ≡ digitsOf 4 (o .eoc) ++ (part 0 2 (checkBits 6 (o .crc)) ++ (digitsOf 1 (o .indicators / 4) ++ (digitsOf 1 (m .first) ++ digitsOf 2 (o .eoc / 16))))
   pub second-is : digitsOf 10 (r .second)
-      ≡ digitsOf 4 (o .eoc / 64) ++ (part 2 2 (checkBits 6 (o .crc)) ++ (digitsOf 1 (o .indicators / 8) ++ (digitsOf 2 (o .eoc / 1024) ++ digitsOf 1 (m .second))))
+      ≡ digitsOf 4 (o .eoc / 64)
+      ++ (part 2 2 (checkBits 6 (o .crc)) ++ (digitsOf 1 (o .indicators / 8) ++ (digitsOf 2 (o .eoc / 1024) ++ digitsOf 1 (m .second))))
   pub third-is : digitsOf 10 (r .third) ≡ digitsOf 4 (o .eoc / 4096) ++ (part 4 2 (checkBits 6 (o .crc)) ++ digitsOf 4 (o .eoc / 65536))
   pub end-is : r .end ≡ m .end
   pub ends-is : r .ends ≡ m .ends

@@ -1,4 +1,4 @@
--- Five examples of data-mode frames (document 02 (i)), all of the size k = 24: what is written, what is asked of it, and what is due. What is
+-- Five examples of data-mode frames (SCOPE, "The data-mode frame"), all of the size k = 24: what is written, what is asked of it, and what is due. What is
 -- due was worked out by hand from clause 7.1.5 of 002, and not by the definitions.
 use mathlib.Core.Path.{_≡_}
 use mathlib.Core.List.{List, [], _∷_, _++_}
@@ -28,7 +28,7 @@ pub data DataRow : Type 0 where
 abbrev pub size : ℕ
 size = 24
 
--- indicators, spare and stuffing; the end-operations channel and the check bits carried are zero
+-- indicators, spare and stuffing; the operations channel and the check bits carried are zero
 abbrev pub overhead : ℕ → ℕ → ℕ → Overhead
 overhead i s n = record { indicators = i; eoc = 0; spare = s; stuffing = n; crc = 0 }
 
