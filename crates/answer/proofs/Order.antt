@@ -12,7 +12,7 @@ use lib.Dec.{lit≤, eqb, leb}
 use Rattle.answer.specs.Answer.{Refusal, answer, inOrder}
 use Rattle.answer.specs.Table.{rising, from, some, inTable, inTurn}
 
-both : (a b : Bool) → a && b ≡ true → (a ≡ true) × (b ≡ true)
+pub both : (a b : Bool) → a && b ≡ true → (a ≡ true) × (b ≡ true)
 both true b e = (refl, e)
 both false b e = (e, cc)
 

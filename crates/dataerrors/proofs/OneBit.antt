@@ -19,6 +19,7 @@ use Rattle.octets.proofs.Digits.{Bits, value-one, reverse-bits}
 use Rattle.places.specs.Places.{total}
 use Rattle.places.specs.Streams.{Row, widthsIn, among, streamIn}
 use Rattle.places.proofs.Streams.{among-length, among-bits}
+use Rattle.remainder.proofs.Errors.{flipped-bits}
 use Rattle.remainder.specs.Division.{polynomial}
 use Rattle.remainder.specs.Register.{registerOf}
 use Rattle.remainder.specs.Errors.{flipped}
@@ -29,7 +30,7 @@ use Rattle.dataframe.proofs.Rows.{crc-is}
 use Rattle.dataframe.proofs.Streams.{bitsIn, amount-is, table-total, room-long, carried-is, covered-stays}
 use Rattle.dataframe.proofs.RoundTrip.{Sound, sound, stuffed-most, announces}
 use Rattle.dataerrors.specs.Errors.{streamAt, rankAt, seenAs, Wrong, isPair, isCrc}
-use Rattle.dataerrors.proofs.Turned.{flipped-length, flipped-bits, flipped-other, flipped-value, among-same, among-turned, rank-inside, part-other}
+use Rattle.dataerrors.proofs.Turned.{flipped-length, flipped-other, flipped-value, among-same, among-turned, rank-inside, part-other}
 use Rattle.dataerrors.proofs.Six.{one-seen}
 
 -- ---- pairs of places

@@ -23,7 +23,8 @@ use Rattle.distance.specs.Errors.{BurstBits}
 use Rattle.dataframe.specs.Table.{sync, sbid, unused, roomOf, table}
 use Rattle.dataframe.specs.Frame.{carried, stuffedIn, behind, sixGenerator, isCovered, covered, dueOf}
 use Rattle.dataframe.specs.Refusals.{stuffingRight, bitRefusals}
-use Rattle.dataframe.proofs.Streams.{both, table-total, room-long, carried-is, covered-stays}
+use Rattle.answer.proofs.Order.{both}
+use Rattle.dataframe.proofs.Streams.{table-total, room-long, carried-is, covered-stays}
 use Rattle.dataframe.proofs.RoundTrip.{sound, sound-answers, stuffed-most, announces}
 use Rattle.dataframe.proofs.Order.{due-one, seven}
 use Rattle.dataerrors.specs.Errors.{streamAt, rankAt, longest, turn, FarBits, TurnBits, isFree, TurnPlaces}

@@ -19,16 +19,16 @@ use Rattle.remainder.specs.Division.{times, polynomial, checkBits, Degree, Mult
 use Rattle.remainder.specs.Register.{registerOf}
 use Rattle.remainder.specs.Errors.{flipped}
 use Rattle.remainder.proofs.Division.{exists, computed, add, distrib}
-use Rattle.remainder.proofs.Errors.{check-value, polynomial-flipped, sum-multiple, unshifted, no-power}
+use Rattle.remainder.proofs.Errors.{flipped-bits, check-value, polynomial-flipped, sum-multiple, unshifted, no-power}
 use Rattle.remainder.proofs.Quotient.{shl-multiple}
 use Rattle.distance.specs.Errors.{Same, Order, BurstBits}
 use Rattle.distance.proofs.Multiples.{none}
 use Rattle.distance.proofs.Seen.{burst-differ}
 use Rattle.dataframe.specs.Frame.{sixGenerator}
 use Rattle.dataframe.proofs.Order.{six-degree}
-use Rattle.dataframe.proofs.Streams.{both}
+use Rattle.answer.proofs.Order.{both}
 use Rattle.dataerrors.specs.Errors.{turn, longest}
-use Rattle.dataerrors.proofs.Turned.{flipped-length, flipped-bits}
+use Rattle.dataerrors.proofs.Turned.{flipped-length}
 
 -- ---- any generator
 

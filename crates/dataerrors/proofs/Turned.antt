@@ -16,6 +16,7 @@ use Rattle.octets.proofs.Digits.{Bits, value-one}
 use Rattle.places.specs.Places.{total, Holds}
 use Rattle.places.specs.Streams.{Row, row, widthsIn, among}
 use Rattle.places.proofs.Streams.{plus, counted, before, sifted, counted-is, sifted-is, among-length}
+use Rattle.remainder.proofs.Errors.{flipped-bits}
 use Rattle.remainder.specs.Errors.{flipped}
 use Rattle.dataerrors.specs.Errors.{streamAt, rankAt}
 
@@ -23,13 +24,6 @@ use Rattle.dataerrors.specs.Errors.{streamAt, rankAt}
 
 pub flipped-length : (B : List ℕ) (i : ℕ) → length (flipped B i) ≡ length B
 flipped-length B i = length-set B i (1 - getD B i 0)
-
-pub flipped-bits : (B : List ℕ) (i : ℕ) → Bits B → Bits (flipped B i)
-flipped-bits [] i h j = h j
-flipped-bits (x ∷ B) zero h zero = omega arith
-flipped-bits (x ∷ B) zero h (suc j) = h (suc j)
-flipped-bits (x ∷ B) (suc i) h zero = h 0
-flipped-bits (x ∷ B) (suc i) h (suc j) = flipped-bits B i (λ k. h (suc k)) j
 
 -- it is another list
 pub flipped-other : (B : List ℕ) (i : ℕ) → Bits B → i < length B → getD (flipped B i) i 0 ≡ getD B i 0 → ⊥

@@ -12,7 +12,7 @@ use Rattle.octets.specs.Bits.{bitsOf, part}
 use Rattle.octets.proofs.Laws.{bits-length}
 use Rattle.places.specs.Places.{placeIn, widthIn, fieldIn, fieldsFrom, joined}
 use Rattle.places.specs.Streams.{widthsIn, streamIn}
-use Rattle.places.proofs.Fields.{span-fields}
+use Rattle.places.proofs.Fields.{joined-append, span-fields}
 use Rattle.places.proofs.Streams.{whole-back, laid-out-length}
 use Rattle.dataframe.specs.declared.Overhead.{Overhead}
 use Rattle.dataframe.specs.Table.{payload, lastPayload, endWidth, lineBits, table}
@@ -142,10 +142,6 @@ module _ (form k s : ℕ) (known : form ≤ 1) (few : s ≤ 4) where
                   omega (arith, mul-le-mul-left (12 * k) four)
 
 -- ---- each bit is read at its place
-
-joined-append : (xs ys : List (List ℕ)) → joined (xs ++ ys) ≡ joined xs ++ joined ys
-joined-append [] ys = refl
-joined-append (x ∷ xs) ys = ap (λ (l : List ℕ). x ++ l) (joined-append xs ys) ∙ sym (append-assoc x (joined xs) (joined ys))
 
 module _ (form k s : ℕ) (bits : List ℕ) where
   abbrev W : List ℕ

@@ -2,19 +2,18 @@
 use mathlib.Core.Path.{_≡_, refl, sym, ap, ap₂, _∙_}
 use mathlib.Core.Bool.{Bool, true, false, not, _&&_, _||_}
 use mathlib.Core.List.{List, [], _∷_, _++_}
-use Prim.Native.Nat.{ℕ, zero, suc, _+_, _*_, _≤_, _<_}
+use Prim.Native.Nat.{ℕ, zero, suc, _+_, _*_, _/_, _%_, _≤_, _<_}
+use native.Mathlib.Decide.{decLe}
+use native.Mathlib.Nat.{mod-lt, div-add-mod}
 use native.Mathlib.Omega.{arith}
 use borrow.Author.Tests.{eqb-true, eq-eqb, ne-eqb, ltb-false, leb-true, le-leb, not-false}
-use lib.Dec.{eqb, leb, ltb}
+use lib.Dec.{eqb, leb, ltb, lit≤}
 use lib.ListN.{length, drop}
 use Rattle.answer.specs.Answer.{Refusal, answer}
 use Rattle.answer.proofs.Laws.{none, passed}
-use Rattle.dataframe.specs.Table.{isSize, roomOf}
+use Rattle.answer.proofs.Order.{both}
+use Rattle.dataframe.specs.Table.{Covers, isSize, roomOf}
 use Rattle.dataframe.specs.Refusals.{isRoom, noRoom, noForm, noSize, crcRefusals}
-
-both : (a b : Bool) → a && b ≡ true → (a ≡ true) × (b ≡ true)
-both true b e = (refl, e)
-both false b e = absurd (mathlib.Core.Bool.true≢false (sym e))
 
 -- a room, a form and a size that are right
 pub record Fit (form k : ℕ) (frame : List ℕ) : Type 0 where
@@ -29,6 +28,32 @@ size-range k e = let p = both (leb 24 k) (leb k 289) e in (leb-true 24 k (p .0),
 
 pub range-size : (k : ℕ) → 24 ≤ k → k ≤ 289 → isSize k ≡ true
 range-size k a b = ap₂ _&&_ (le-leb 24 k a) (le-leb k 289 b)
+
+-- every size is one that the paper covers
+pub size-covered : (k : ℕ) → isSize k ≡ true → Covers k
+size-covered k e =
+    let r = size-range k e in
+    let d : k ≡ 8 * (k / 8) + k % 8 = sym (div-add-mod k 8) in
+    let m : k % 8 < 8 = mod-lt k (lit≤ tt) in
+    record {
+      n = k / 8;
+      i = k % 8;
+      least = omega (arith, r .0, d, m);
+      most = omega (arith, r .1, d, m);
+      bits = omega (arith, m);
+      last = λ h. omega (arith, r .1, d, h);
+      size = omega (arith, d);
+    }
+
+-- and no other
+pub covered-size : (k : ℕ) → Covers k → isSize k ≡ true
+covered-size k c = pick (decLe (c .n) 35)
+  where
+    pick : Dec (c .n ≤ 35) → isSize k ≡ true
+    pick (yes h) = range-size k (omega (arith, c .size, c .least)) (omega (arith, c .size, c .bits, h))
+    pick (no h) =
+        let n : c .n ≡ 36 = omega (arith, c .most, h) in
+        range-size k (omega (arith, c .size, n)) (omega (arith, c .size, n, c .last n))
 
 either : (a b : Bool) → ((a && true) || (b && false)) ≡ true → a ≡ true
 either true b e = refl

@@ -13,6 +13,7 @@ use lib.ListN.{length, getD, take, drop, replicate, length-replicate, length-rev
 use lib.Pow.{pow-pos}
 use Rattle.answer.specs.Answer.{answer}
 use Rattle.answer.proofs.Laws.{none, passed}
+use Rattle.answer.proofs.Order.{both}
 use Rattle.octets.specs.Bits.{digitsOf, valueOf, bitsOf, octetsOf}
 use Rattle.octets.proofs.Digits.{Bits, digits-value, value-digits, value-lt, value-one, zeros-bits, zeros-value, reverse-bits}
 use Rattle.octets.proofs.Laws.{Octets, bits-octets, octets-bits, octets-length}
@@ -28,7 +29,7 @@ use Rattle.dataframe.specs.Frame.{markOf, streams, dataBits, dataOctets,
 use Rattle.dataframe.specs.Refusals.{isStuffing, writeRefusals, stuffingRight, bitRefusals}
 use Rattle.dataframe.proofs.Rows.{no-spare, no-sbid, no-stuffing}
 use Rattle.dataframe.proofs.Refused.{room-is, is-room}
-use Rattle.dataframe.proofs.Streams.{both, bitsIn, written, amount-is, table-total, room-long, carried-is, same-bits, stream-length, stream-bits, fits}
+use Rattle.dataframe.proofs.Streams.{bitsIn, written, amount-is, table-total, room-long, carried-is, same-bits, stream-length, stream-bits, fits}
 
 -- ---- what writing takes
 

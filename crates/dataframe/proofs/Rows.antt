@@ -8,7 +8,7 @@ use mathlib.Core.Bool.{Bool, true, false, cond}
 use Rattle.octets.specs.Bits.{part}
 use Rattle.places.specs.Places.{placeIn, fieldIn, spanIn, fieldsFrom, fieldsIn, joined}
 use Rattle.places.specs.Streams.{Row, widthsIn, streamIn, chosen}
-use Rattle.places.proofs.Fields.{span-fields}
+use Rattle.places.proofs.Fields.{joined-append, span-fields}
 use Rattle.dataframe.specs.Table.{sync, indicators, payload, eoc, crc, spare, sbid, stuffing, unused, endWidth, lineBits, roomOf, table}
 use Rattle.dataframe.specs.Frame.{carried, covered}
 
@@ -167,10 +167,6 @@ module _ (k : ℕ) (bits : List ℕ) where
   unused-is (suc (suc f)) s h = absurd (omega arith)
 
 -- ---- what the check bits cover: the bits between sync, the three pairs of check bits, and the end
-
-joined-append : (xs ys : List (List ℕ)) → joined (xs ++ ys) ≡ joined xs ++ joined ys
-joined-append [] ys = refl
-joined-append (x ∷ xs) ys = ap (λ (l : List ℕ). x ++ l) (joined-append xs ys) ∙ sym (append-assoc x (joined xs) (joined ys))
 
 module _ (form k : ℕ) (bits : List ℕ) where
   abbrev U : List ℕ

@@ -17,15 +17,13 @@ use Rattle.places.specs.Places.{total}
 use Rattle.places.specs.Streams.{Row, widthsIn, amount, among, streamIn}
 use Rattle.places.proofs.Streams.{Fits, counted, before, sifted, counted-is, among-front}
 use Rattle.remainder.specs.Division.{checkBits}
+use Rattle.answer.proofs.Order.{both}
+use Rattle.remainder.proofs.Errors.{check-length, check-bits}
 use Rattle.dataframe.specs.declared.Overhead.{Overhead}
 use Rattle.dataframe.specs.Table.{synchronous, stuffing, unused, lineBits, roomOf, table}
 use Rattle.dataframe.specs.Frame.{markOf, streams, carried, isCovered, covered}
 
 -- two tests that both hold
-pub both : (s t : Bool) → (s && t) ≡ true → (s ≡ true) × (t ≡ true)
-both true t e = (refl, e)
-both false t e = absurd (false≢true e)
-
 -- ---- the bits of each stream
 
 -- in a table with s stuffing bits each stream has so many bits
@@ -142,12 +140,6 @@ module _ (form k s : ℕ) (bits : List ℕ) (h : form ≤ 1) where
 -- stream x is written with so many bits
 abbrev pub written : ℕ → ℕ → ℕ → ℕ → ℕ
 written form k s x = getD (14 ∷ 4 ∷ 48 * k ∷ 20 ∷ 6 ∷ 4 ∷ 2 ∷ s ∷ (8 * roomOf form - lineBits form k s) ∷ []) x 0
-
-pub check-length : (k r : ℕ) → length (checkBits k r) ≡ k
-check-length k r = length-reverse (digitsOf k r) ∙ digits-length k r
-
-pub check-bits : (k r : ℕ) → Bits (checkBits k r)
-check-bits k r = reverse-bits (digitsOf k r) (digits-bits k r)
 
 pub same-bits : (n b : ℕ) → b < 2 → Bits (replicate n b)
 same-bits zero b h = nil-bits

@@ -1,7 +1,8 @@
 -- The data-mode frame, row by row (002, clauses 7.1.2 to 7.1.5, table 7.2): which bits stand where, for both forms and every size of payload.
+use mathlib.Core.Path.{_≡_}
 use mathlib.Core.Bool.{Bool, cond, _&&_}
 use mathlib.Core.List.{List, [], _∷_}
-use Prim.Native.Nat.{ℕ, _+_, _-_, _*_, _/_}
+use Prim.Native.Nat.{ℕ, _+_, _-_, _*_, _/_, _≤_}
 use lib.Dec.{eqb, leb}
 use Rattle.places.specs.Streams.{Row, row}
 
@@ -18,7 +19,17 @@ plesiochronous = 1
 abbrev pub subBlock : ℕ → ℕ → ℕ
 subBlock n i = i + 8 * n
 
--- its size k: n from 3 to 36 and i from 0 to 7, at n = 36 only 0 or 1; so every k from 24 to 289
+-- a size that the paper covers: n from 3 to 36 and i from 0 to 7, at n = 36 only 0 or 1
+pub record Covers (k : ℕ) : Type 0 where
+  pub n : ℕ
+  pub i : ℕ
+  pub least : 3 ≤ n
+  pub most : n ≤ 36
+  pub bits : i ≤ 7
+  pub last : n ≡ 36 → i ≤ 1
+  pub size : k ≡ subBlock n i
+
+-- so every size k from 24 to 289, and no other (theorems `size-covered` and `covered-size`)
 abbrev pub smallest : ℕ
 smallest = subBlock 3 0
 

@@ -13,7 +13,7 @@ use Rattle.places.proofs.Fields.{laid-back}
 use Rattle.remainder.specs.Division.{checkBits}
 use Rattle.layout.specs.Places.{widths, syncField, coefficientsField, aField, bField, vendorField, reservedField, checkField, padField}
 use Rattle.layout.specs.Frame.{coefficientBits, message, checkOf, frameBits, fieldOf, messageOf}
-use Rattle.layout.proofs.Laws.{check-length}
+use Rattle.remainder.proofs.Errors.{check-length}
 
 -- bits that are fields one behind the other, where the widths are known to be theirs
 piece : (ws bits : List ℕ) (ps : List (List ℕ)) → ws ≡ widthsOf ps → bits ≡ joined ps → (k : ℕ) → fieldIn ws k bits ≡ getD ps k []

@@ -14,6 +14,7 @@ use Rattle.octets.proofs.Numbers.{number-length, number-bits}
 use Rattle.remainder.specs.Division.{checkBits}
 use Rattle.ranges.specs.Ranges.{isCoefficient, every}
 use Rattle.ranges.proofs.Laws.{every-append, every-same}
+use Rattle.remainder.proofs.Errors.{check-length, check-bits}
 use Rattle.layout.specs.Frame.{trainingSync, finalSync, coefficientBits, used, message, checkOf, frameBits}
 
 -- ---- coefficients in range
@@ -57,13 +58,6 @@ pub message-bits : (cs : List ℤ) (a b : ℕ) (vendor reserved : List ℕ) → 
 unfolding message
 message-bits cs a b vendor reserved h =
     append-bits (coefficientBits cs) (digitsOf 21 a ++ (digitsOf 21 b ++ (bitsOf vendor ++ reserved))) (number-bits 22 cs) (tail-bits a b vendor reserved h)
-
--- the check bits as they stand
-pub check-length : (k r : ℕ) → length (checkBits k r) ≡ k
-check-length k r = length-reverse (digitsOf k r) ∙ digits-length k r
-
-pub check-bits : (k r : ℕ) → Bits (checkBits k r)
-check-bits k r = reverse-bits (digitsOf k r) (digits-bits k r)
 
 -- put as a number whose lowest digit is c1
 pub check-put : (r : ℕ) → digitsOf 16 (valueOf (checkBits 16 r)) ≡ checkBits 16 r

@@ -17,7 +17,7 @@ use Rattle.octets.proofs.Digits.{Bits}
 use Rattle.remainder.specs.Division.{polynomial, generator, Multiple, Remainder}
 use Rattle.remainder.specs.Errors.{flipped}
 use Rattle.remainder.proofs.Division.{exists}
-use Rattle.remainder.proofs.Errors.{divisible, one-flip, generator-degree, generator-odd}
+use Rattle.remainder.proofs.Errors.{flipped-bits, divisible, one-flip, generator-degree, generator-odd}
 use Rattle.ranges.proofs.Laws.{both}
 use Rattle.layout.specs.Places.{syncField, checkField, padField}
 use Rattle.layout.specs.Frame.{trainingSync, finalSync, fieldOf, messageOf, checkOf}
@@ -75,13 +75,6 @@ module _ (B : List ℕ) (l : length B ≡ 4232) (h : Bits B) where
       subst (λ (x : List ℕ). Multiple generator (polynomial x)) (sym e)
       (divisible 16 generator m c (field-bits B l h 4211 16) (field-length B l h 4211 16 (lit≤ tt)) .0
       (subst (Remainder 16 generator m) (sym k) d))
-
-flipped-bits : (B : List ℕ) (i : ℕ) → Bits B → Bits (flipped B i)
-flipped-bits [] i h j = h j
-flipped-bits (x ∷ B) zero h zero = omega arith
-flipped-bits (x ∷ B) zero h (suc j) = h (suc j)
-flipped-bits (x ∷ B) (suc i) h zero = h 0
-flipped-bits (x ∷ B) (suc i) h (suc j) = flipped-bits B i (λ k. h (suc k)) j
 
 module _ (B : List ℕ) (i : ℕ) (l : length B ≡ 4232) (h : Bits B) (s : Sound B) (s′ : Sound (flipped B i)) where
   l′ : length (flipped B i) ≡ 4232

@@ -1,7 +1,7 @@
 -- Fields that are laid one behind the other are read back, and bits are their fields, whatever the widths are. Assumes nothing.
 use mathlib.Core.Path.{_≡_, refl, sym, ap, ap₂, _∙_, subst}
 use mathlib.Core.Logic.{_⊎_}
-use mathlib.Core.List.{List, [], _∷_, _++_}
+use mathlib.Core.List.{List, [], _∷_, _++_, append-assoc}
 use Prim.Native.Nat.{ℕ, zero, suc, _+_, _-_, _*_, _≤_, _<_}
 use native.Mathlib.Nat.{zero-add, add-zero}
 use native.Mathlib.Omega.{arith}
@@ -23,6 +23,11 @@ joined-length (f ∷ fs) = omega (arith, length-append f (joined fs), joined-len
 pub joined-bits : (fs : List (List ℕ)) → ((k : ℕ) → Bits (getD fs k [])) → Bits (joined fs)
 joined-bits [] h = h 0
 joined-bits (f ∷ fs) h = append-bits f (joined fs) (h 0) (joined-bits fs (λ k. h (suc k)))
+
+-- fields behind others
+pub joined-append : (xs ys : List (List ℕ)) → joined (xs ++ ys) ≡ joined xs ++ joined ys
+joined-append [] ys = refl
+joined-append (x ∷ xs) ys = ap (λ (l : List ℕ). x ++ l) (joined-append xs ys) ∙ sym (append-assoc x (joined xs) (joined ys))
 
 -- field k, where the widths are those of the fields
 pub laid-back : (ws : List ℕ) (fs : List (List ℕ)) → ws ≡ widthsOf fs → (k : ℕ) → fieldIn ws k (joined fs) ≡ getD fs k []

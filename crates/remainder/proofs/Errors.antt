@@ -11,7 +11,7 @@ use lib.Bits.{bitXor, differ, xor-self, xor-zero-r, xor-zero-l, xor-block, xor-s
 use lib.Pow.{pow-pos, pow-lt, pow-mono}
 use lib.ListN.{length, getD, length-set, length-reverse}
 use Rattle.octets.specs.Bits.{digitsOf, valueOf}
-use Rattle.octets.proofs.Digits.{Bits, value-append, value-lt, value-digits, reverse-bits, append-bits}
+use Rattle.octets.proofs.Digits.{Bits, digits-length, digits-bits, value-append, value-lt, value-digits, reverse-bits, append-bits}
 use Rattle.octets.proofs.Xor.{xor-assoc, back, odd, no-two}
 use Rattle.remainder.specs.Division.{times, polynomial, checkBits, Degree, Remainder, Multiple, generator}
 use Rattle.remainder.specs.Errors.{flipped}
@@ -29,6 +29,12 @@ polynomial-append m c h =
     ∙ sym (xor-shifted (polynomial m) (length c) (polynomial c) (polynomial-lt c h))
 
 -- check bits as they stand, c1 first
+pub check-length : (k r : ℕ) → length (checkBits k r) ≡ k
+check-length k r = length-reverse (digitsOf k r) ∙ digits-length k r
+
+pub check-bits : (k r : ℕ) → Bits (checkBits k r)
+check-bits k r = reverse-bits (digitsOf k r) (digits-bits k r)
+
 pub check-value : (k r : ℕ) → r < 2 ^ k → polynomial (checkBits k r) ≡ r
 check-value k r h = ap valueOf (reverse-reverse (digitsOf k r)) ∙ value-digits k r ∙ mod-eq-of-lt h
 
@@ -148,3 +154,11 @@ generator-degree = record { reached = lib.Dec.lit≤ tt; within = lib.Dec.lit< t
 
 pub generator-odd : generator % 2 ≡ 1
 generator-odd = refl
+
+-- a bit turned over is a bit
+pub flipped-bits : (B : List ℕ) (i : ℕ) → Bits B → Bits (flipped B i)
+flipped-bits [] i h j = h j
+flipped-bits (x ∷ B) zero h zero = omega arith
+flipped-bits (x ∷ B) zero h (suc j) = h (suc j)
+flipped-bits (x ∷ B) (suc i) h zero = h 0
+flipped-bits (x ∷ B) (suc i) h (suc j) = flipped-bits B i (λ k. h (suc k)) j

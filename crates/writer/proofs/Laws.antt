@@ -15,9 +15,9 @@ use Rattle.octets.proofs.Fields.{part-is}
 use Rattle.remainder.specs.Division.{checkBits, generator}
 use Rattle.remainder.specs.Promises.{CheckBits}
 use Rattle.remainder.proofs.Division.{computed}
-use Rattle.remainder.proofs.Errors.{generator-degree}
+use Rattle.remainder.proofs.Errors.{generator-degree, check-length, check-bits}
 use Rattle.layout.specs.Frame.{trainingSync, finalSync, coefficientBits, used, message, checkOf, frameBits, trainingBits, finalBits}
-use Rattle.layout.proofs.Laws.{used-length, tail-length, tail-bits, check-put, check-length, check-bits, training-digits, final-digits}
+use Rattle.layout.proofs.Laws.{used-length, tail-length, tail-bits, check-put, training-digits, final-digits}
 use Rattle.layout.proofs.Laws.{training-length, final-length, training-bits, final-bits}
 
 -- ---- the coefficients in use
