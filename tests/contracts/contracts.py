@@ -10,7 +10,7 @@ import sys
 
 ROOT = pathlib.Path(__file__).resolve().parents[2]
 # an argument's type, and the test that `fromC` makes of it
-TESTS = {"u32": "u32", "usize": "usize", "i32": "i32", "&[u8]": "buffer", "&mut [u8]": "buffer", "Supervisor": "supervisor"}
+TESTS = {"u32": "u32", "usize": "usize", "i32": "i32", "&[u8]": "buffer", "&mut [u8]": "buffer", "Supervisor": "supervisor", "DataOverhead": "overhead"}
 # the fields of a returned struct that are a state to go on with
 STATES = ("state", "register")
 

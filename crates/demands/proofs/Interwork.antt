@@ -42,6 +42,7 @@ use Rattle.demands.specs.Frames.{Right, Octets, done, Frames, Scrambling
 use Rattle.demands.specs.Back.{overTheLine, Back}
 use Rattle.demands.specs.Symbols.{Precoding}
 use Rattle.demands.specs.Two.{Exact}
+use Rattle.demands.proofs.DataTwo.{data-interwork}
 use Rattle.demands.proofs.Fit.{many, lengths-fit, training-fit, kind-fit, read-right, bit-fit}
 
 -- ---- frames
@@ -273,6 +274,7 @@ interwork x y ex ey =
     record {
       training = λ c room v e h o l m. training-back x y (ex .frames) (ey .frames) c room v h o l m e;
       final = λ c room v e h o l m. final-back x y (ex .frames) (ey .frames) c room v h o l m e;
+      data-frames = data-interwork x y (ex .data-frames) (ey .data-frames);
       bit = bit-back x y (ex .scrambling) (ey .scrambling);
       run = run-back x y (ex .scrambling) (ey .scrambling);
       frame = frame-comes-back x y (ex .scrambling) (ey .scrambling);

@@ -1,4 +1,7 @@
 pub mod One
+pub mod DataLaws
+pub mod DataOurs
+pub mod DataTwo
 pub mod Fit
 pub mod Two
 pub mod Interwork
@@ -6,8 +9,10 @@ pub mod Three
 pub mod Ours
 pub mod Refuted
 pub mod Rejected
+pub mod DataRejected
 pub mod Follow
 pub mod Rebuilt
 pub mod WrongSteps
+pub mod DataWrong
 pub mod WrongFunctions
 pub mod Widened

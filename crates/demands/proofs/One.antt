@@ -1,19 +1,29 @@
 -- Demand 1 holds of every library that keeps our contracts. Assumes nothing.
 use mathlib.Core.Path.{_≡_, refl, sym, ap, _∙_, subst}
-use mathlib.Core.Bool.{Bool, true, false, cond, not, _&&_}
+use mathlib.Core.Bool.{Bool, true, false, cond, not, _&&_, true≢false}
 use mathlib.Core.List.{List, [], _∷_}
 use Prim.Native.Nat.{ℕ, zero, suc, _≤_}
+use borrow.Author.Tests.{eqb-true}
 use lib.Dec.{eqb, ltb}
 use lib.IntN.{pos}
 use Rattle.answer.specs.Answer.{Refusal, answer, held, inOrder}
-use Rattle.answer.specs.Table.{inTable}
+use Rattle.answer.specs.Table.{rising, from, some, inTable}
 use Rattle.answer.proofs.Laws.{kept}
-use Rattle.answer.proofs.Order.{rising-is, answer-in-table}
-use Rattle.octets.specs.Bits.{valueOf}
+use Rattle.answer.proofs.Order.{rising-is, listed-in-table}
+use Rattle.octets.specs.Bits.{valueOf, bitsOf}
 use Rattle.layout.specs.Places.{aField, bField}
 use Rattle.layout.specs.Frame.{trainingSync, fieldOf}
 use Rattle.layout.specs.Refusals.{hasSync, checkRefusals}
 use Rattle.layout.proofs.Order.{check-order}
+use Rattle.ranges.proofs.Laws.{both}
+use Rattle.dataframe.specs.Refusals.{dataOrder}
+use Rattle.dataframe.proofs.Order.{write-order as data-write-order, crc-order as data-crc-order, check-order as data-check-order, read-order as data-read-order}
+use Rattle.datawriter.specs.declared.Written.{Written}
+use Rattle.datawriter.specs.Promises.{writtenOf}
+use Rattle.datacrc.specs.declared.Sixes.{Sixes}
+use Rattle.datacrc.specs.Promises.{crcOf}
+use Rattle.datareader.specs.declared.Found.{Found as DataFound}
+use Rattle.datareader.specs.Promises.{foundOf as dataFoundOf, noOverhead}
 use Rattle.recurrence.specs.Run.{Way, scramble}
 use Rattle.scrambler.proofs.One.{step-order as bit-order, run-order as scrambler-order, frame-order}
 use Rattle.symbol.specs.declared.Encoder.{Encoder}
@@ -38,34 +48,67 @@ use Rattle.host.specs.declared.supervising.Stepped.{Stepped}
 use Rattle.host.specs.declared.supervising.Run.{Run}
 use Rattle.host.specs.Supervising.{stateIn, stateOf, runFieldsOf}
 use Rattle.host.specs.Frames.{fieldsOf}
+use Rattle.host.specs.Data.{overheadOf, overheadFor}
 use Rattle.host.specs.Scrambling.{crossing, bitCrossing}
 use Rattle.host.specs.Symbols.{encoder}
 use Rattle.host.proofs.One.{frame-write-order, frame-read-order, history-start-order}
 use Rattle.demands.specs.Handed.{Outcome, None, none}
+use Rattle.demands.specs.HandedData.{DataWriteCall, DataCrcCall, DataReadCall}
 use Rattle.demands.specs.Library.{Library}
 use Rattle.demands.specs.Contracts.{Keeps}
 use Rattle.demands.specs.One.{Answers, InTheirOrder, Ordered, One}
+use Rattle.demands.specs.Frames.{done}
 use Rattle.demands.specs.Checks.{writeChecks, readChecks, scramblerStartChecks, bitChecks, runChecks, frameChecks, encoderStartChecks, encodeChecks}
+use Rattle.demands.specs.Checks.{dataWriteChecks, dataCrcChecks, dataReadChecks}
 use Rattle.demands.specs.Checks.{encodeRunChecks, historyStartChecks, precodeChecks, startChecks, stepChecks, codesChecks}
 
-pub answers : {C N M : Type 0} {f : C → Outcome N M} {checks : C → List Refusal} {before : C → M} {nothing : N}
-    → InTheirOrder checks → ((c : C) → f c .answer ≡ answer (checks c))
-    → ((c : C) → (f c .answer ≡ 0 → ⊥) → f c .numbers ≡ nothing) → ((c : C) → (f c .answer ≡ 0 → ⊥) → f c .memory ≡ before c)
-    → Answers f checks before nothing
-answers {checks = checks} o e n m =
-    record {
-      in-table = λ c. subst (λ (k : ℕ). inTable k ≡ true) (sym (e c)) (answer-in-table (checks c) (o c));
-      first = e;
-      no-numbers = n;
-      unchanged = m;
-    }
+-- the numbers of an order are the table's
+abbrev allInTable : List ℕ → Bool
+allInTable [] = true
+allInTable (n ∷ ns) = inTable n && allInTable ns
+
+order-in-table : (order : List ℕ) → allInTable order ≡ true → (n : ℕ) → some (from n order) ≡ true → inTable n ≡ true
+order-in-table [] e n h = absurd (true≢false (sym h))
+order-in-table (o ∷ os) e n h =
+    let b = both (inTable o) (allInTable os) e in
+    pick (eqb o n) refl (b .0) (order-in-table os (b .1) n) h
+  where
+    pick : (t : Bool) → eqb o n ≡ t → inTable o ≡ true → (some (from n os) ≡ true → inTable n ≡ true) → some (cond t (o ∷ os) (from n os)) ≡ true
+        → inTable n ≡ true
+    pick true f i ih h = subst (λ (m : ℕ). inTable m ≡ true) (eqb-true o n f) i
+    pick false f i ih h = ih h
+
+module _ {C N M : Type 0} {f : C → Outcome N M} {checks : C → List Refusal} {before : C → M} {nothing : N} where
+  -- checks that run in an order of the table's numbers
+  pub answers-by : (order : List ℕ) → allInTable order ≡ true → InTheirOrder order checks → ((c : C) → f c .answer ≡ answer (checks c))
+      → ((c : C) → (f c .answer ≡ 0 → ⊥) → f c .numbers ≡ nothing) → ((c : C) → (f c .answer ≡ 0 → ⊥) → f c .memory ≡ before c)
+      → Answers f checks before nothing
+  answers-by order a o e n m =
+      record {
+        in-table = λ c. subst (λ (k : ℕ). inTable k ≡ true) (sym (e c)) (listed-in-table order (order-in-table order a) (checks c) (o c));
+        first = e;
+        no-numbers = n;
+        unchanged = m;
+      }
+
+  -- in SCOPE's order
+  pub answers : InTheirOrder rising checks → ((c : C) → f c .answer ≡ answer (checks c))
+      → ((c : C) → (f c .answer ≡ 0 → ⊥) → f c .numbers ≡ nothing) → ((c : C) → (f c .answer ≡ 0 → ⊥) → f c .memory ≡ before c)
+      → Answers f checks before nothing
+  answers = answers-by rising refl
+
+  -- in that of data-mode frames
+  pub data-answers : InTheirOrder dataOrder checks → ((c : C) → f c .answer ≡ answer (checks c))
+      → ((c : C) → (f c .answer ≡ 0 → ⊥) → f c .numbers ≡ nothing) → ((c : C) → (f c .answer ≡ 0 → ⊥) → f c .memory ≡ before c)
+      → Answers f checks before nothing
+  data-answers = answers-by dataOrder refl
 
 scrambler-start-order : (end : ℕ) → inOrder 1 (scramblerStartChecks end) ≡ true
 unfolding inOrder
 scrambler-start-order end = refl
 
 -- checks whose numbers rise run in the table's order
-in-turn : {C : Type 0} (checks : C → List Refusal) → ((c : C) → inOrder 1 (checks c) ≡ true) → InTheirOrder checks
+in-turn : {C : Type 0} (checks : C → List Refusal) → ((c : C) → inOrder 1 (checks c) ≡ true) → InTheirOrder rising checks
 in-turn checks h c = rising-is (checks c) (h c)
 
 -- the checks run in their order
@@ -74,6 +117,10 @@ ordered = record {
   write = in-turn writeChecks (λ c. frame-write-order (c .kind) (c .count) (c .coefficients) (c .a) (c .b) (c .vendor) (c .frame));
   check = in-turn checkRefusals check-order;
   read = in-turn readChecks (λ c. frame-read-order (c .frame) (c .coefficients) (c .vendor));
+  data-write = λ c. data-write-order (c .form) (c .size) (c .sync) (overheadOf (c .overhead)) (c .payload) (c .frame);
+  data-crc = λ c. data-crc-order (c .form) (c .size) (c .frame);
+  data-check = λ c. data-check-order (c .form) (c .size) (c .sync) (c .next) (c .frame);
+  data-read = λ c. data-read-order (c .form) (c .size) (c .sync) (c .next) (c .frame) (c .payload);
   scrambler-start = in-turn scramblerStartChecks scrambler-start-order;
   bit = in-turn bitChecks (λ c. bit-order (record { end = c .end; state = c .state }) (c .bit));
   run = in-turn runChecks (λ c. scrambler-order scramble (record { end = c .end; state = c .state }) (c .input) (c .bits) (c .output));
@@ -98,6 +145,10 @@ other e h z = h (e ∙ z)
 
 pub only : (x : None) → x ≡ none
 only none = refl
+
+-- an outcome that is done
+pub same : {N M : Type 0} {o : Outcome N M} {n : N} {m : M} → o .answer ≡ 0 → o .numbers ≡ n → o .memory ≡ m → o ≡ done n m
+same a b c = λ i. record { answer = a i; numbers = b i; memory = c i }
 
 -- an encoder that has sent nothing
 pub nothing-sent : registerOf [] ≡ 0
@@ -135,7 +186,65 @@ held-run : (n : ℕ) (s : State) (l : List ℕ) → held n (begun n s) (runFrom 
 held-run zero s l = run-answer 0 (begun 0 s) l refl
 held-run (suc n) s l = refl
 
+-- what the functions of data-mode frames give, number by number
+pub written-answer : (n form k : ℕ) (bits : List ℕ) → writtenOf n form k bits .answer ≡ n
+written-answer zero form k bits = refl
+written-answer (suc n) form k bits = refl
+
+written-none : (n form k : ℕ) (bits : List ℕ) → (n ≡ 0 → ⊥) → writtenOf n form k bits .crc ≡ 0
+written-none zero form k bits h = absurd (h refl)
+written-none (suc n) form k bits h = refl
+
+pub crc-answer : (n form k : ℕ) (bits : List ℕ) → crcOf n form k bits .answer ≡ n
+crc-answer zero form k bits = refl
+crc-answer (suc n) form k bits = refl
+
+crc-none : (n form k : ℕ) (bits : List ℕ) → (n ≡ 0 → ⊥) → crcOf n form k bits ≡ record { answer = n; carried = 0; due = 0 }
+crc-none zero form k bits h = absurd (h refl)
+crc-none (suc n) form k bits h = refl
+
+pub data-found-answer : (n form k : ℕ) (bits : List ℕ) → dataFoundOf n form k bits .answer ≡ n
+data-found-answer zero form k bits = refl
+data-found-answer (suc n) form k bits = refl
+
+data-found-none : (n form k : ℕ) (bits : List ℕ) → (n ≡ 0 → ⊥) → dataFoundOf n form k bits .overhead ≡ noOverhead
+data-found-none zero form k bits h = absurd (h refl)
+data-found-none (suc n) form k bits h = refl
+
 module _ (x : Library) (k : Keeps x) where
+  pub data-write-answer : (c : DataWriteCall) → x .data-write c .answer ≡ answer (dataWriteChecks c)
+  data-write-answer c =
+      ap (λ (w : Written). w .answer) (k .data-write c refl .given) ∙ written-answer (answer (dataWriteChecks c)) (c .form) (c .size) _
+
+  pub data-crc-answer : (c : DataCrcCall) → x .data-crc c .answer ≡ answer (dataCrcChecks c)
+  data-crc-answer c = ap (λ (s : Sixes). s .answer) (k .data-crc c refl .given) ∙ crc-answer (answer (dataCrcChecks c)) (c .form) (c .size) (bitsOf (c .frame))
+
+  pub data-read-answer : (c : DataReadCall) → x .data-read c .answer ≡ answer (dataReadChecks c)
+  data-read-answer c =
+      ap (λ (f : DataFound). f .answer) (k .data-read c refl .found) ∙ data-found-answer (answer (dataReadChecks c)) (c .form) (c .size) (bitsOf (c .frame))
+
+  data-write-is : Answers (x .data-write) dataWriteChecks (λ c. c .frame) 0
+  data-write-is =
+      data-answers (ordered .data-write) data-write-answer
+      (λ c h. ap (λ (w : Written). w .crc) (k .data-write c refl .given)
+      ∙ written-none (answer (dataWriteChecks c)) (c .form) (c .size) _ (other (data-write-answer c) h))
+      (λ c h. k .data-write c refl .left ∙ kept (answer (dataWriteChecks c)) (c .frame) _ (other (data-write-answer c) h))
+
+  data-crc-is : Answers (x .data-crc) dataCrcChecks (λ c. none) (record { carried = 0; due = 0 })
+  data-crc-is =
+      data-answers (ordered .data-crc) data-crc-answer
+      (λ c h.
+      let e = k .data-crc c refl .given ∙ crc-none (answer (dataCrcChecks c)) (c .form) (c .size) (bitsOf (c .frame)) (other (data-crc-answer c) h) in
+      λ i. record { carried = e i .carried; due = e i .due })
+      (λ c h. only _)
+
+  data-read-is : Answers (x .data-read) dataReadChecks (λ c. c .payload) (overheadFor noOverhead)
+  data-read-is =
+      data-answers (ordered .data-read) data-read-answer
+      (λ c h. ap (λ (f : DataFound). overheadFor (f .overhead)) (k .data-read c refl .found)
+      ∙ ap overheadFor (data-found-none (answer (dataReadChecks c)) (c .form) (c .size) (bitsOf (c .frame)) (other (data-read-answer c) h)))
+      (λ c h. k .data-read c refl .payload-left ∙ kept (answer (dataReadChecks c)) (c .payload) _ (other (data-read-answer c) h))
+
   read-answer : (c : _) → x .read c .answer ≡ answer (readChecks c)
   read-answer c = ap (λ (f : FrameFields). f .answer) (k .read c refl .found) ∙ found-answer (answer (readChecks c)) _
 
@@ -190,6 +299,10 @@ module _ (x : Library) (k : Keeps x) where
         let m = k .read c refl .coefficients-left ∙ kept (answer (readChecks c)) _ _ z in
         let v = k .read c refl .vendor-left ∙ kept (answer (readChecks c)) _ _ z in
         λ i. record { coefficients = m i; vendor = v i });
+    data-write = data-write-is;
+    data-crc = data-crc-is;
+    data-check = data-answers (ordered .data-check) (λ c. k .data-check c refl .answered) (λ c h. only _) (λ c h. only _);
+    data-read = data-read-is;
     scrambler-start = answers (ordered .scrambler-start)
         (λ e. ap (λ (r : Scrambled). r .answer) (k .scrambler-start e refl .crossed ∙ ap crossing (k .scrambler-start e refl .promise))) (λ e h. only _)
         (λ e h. ap (λ (r : Scrambled). r .state) (k .scrambler-start e refl .crossed ∙ ap crossing (k .scrambler-start e refl .promise)));

@@ -40,6 +40,7 @@ use Rattle.demands.specs.Checks.{encodeRunChecks, historyStartChecks, pr
 use Rattle.demands.specs.Two.{Two}
 use Rattle.demands.specs.Three.{Three, supervisor}
 use Rattle.demands.proofs.One.{one}
+use Rattle.demands.proofs.DataOurs.{writes, gives, checks, reads, writes-keep, gives-keep, checks-keep, reads-keep}
 use Rattle.demands.proofs.Two.{exact as exact-of}
 use Rattle.demands.proofs.Interwork.{interwork}
 use Rattle.demands.proofs.Three.{three}
@@ -74,6 +75,10 @@ ours = record {
               (vendorOctets (bitsOf (c .frame)));
         };
       };
+  data-write = writes;
+  data-crc = gives;
+  data-check = checks;
+  data-read = reads;
   scrambler-start = λ end. record { answer = answer (scramblerStartChecks end); numbers = none; memory = 0 };
   bit = λ way c.
       let n = answer (bitChecks c) in
@@ -168,6 +173,10 @@ ours-keep = record {
   write = λ c h. frame-written refl refl;
   check = λ f h. checked refl;
   read = λ c h. record { found = refl; coefficients-left = refl; vendor-left = refl };
+  data-write = λ c h. writes-keep c;
+  data-crc = λ c h. gives-keep c;
+  data-check = λ c h. checks-keep c;
+  data-read = λ c h. reads-keep c;
   scrambler-start = λ end h. record {
     ran = record { answer = ours .scrambler-start end .answer; next = record { end = end; state = 0 } };
     crossed = refl;

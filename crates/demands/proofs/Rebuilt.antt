@@ -6,13 +6,18 @@ use Rattle.answer.specs.Answer.{answer, held}
 use Rattle.answer.proofs.Laws.{kept}
 use Rattle.recurrence.specs.Run.{Way}
 use Rattle.supervisor.specs.declared.Supervisor.{Supervisor as State}
+use Rattle.datareader.specs.Promises.{noOverhead}
+use Rattle.host.specs.declared.data.DataOverhead.{DataOverhead}
 use Rattle.host.specs.declared.supervising.Supervisor.{Supervisor}
+use Rattle.host.specs.Data.{overheadFor}
 use Rattle.host.specs.Supervising.{stateIn, stateOf}
 use Rattle.demands.specs.Handed.{Outcome, None, none, WriteCall, ReadCall, Fields, Rooms, RunCall, FrameCall, Line, EncodeRunCall, Codes, PrecodeCall}
 use Rattle.demands.specs.Handed.{Signal}
+use Rattle.demands.specs.HandedData.{DataWriteCall, DataReadCall}
 use Rattle.demands.specs.HandedCodes.{StepCall, Shown}
 use Rattle.demands.specs.Library.{Library}
 use Rattle.demands.specs.One.{Answers, One}
+use Rattle.demands.specs.Checks.{dataWriteChecks, dataReadChecks}
 use Rattle.demands.specs.Checks.{writeChecks, readChecks, runChecks, frameChecks, encodeRunChecks, historyStartChecks, precodeChecks, stepChecks}
 use Rattle.demands.proofs.One.{answers, ordered, one}
 use Rattle.demands.proofs.Ours.{ours, ours-keep}
@@ -25,6 +30,8 @@ ours-one = one ours ours-keep
 pub record Parts : Type 0 where
   pub write : WriteCall → Outcome None (List ℕ)
   pub read : ReadCall → Outcome Fields Rooms
+  pub data-write : DataWriteCall → Outcome ℕ (List ℕ)
+  pub data-read : DataReadCall → Outcome DataOverhead (List ℕ)
   pub run : Way → RunCall → Outcome None Line
   pub frame : Way → FrameCall → Outcome None Line
   pub encode-run : EncodeRunCall → Outcome None Codes
@@ -38,6 +45,10 @@ rebuilt p = record {
   write = p .write;
   check = ours .check;
   read = p .read;
+  data-write = p .data-write;
+  data-crc = ours .data-crc;
+  data-check = ours .data-check;
+  data-read = p .data-read;
   scrambler-start = ours .scrambler-start;
   bit = ours .bit;
   run = p .run;
@@ -61,6 +72,8 @@ rebuilt p = record {
 pub record PartsAnswer (p : Parts) : Type 0 where
   pub write : Answers (p .write) writeChecks (λ c. c .frame) none
   pub read : Answers (p .read) readChecks (λ c. record { coefficients = c .coefficients; vendor = c .vendor }) (record { kind = 0; a = 0; b = 0 })
+  pub data-write : Answers (p .data-write) dataWriteChecks (λ c. c .frame) 0
+  pub data-read : Answers (p .data-read) dataReadChecks (λ c. c .payload) (overheadFor noOverhead)
   pub run : (way : Way) → Answers (p .run way) runChecks (λ c. record { state = c .state; output = c .output }) none
   pub frame : (way : Way) → Answers (p .frame way) frameChecks (λ c. record { state = c .state; output = c .output }) none
   pub encode-run : Answers (p .encode-run) encodeRunChecks (λ c. record { register = c .register; codes = c .codes }) none
@@ -74,6 +87,10 @@ rebuilt-one p a = record {
   write = a .write;
   check = ours-one .check;
   read = a .read;
+  data-write = a .data-write;
+  data-crc = ours-one .data-crc;
+  data-check = ours-one .data-check;
+  data-read = a .data-read;
   scrambler-start = ours-one .scrambler-start;
   bit = ours-one .bit;
   run = a .run;
@@ -99,6 +116,8 @@ abbrev pub usual : Parts
 usual = record {
   write = ours .write;
   read = ours .read;
+  data-write = ours .data-write;
+  data-read = ours .data-read;
   run = ours .run;
   frame = ours .frame;
   encode-run = ours .encode-run;
@@ -112,6 +131,8 @@ pub usual-answer : PartsAnswer usual
 usual-answer = record {
   write = ours-one .write;
   read = ours-one .read;
+  data-write = ours-one .data-write;
+  data-read = ours-one .data-read;
   run = ours-one .run;
   frame = ours-one .frame;
   encode-run = ours-one .encode-run;
@@ -125,6 +146,8 @@ abbrev pub withStep : (StepCall → Outcome Shown Supervisor) → Parts
 withStep f = record {
   write = usual .write;
   read = usual .read;
+  data-write = usual .data-write;
+  data-read = usual .data-read;
   run = usual .run;
   frame = usual .frame;
   encode-run = usual .encode-run;
@@ -146,6 +169,8 @@ pub stepping-one : (f : State → ℕ → State) (t : State → ℕ) → One (re
 stepping-one f t = rebuilt-one (withStep (stepping f t)) (record {
   write = usual-answer .write;
   read = usual-answer .read;
+  data-write = usual-answer .data-write;
+  data-read = usual-answer .data-read;
   run = usual-answer .run;
   frame = usual-answer .frame;
   encode-run = usual-answer .encode-run;

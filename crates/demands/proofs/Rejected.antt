@@ -43,7 +43,7 @@ use Rattle.demands.specs.WrongLibraries.{HistoryUnwritten, PrecodedUnwri
 
 -- ---- calls to which no check applies
 
-abbrev zeros : ℕ → List ℕ
+abbrev pub zeros : ℕ → List ℕ
 zeros n = replicate n 0
 
 -- a final frame with vendor data v, written over f
@@ -60,10 +60,10 @@ final-right v f l m =
 abbrev one-first : List ℕ
 one-first = 1 ∷ zeros 15
 
-differ : (n : ℕ) → zeros (suc n) ≡ 1 ∷ zeros n → ⊥
+pub differ : (n : ℕ) → zeros (suc n) ≡ 1 ∷ zeros n → ⊥
 differ n e = omega (arith, ap (λ (l : List ℕ). getD l 0 0) e)
 
-zeros-small : (n : ℕ) → Octets (zeros n)
+pub zeros-small : (n : ℕ) → Octets (zeros n)
 zeros-small zero i = lit≤ tt
 zeros-small (suc n) zero = lit≤ tt
 zeros-small (suc n) (suc i) = zeros-small n i

@@ -39,12 +39,9 @@ use Rattle.demands.specs.Checks.{writeChecks, readChecks, bitChecks, run
 use Rattle.demands.specs.Frames.{Right, done, Frames, Scrambling}
 use Rattle.demands.specs.Symbols.{Symbols, Precoding}
 use Rattle.demands.specs.Two.{Exact}
-use Rattle.demands.proofs.One.{only, nothing-sent, found-answer}
+use Rattle.demands.proofs.One.{only, same, nothing-sent, found-answer}
+use Rattle.demands.proofs.DataTwo.{data-exact}
 use Rattle.demands.proofs.Fit.{bit-fit}
-
--- an outcome that is done
-pub same : {N M : Type 0} {o : Outcome N M} {n : N} {m : M} → o .answer ≡ 0 → o .numbers ≡ n → o .memory ≡ m → o ≡ done n m
-same a b c = λ i. record { answer = a i; numbers = b i; memory = c i }
 
 -- ---- frames
 
@@ -258,4 +255,4 @@ module _ (x : Library) (k : Keeps x) where
   }
 
   pub exact : Exact x
-  exact = record { frames = frames; scrambling = scrambling; symbols = symbols; precoding = precoding }
+  exact = record { frames = frames; data-frames = data-exact x k; scrambling = scrambling; symbols = symbols; precoding = precoding }

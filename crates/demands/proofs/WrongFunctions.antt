@@ -35,6 +35,7 @@ use Rattle.demands.proofs.Two.{exact as exact-of}
 use Rattle.demands.proofs.Interwork.{laid-there, run-right}
 use Rattle.demands.proofs.Ours.{ours, ours-keep}
 use Rattle.demands.proofs.Rebuilt.{ours-one, Parts, rebuilt, rebuilt-one, usual, usual-answer}
+use Rattle.demands.proofs.DataWrong.{one-data-frame-built, data-frame-built, payload-built, own-six-built}
 use Rattle.demands.proofs.WrongSteps.{moves-once-built, never-opens-built, calls-exception-built, same-ticks-built, counts-codes-built, gives-up-built, ends-too-late-built}
 
 -- ---- the writer
@@ -43,6 +44,8 @@ abbrev withWrite : (WriteCall → Outcome None (List ℕ)) → Parts
 withWrite f = record {
   write = f;
   read = usual .read;
+  data-write = usual .data-write;
+  data-read = usual .data-read;
   run = usual .run;
   frame = usual .frame;
   encode-run = usual .encode-run;
@@ -56,6 +59,8 @@ write-one : (f : WriteCall → Outcome None (List ℕ)) → Answers f writeCheck
 write-one f a = rebuilt-one (withWrite f) (record {
   write = a;
   read = usual-answer .read;
+  data-write = usual-answer .data-write;
+  data-read = usual-answer .data-read;
   run = usual-answer .run;
   frame = usual-answer .frame;
   encode-run = usual-answer .encode-run;
@@ -89,6 +94,8 @@ abbrev withRead : (ReadCall → Outcome Fields Rooms) → Parts
 withRead f = record {
   write = usual .write;
   read = f;
+  data-write = usual .data-write;
+  data-read = usual .data-read;
   run = usual .run;
   frame = usual .frame;
   encode-run = usual .encode-run;
@@ -105,6 +112,8 @@ read-one : (f : ReadCall → Outcome Fields Rooms) → ReadAnswers f → One (re
 read-one f a = rebuilt-one (withRead f) (record {
   write = usual-answer .write;
   read = a;
+  data-write = usual-answer .data-write;
+  data-read = usual-answer .data-read;
   run = usual-answer .run;
   frame = usual-answer .frame;
   encode-run = usual-answer .encode-run;
@@ -190,6 +199,8 @@ abbrev withRun : (Way → RunCall → Outcome None Line) → Parts
 withRun f = record {
   write = usual .write;
   read = usual .read;
+  data-write = usual .data-write;
+  data-read = usual .data-read;
   run = f;
   frame = usual .frame;
   encode-run = usual .encode-run;
@@ -204,6 +215,8 @@ run-one : (f : Way → RunCall → Outcome None Line) → ((way : Way) → Answe
 run-one f a = rebuilt-one (withRun f) (record {
   write = usual-answer .write;
   read = usual-answer .read;
+  data-write = usual-answer .data-write;
+  data-read = usual-answer .data-read;
   run = a;
   frame = usual-answer .frame;
   encode-run = usual-answer .encode-run;
@@ -304,6 +317,8 @@ abbrev withHistory : Parts
 withHistory = record {
   write = usual .write;
   read = usual .read;
+  data-write = usual .data-write;
+  data-read = usual .data-read;
   run = usual .run;
   frame = usual .frame;
   encode-run = usual .encode-run;
@@ -319,6 +334,8 @@ history-built = (
   rebuilt-one withHistory (record {
     write = usual-answer .write;
     read = usual-answer .read;
+    data-write = usual-answer .data-write;
+    data-read = usual-answer .data-read;
     run = usual-answer .run;
     frame = usual-answer .frame;
     encode-run = usual-answer .encode-run;
@@ -351,6 +368,8 @@ abbrev withRest : (Way → FrameCall → Outcome None Line) → (EncodeRunCall �
 withRest f e p d = record {
   write = usual .write;
   read = usual .read;
+  data-write = usual .data-write;
+  data-read = usual .data-read;
   run = usual .run;
   frame = f;
   encode-run = e;
@@ -368,6 +387,8 @@ module _ (f : Way → FrameCall → Outcome None Line) (e : EncodeRunCall → Ou
   rest-one af ae ap ad = rebuilt-one (withRest f e p d) (record {
     write = usual-answer .write;
     read = usual-answer .read;
+    data-write = usual-answer .data-write;
+    data-read = usual-answer .data-read;
     run = usual-answer .run;
     frame = af;
     encode-run = ae;
@@ -438,6 +459,10 @@ no-straw-man = record {
   copies-the-rest = copies-built;
   turns-a = turns-a-built;
   turns-b = turns-b-built;
+  one-data-frame = one-data-frame-built;
+  data-frame-unwritten = data-frame-built;
+  payload-unwritten = payload-built;
+  own-six = own-six-built;
   moves-once = moves-once-built;
   never-opens = never-opens-built;
   calls-exception = calls-exception-built;

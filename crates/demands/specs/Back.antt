@@ -13,6 +13,7 @@ use Rattle.demands.specs.Handed.{none, WriteCall, BitCall, RunCall, Fram
 use Rattle.demands.specs.Library.{Library}
 use Rattle.demands.specs.Checks.{writeChecks, bitChecks, runChecks, frameChecks, precodeChecks}
 use Rattle.demands.specs.Frames.{Right, Octets, done}
+use Rattle.demands.specs.DataBack.{DataBack}
 
 -- a frame that one card scrambles into room on the line, and the other descrambles into room of its own
 abbrev pub overTheLine : Library → Library → ℕ → ℕ → List ℕ → List ℕ → List ℕ → List ℕ
@@ -33,6 +34,8 @@ pub record Back (x y : Library) : Type 0 where
       → length room ≡ coefficientsLength → length vendor ≡ vendorLength
       → y .read (record { frame = x .write c .memory; coefficients = room; vendor = vendor })
       ≡ done (record { kind = 1; a = 0; b = 0 }) (record { coefficients = room; vendor = c .vendor })
+  -- data-mode frames: overhead and payload
+  pub data-frames : DataBack x y
   -- "Descrambling with the sender's end and starting state gives the input back and the sender's next state": a bit,
   pub bit : (c : BitCall) → Right (bitChecks c)
       → y .bit descramble (record { end = c .end; state = c .state; bit = x .bit scramble c .numbers }) ≡ done (c .bit) (x .bit scramble c .memory)

@@ -1,4 +1,4 @@
--- The checks of each function, in the order in which they run: the lists of SCOPE, over what is handed in to a library of any make.
+-- The checks of each function, in the order in which they run: the lists of SCOPE and of document 02, over what is handed in to a library of any make.
 use mathlib.Core.List.{List, [], _∷_}
 use Prim.Native.Nat.{ℕ}
 use Rattle.answer.specs.Answer.{Refusal, wrongLength}
@@ -9,9 +9,12 @@ use Rattle.symbol.specs.Encoder.{startTests, stepTests, runTests}
 use Rattle.precoder.specs.Runs.{runTests as precoderTests}
 use Rattle.supervisor.specs.Step.{startRefusals, stepRefusals, stateRefusals}
 use Rattle.host.specs.Frames.{frameReadRefusals}
+use Rattle.dataframe.specs.Refusals.{crcRefusals, writeRefusals as dataWriteRefusals, checkRefusals as dataCheckRefusals, readRefusals as dataReadRefusals}
+use Rattle.host.specs.Data.{overheadOf}
 use Rattle.host.specs.Symbols.{encoder}
 use Rattle.host.specs.Supervising.{stateIn}
 use Rattle.demands.specs.Handed.{WriteCall, ReadCall, BitCall, RunCall, FrameCall, WordsCall, EncodeCall, EncodeRunCall, PrecodeCall}
+use Rattle.demands.specs.HandedData.{DataWriteCall, DataCrcCall, DataCheckCall, DataReadCall}
 use Rattle.demands.specs.HandedCodes.{StartCall, StepCall, CodesCall}
 
 -- the checks of writing, with the coefficients as 720 octets
@@ -22,6 +25,22 @@ writeChecks c =
 -- of reading
 abbrev pub readChecks : ReadCall → List Refusal
 readChecks c = frameReadRefusals (c .frame) (c .coefficients) (c .vendor)
+
+-- of writing a data-mode frame
+abbrev pub dataWriteChecks : DataWriteCall → List Refusal
+dataWriteChecks c = dataWriteRefusals (c .form) (c .size) (c .sync) (overheadOf (c .overhead)) (c .payload) (c .frame)
+
+-- of the six check bits in it and the six due
+abbrev pub dataCrcChecks : DataCrcCall → List Refusal
+dataCrcChecks c = crcRefusals (c .form) (c .size) (c .frame)
+
+-- of checking it
+abbrev pub dataCheckChecks : DataCheckCall → List Refusal
+dataCheckChecks c = dataCheckRefusals (c .form) (c .size) (c .sync) (c .next) (c .frame)
+
+-- and of reading it
+abbrev pub dataReadChecks : DataReadCall → List Refusal
+dataReadChecks c = dataReadRefusals (c .form) (c .size) (c .sync) (c .next) (c .frame) (c .payload)
 
 -- of a scrambler's start
 abbrev pub scramblerStartChecks : ℕ → List Refusal

@@ -9,15 +9,19 @@ use Prim.Native.Nat.{ℕ}
 use lib.IntN.{ℤ}
 use Rattle.recurrence.specs.Run.{Way}
 use Rattle.checker.specs.Promises.{Checked}
+use Rattle.datachecker.specs.Promises.{DataChecked}
 use Rattle.precoder.specs.Runs.{PrecodesRun, DecodesRun}
 use Rattle.host.specs.Frames.{FrameWritten, FrameRead}
+use Rattle.host.specs.Data.{DataFrameWritten, DataCrcGiven, DataFrameRead}
 use Rattle.host.specs.Scrambling.{ScramblerStarted, BitScrambled, ScrambledRun, ScrambledFrame}
 use Rattle.host.specs.Symbols.{ActivationLevelGiven, DataLevelGiven, CodeGiven, EncoderStarted, SymbolEncoded, SymbolsEncoded, HistoryStarted, SampleShaped}
 use Rattle.host.specs.Supervising.{Started, StateStepped, CodesRun}
 use Rattle.demands.specs.Library.{Library}
 use Rattle.demands.specs.Handed.{WriteCall, ReadCall, BitCall, RunCall, FrameCall, WordsCall, EncodeCall, EncodeRunCall, PrecodeCall}
+use Rattle.demands.specs.HandedData.{DataWriteCall, DataCrcCall, DataCheckCall, DataReadCall}
 use Rattle.demands.specs.HandedCodes.{StartCall, StepCall, CodesCall}
-use Rattle.demands.specs.FromC.{Calls, everyCall}
+use Rattle.demands.specs.FromC.{Calls}
+use Rattle.demands.specs.EveryCall.{everyCall}
 
 -- each function keeps the contract of the exported one, for the calls that are meant. Above each field the exported function with its arguments;
 -- where a call's field has another name, argument = field
@@ -31,6 +35,17 @@ pub record KeepsFor (calls : Calls) (x : Library) : Type 0 where
   pub read : (c : ReadCall) → calls .read c ≡ true → FrameRead (c .frame) (c .coefficients) (c .vendor)
       (record { answer = x .read c .answer; kind = x .read c .numbers .kind; a = x .read c .numbers .a; b = x .read c .numbers .b })
       (x .read c .memory .coefficients) (x .read c .memory .vendor)
+  -- sdsl_data_write(form, size, sync, overhead, payload, frame)
+  pub data-write : (c : DataWriteCall) → calls .data-write c ≡ true → DataFrameWritten (c .form) (c .size) (c .sync) (c .overhead) (c .payload) (c .frame)
+      (record { answer = x .data-write c .answer; crc = x .data-write c .numbers }) (x .data-write c .memory)
+  -- sdsl_data_crc(form, size, frame)
+  pub data-crc : (c : DataCrcCall) → calls .data-crc c ≡ true → DataCrcGiven (c .form) (c .size) (c .frame)
+      (record { answer = x .data-crc c .answer; carried = x .data-crc c .numbers .carried; due = x .data-crc c .numbers .due })
+  -- sdsl_data_check(form, size, sync, next, frame)
+  pub data-check : (c : DataCheckCall) → calls .data-check c ≡ true → DataChecked (c .form) (c .size) (c .sync) (c .next) (c .frame) (x .data-check c .answer)
+  -- sdsl_data_read(form, size, sync, next, frame, payload)
+  pub data-read : (c : DataReadCall) → calls .data-read c ≡ true → DataFrameRead (c .form) (c .size) (c .sync) (c .next) (c .frame) (c .payload)
+      (record { answer = x .data-read c .answer; overhead = x .data-read c .numbers }) (x .data-read c .memory)
   -- sdsl_scrambler_start(end)
   pub scrambler-start : (end : ℕ) → calls .scrambler-start end ≡ true → ScramblerStarted end
       (record { answer = x .scrambler-start end .answer; state = x .scrambler-start end .memory })
@@ -79,20 +94,10 @@ pub record KeepsFor (calls : Calls) (x : Library) : Type 0 where
   pub shape : (y : ℤ) → calls .shape y ≡ true → SampleShaped y (record { answer = x .shape y .answer; value = x .shape y .numbers })
   -- sdsl_start(end, silence)
   pub start : (c : StartCall) → calls .start c ≡ true → Started (c .end) (c .silence)
-      (record {
-        answer = x .start c .answer;
-        phase = x .start c .numbers .phase;
-        attempt = x .start c .numbers .attempt;
-        state = x .start c .memory;
-      })
+      (record { answer = x .start c .answer; phase = x .start c .numbers .phase; attempt = x .start c .numbers .attempt; state = x .start c .memory })
   -- sdsl_step(state, code)
   pub step : (c : StepCall) → calls .step c ≡ true → StateStepped (c .state) (c .code)
-      (record {
-        answer = x .step c .answer;
-        phase = x .step c .numbers .phase;
-        attempt = x .step c .numbers .attempt;
-        state = x .step c .memory;
-      })
+      (record { answer = x .step c .answer; phase = x .step c .numbers .phase; attempt = x .step c .numbers .attempt; state = x .step c .memory })
   -- sdsl_run_codes(state, codes)
   pub run-codes : (c : CodesCall) → calls .run-codes c ≡ true → CodesRun (c .state) (c .codes)
       (record {

@@ -5,8 +5,10 @@ use Prim.Native.Nat.{ℕ, _^_}
 use lib.Dec.{ltb}
 use lib.IntN.{ℤ, pos, negsuc}
 use lib.ListN.{length}
+use Rattle.host.specs.declared.data.DataOverhead.{DataOverhead}
 use Rattle.host.specs.declared.supervising.Supervisor.{Supervisor}
 use Rattle.demands.specs.Handed.{WriteCall, ReadCall, BitCall, RunCall, FrameCall, WordsCall, EncodeCall, EncodeRunCall, PrecodeCall}
+use Rattle.demands.specs.HandedData.{DataWriteCall, DataCrcCall, DataCheckCall, DataReadCall}
 use Rattle.demands.specs.HandedCodes.{StartCall, StepCall, CodesCall}
 
 -- a uint32_t
@@ -31,6 +33,10 @@ octets (o ∷ os) = ltb o 256 && octets os
 abbrev pub buffer : List ℕ → Bool
 buffer s = usize (length s) && octets s
 
+-- a struct sdsl_data_overhead
+abbrev pub overhead : DataOverhead → Bool
+overhead o = u32 (o .indicators) && u32 (o .eoc) && u32 (o .spare) && u32 (o .stuffing) && u32 (o .crc)
+
 -- a struct sdsl_supervisor
 abbrev pub supervisor : Supervisor → Bool
 supervisor s = u32 (s .end) && u32 (s .phase) && u32 (s .ticks) && u32 (s .attempt) && u32 (s .silence) && u32 (s .converged) && u32 (s .seen)
@@ -40,6 +46,10 @@ pub record Calls : Type 0 where
   pub write : WriteCall → Bool
   pub check : List ℕ → Bool
   pub read : ReadCall → Bool
+  pub data-write : DataWriteCall → Bool
+  pub data-crc : DataCrcCall → Bool
+  pub data-check : DataCheckCall → Bool
+  pub data-read : DataReadCall → Bool
   pub scrambler-start : ℕ → Bool
   pub bit : BitCall → Bool
   pub run : RunCall → Bool
@@ -64,6 +74,10 @@ fromC = record {
   write = λ c. u32 (c .kind) && u32 (c .count) && buffer (c .coefficients) && u32 (c .a) && u32 (c .b) && buffer (c .vendor) && buffer (c .frame);
   check = λ frame. buffer frame;
   read = λ c. buffer (c .frame) && buffer (c .coefficients) && buffer (c .vendor);
+  data-write = λ c. u32 (c .form) && u32 (c .size) && u32 (c .sync) && overhead (c .overhead) && buffer (c .payload) && buffer (c .frame);
+  data-crc = λ c. u32 (c .form) && u32 (c .size) && buffer (c .frame);
+  data-check = λ c. u32 (c .form) && u32 (c .size) && u32 (c .sync) && u32 (c .next) && buffer (c .frame);
+  data-read = λ c. u32 (c .form) && u32 (c .size) && u32 (c .sync) && u32 (c .next) && buffer (c .frame) && buffer (c .payload);
   scrambler-start = λ end. u32 end;
   bit = λ c. u32 (c .end) && u32 (c .state) && u32 (c .bit);
   run = λ c. u32 (c .end) && u32 (c .state) && buffer (c .input) && usize (c .bits) && buffer (c .output);
@@ -81,29 +95,4 @@ fromC = record {
   start = λ c. u32 (c .end) && u32 (c .silence);
   step = λ c. supervisor (c .state) && u32 (c .code);
   run-codes = λ c. supervisor (c .state) && buffer (c .codes);
-}
-
--- every call, of any numbers and lists
-abbrev pub everyCall : Calls
-everyCall = record {
-  write = λ c. true;
-  check = λ frame. true;
-  read = λ c. true;
-  scrambler-start = λ end. true;
-  bit = λ c. true;
-  run = λ c. true;
-  frame = λ c. true;
-  activation = λ bit. true;
-  level = λ code. true;
-  code = λ sixteenths. true;
-  encoder-start = λ c. true;
-  encode = λ c. true;
-  encode-run = λ c. true;
-  history-start = λ history. true;
-  precode = λ c. true;
-  decode = λ c. true;
-  shape = λ y. true;
-  start = λ c. true;
-  step = λ c. true;
-  run-codes = λ c. true;
 }

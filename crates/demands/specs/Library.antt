@@ -4,9 +4,11 @@ use Prim.Native.Nat.{ℕ}
 use lib.Ieee.{Float}
 use lib.IntN.{ℤ}
 use Rattle.recurrence.specs.Run.{Way}
+use Rattle.host.specs.declared.data.DataOverhead.{DataOverhead}
 use Rattle.host.specs.declared.supervising.Supervisor.{Supervisor}
 use Rattle.demands.specs.Handed.{Outcome, None, WriteCall, ReadCall, Fields, Rooms, BitCall, RunCall, FrameCall, Line, WordsCall, EncodeCall, Symbol}
 use Rattle.demands.specs.Handed.{EncodeRunCall, Codes, PrecodeCall, Signal}
+use Rattle.demands.specs.HandedData.{DataWriteCall, DataCrcCall, Sixes, DataCheckCall, DataReadCall}
 use Rattle.demands.specs.HandedCodes.{StartCall, StepCall, Shown, CodesCall, Attempts}
 
 -- the functions of sdsl.h
@@ -14,6 +16,10 @@ pub record Library : Type 0 where
   pub write : WriteCall → Outcome None (List ℕ)
   pub check : List ℕ → Outcome None None
   pub read : ReadCall → Outcome Fields Rooms
+  pub data-write : DataWriteCall → Outcome ℕ (List ℕ)
+  pub data-crc : DataCrcCall → Outcome Sixes None
+  pub data-check : DataCheckCall → Outcome None None
+  pub data-read : DataReadCall → Outcome DataOverhead (List ℕ)
   pub scrambler-start : ℕ → Outcome None ℕ
   pub bit : Way → BitCall → Outcome ℕ ℕ
   pub run : Way → RunCall → Outcome None Line

@@ -9,6 +9,7 @@ use Rattle.demands.specs.One.{One}
 use Rattle.demands.specs.Three.{supervisor}
 use Rattle.demands.specs.WrongLibraries.{Refuses, OneFrame, FrameUnwritten, CoefficientsUnwritten, VendorUnwritten, RunUnwritten, WholeUnwritten}
 use Rattle.demands.specs.WrongLibraries.{HistoryUnwritten, CodesUnwritten, PrecodedUnwritten, DecodedUnwritten, CopiesTheRest, TurnsA, TurnsB}
+use Rattle.demands.specs.WrongData.{OneDataFrame, DataFrameUnwritten, PayloadUnwritten, OwnSix}
 use Rattle.demands.specs.WrongSupervisors.{MovesOnce, NeverOpens, CallsException, SameTicks, CountsCodes, GivesUp, EndsTooLate}
 
 -- such a version that meets demand 1
@@ -37,6 +38,10 @@ pub record NoStrawMan : Type 1 where
   pub copies-the-rest : Built CopiesTheRest
   pub turns-a : Built TurnsA
   pub turns-b : Built TurnsB
+  pub one-data-frame : Built OneDataFrame
+  pub data-frame-unwritten : Built DataFrameUnwritten
+  pub payload-unwritten : Built PayloadUnwritten
+  pub own-six : Built OwnSix
   pub moves-once : Built (λ x. MovesOnce (supervisor x))
   pub never-opens : Built (λ x. NeverOpens (supervisor x))
   pub calls-exception : Built (λ x. CallsException (supervisor x))

@@ -3,22 +3,27 @@
 use mathlib.Core.Path.{_≡_}
 use mathlib.Core.Bool.{true}
 use mathlib.Core.List.{List}
+use Prim.Native.Nat.{ℕ}
 use lib.Ieee.{binary32, ofBits}
 use lib.IntN.{pos}
 use Rattle.answer.specs.Answer.{Refusal, answer}
 use Rattle.answer.specs.Table.{rising, inTable, inTurn}
 use Rattle.layout.specs.Refusals.{checkRefusals}
+use Rattle.dataframe.specs.Refusals.{dataOrder}
+use Rattle.datareader.specs.Promises.{noOverhead}
 use Rattle.recurrence.specs.Run.{Way}
 use Rattle.symbol.specs.Levels.{activationTests, dataTests, backTests}
 use Rattle.samples.specs.Shaper.{shaperTests}
 use Rattle.supervisor.specs.Step.{none as noState}
+use Rattle.host.specs.Data.{overheadFor}
 use Rattle.host.specs.Supervising.{stateOf}
 use Rattle.demands.specs.Handed.{Outcome, none}
 use Rattle.demands.specs.Library.{Library}
 use Rattle.demands.specs.Checks.{writeChecks, readChecks, scramblerStartChecks, bitChecks, runChecks, frameChecks, encoderStartChecks, encodeChecks}
+use Rattle.demands.specs.Checks.{dataWriteChecks, dataCrcChecks, dataCheckChecks, dataReadChecks}
 use Rattle.demands.specs.Checks.{encodeRunChecks, historyStartChecks, precodeChecks, startChecks, stepChecks, codesChecks}
 
--- a function answers by SCOPE's table: by these checks, what its memory holds before, and nothing in its other numbers
+-- a function answers by the table: by these checks, what its memory holds before, and nothing in its other numbers
 pub record Answers {C N M : Type 0} (f : C → Outcome N M) (checks : C → List Refusal) (before : C → M) (nothing : N) : Type 0 where
   -- the number is one of the table
   pub in-table : (c : C) → inTable (f c .answer) ≡ true
@@ -29,37 +34,46 @@ pub record Answers {C N M : Type 0} (f : C → Outcome N M) (checks : C → List
   -- a state comes back equal, and all lent memory holds what it held."
   pub unchanged : (c : C) → (f c .answer ≡ 0 → ⊥) → f c .memory ≡ before c
 
--- a list of checks runs in the table's order, whatever is handed in
-abbrev pub InTheirOrder : {C : Type 0} → (C → List Refusal) → Type 0
-InTheirOrder {C} checks = (c : C) → inTurn rising (checks c) ≡ true
+-- a list of checks runs in an order, whatever is handed in
+abbrev pub InTheirOrder : {C : Type 0} → List ℕ → (C → List Refusal) → Type 0
+InTheirOrder {C} order checks = (c : C) → inTurn order (checks c) ≡ true
 
--- "Checks run in the order of these numbers": so it is of each function's list of checks (theorem `ordered`)
+-- "Checks run in the order of these numbers": so it is of each function's list of checks. Those of data-mode frames have an order of their own:
+-- "1 to 4 as before, then 5 sync, 9 stuffing bits impossible for the form, 6 unused bits, 7 for the six check bits, last" (theorem `ordered`)
 pub record Ordered : Type 0 where
-  pub write : InTheirOrder writeChecks
-  pub check : InTheirOrder checkRefusals
-  pub read : InTheirOrder readChecks
-  pub scrambler-start : InTheirOrder scramblerStartChecks
-  pub bit : InTheirOrder bitChecks
-  pub run : InTheirOrder runChecks
-  pub frame : InTheirOrder frameChecks
-  pub activation : InTheirOrder activationTests
-  pub level : InTheirOrder dataTests
-  pub code : InTheirOrder backTests
-  pub encoder-start : InTheirOrder encoderStartChecks
-  pub encode : InTheirOrder encodeChecks
-  pub encode-run : InTheirOrder encodeRunChecks
-  pub history-start : InTheirOrder historyStartChecks
-  pub precode : InTheirOrder precodeChecks
-  pub shape : InTheirOrder shaperTests
-  pub start : InTheirOrder startChecks
-  pub step : InTheirOrder stepChecks
-  pub run-codes : InTheirOrder codesChecks
+  pub write : InTheirOrder rising writeChecks
+  pub check : InTheirOrder rising checkRefusals
+  pub read : InTheirOrder rising readChecks
+  pub data-write : InTheirOrder dataOrder dataWriteChecks
+  pub data-crc : InTheirOrder dataOrder dataCrcChecks
+  pub data-check : InTheirOrder dataOrder dataCheckChecks
+  pub data-read : InTheirOrder dataOrder dataReadChecks
+  pub scrambler-start : InTheirOrder rising scramblerStartChecks
+  pub bit : InTheirOrder rising bitChecks
+  pub run : InTheirOrder rising runChecks
+  pub frame : InTheirOrder rising frameChecks
+  pub activation : InTheirOrder rising activationTests
+  pub level : InTheirOrder rising dataTests
+  pub code : InTheirOrder rising backTests
+  pub encoder-start : InTheirOrder rising encoderStartChecks
+  pub encode : InTheirOrder rising encodeChecks
+  pub encode-run : InTheirOrder rising encodeRunChecks
+  pub history-start : InTheirOrder rising historyStartChecks
+  pub precode : InTheirOrder rising precodeChecks
+  pub shape : InTheirOrder rising shaperTests
+  pub start : InTheirOrder rising startChecks
+  pub step : InTheirOrder rising stepChecks
+  pub run-codes : InTheirOrder rising codesChecks
 
 -- THE DEMAND, function by function: its checks, what its memory holds before (for the start of a state: 0, or no state), and the numbers that a refusal gives
 pub record One (x : Library) : Type 0 where
   pub write : Answers (x .write) writeChecks (λ c. c .frame) none
   pub check : Answers (x .check) checkRefusals (λ c. none) none
   pub read : Answers (x .read) readChecks (λ c. record { coefficients = c .coefficients; vendor = c .vendor }) (record { kind = 0; a = 0; b = 0 })
+  pub data-write : Answers (x .data-write) dataWriteChecks (λ c. c .frame) 0
+  pub data-crc : Answers (x .data-crc) dataCrcChecks (λ c. none) (record { carried = 0; due = 0 })
+  pub data-check : Answers (x .data-check) dataCheckChecks (λ c. none) none
+  pub data-read : Answers (x .data-read) dataReadChecks (λ c. c .payload) (overheadFor noOverhead)
   pub scrambler-start : Answers (x .scrambler-start) scramblerStartChecks (λ c. 0) none
   pub bit : (way : Way) → Answers (x .bit way) bitChecks (λ c. c .state) 0
   pub run : (way : Way) → Answers (x .run way) runChecks (λ c. record { state = c .state; output = c .output }) none

@@ -7,6 +7,7 @@ use lib.IntN.{ℤ}
 use Rattle.recurrence.specs.Run.{Way}
 use Rattle.demands.specs.Library.{Library}
 use Rattle.demands.specs.Handed.{WriteCall, ReadCall, BitCall, RunCall, FrameCall, WordsCall, EncodeCall, EncodeRunCall, PrecodeCall}
+use Rattle.demands.specs.HandedData.{DataWriteCall, DataCrcCall, DataCheckCall, DataReadCall}
 use Rattle.demands.specs.HandedCodes.{StartCall, StepCall, CodesCall}
 use Rattle.demands.specs.FromC.{Calls, fromC}
 use Rattle.demands.specs.Contracts.{KeepsFor, Keeps}
@@ -16,6 +17,10 @@ pub record SameFor (calls : Calls) (x y : Library) : Type 0 where
   pub write : (c : WriteCall) → calls .write c ≡ true → x .write c ≡ y .write c
   pub check : (frame : List ℕ) → calls .check frame ≡ true → x .check frame ≡ y .check frame
   pub read : (c : ReadCall) → calls .read c ≡ true → x .read c ≡ y .read c
+  pub data-write : (c : DataWriteCall) → calls .data-write c ≡ true → x .data-write c ≡ y .data-write c
+  pub data-crc : (c : DataCrcCall) → calls .data-crc c ≡ true → x .data-crc c ≡ y .data-crc c
+  pub data-check : (c : DataCheckCall) → calls .data-check c ≡ true → x .data-check c ≡ y .data-check c
+  pub data-read : (c : DataReadCall) → calls .data-read c ≡ true → x .data-read c ≡ y .data-read c
   pub scrambler-start : (end : ℕ) → calls .scrambler-start end ≡ true → x .scrambler-start end ≡ y .scrambler-start end
   pub bit : (way : Way) (c : BitCall) → calls .bit c ≡ true → x .bit way c ≡ y .bit way c
   pub run : (way : Way) (c : RunCall) → calls .run c ≡ true → x .run way c ≡ y .run way c

@@ -1,0 +1,32 @@
+-- Every call, of any numbers and lists.
+use mathlib.Core.Bool.{true}
+use Rattle.demands.specs.FromC.{Calls}
+
+-- all of them are meant
+abbrev pub everyCall : Calls
+everyCall = record {
+  write = λ c. true;
+  check = λ frame. true;
+  read = λ c. true;
+  data-write = λ c. true;
+  data-crc = λ c. true;
+  data-check = λ c. true;
+  data-read = λ c. true;
+  scrambler-start = λ end. true;
+  bit = λ c. true;
+  run = λ c. true;
+  frame = λ c. true;
+  activation = λ bit. true;
+  level = λ code. true;
+  code = λ sixteenths. true;
+  encoder-start = λ c. true;
+  encode = λ c. true;
+  encode-run = λ c. true;
+  history-start = λ history. true;
+  precode = λ c. true;
+  decode = λ c. true;
+  shape = λ y. true;
+  start = λ c. true;
+  step = λ c. true;
+  run-codes = λ c. true;
+}
