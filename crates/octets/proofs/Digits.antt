@@ -177,13 +177,6 @@ value-next (x ∷ l) zero = omega arith
 value-next (x ∷ l) (suc k) =
     ap (λ (n : ℕ). n * 2 + x) (value-next l k) ∙ shifted (getD l k 0) (2 ^ k) (2 ^ suc k) (valueOf (take k l)) x (pow-suc 2 k)
 
-pub value-grows : (l : List ℕ) (m n : ℕ) → m ≤ n → valueOf (take m l) ≤ valueOf (take n l)
-unfolding valueOf
-value-grows l zero n h = zero-le
-value-grows l (suc m) zero h = absurd (not-suc-le-zero h)
-value-grows [] (suc m) (suc n) h = zero-le
-value-grows (x ∷ l) (suc m) (suc n) h = omega (arith, value-grows l m n (le-of-suc-le-suc h))
-
 -- the digits taken so far, the other end first
 pub turned-next : {rest : ℕ} (v k : ℕ) → rest ≡ v / 2 ^ k → valueOf (reverse (digitsOf k v)) * 2 + rest % 2 ≡ valueOf (reverse (digitsOf (k + 1) v))
 unfolding valueOf

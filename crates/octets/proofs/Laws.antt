@@ -3,17 +3,17 @@ use mathlib.Core.Path.{_≡_, refl, sym, ap, ap₂, _∙_}
 use mathlib.Core.List.{List, [], _∷_, _++_, append-nil}
 use mathlib.Core.Logic.{_⊎_, inl, inr}
 use Prim.Native.Nat.{ℕ, zero, suc, _+_, _-_, _*_, _/_, _%_, _^_, _≤_, _<_, zero-le, suc-le-suc, min}
-use native.Mathlib.Nat.{le-of-suc-le-suc, not-suc-le-zero, zero-add, suc-add, add-zero, add-suc, suc-mul}
+use native.Mathlib.Nat.{le-of-suc-le-suc, not-suc-le-zero, zero-add, suc-add, add-zero, add-suc, suc-mul, mod-lt}
 use native.Mathlib.Numerals.{add-one}
 use native.Mathlib.Omega.{arith}
 use native.Mathlib.Decide.{decLt}
 use borrow.Author.Tests.{lt-ltb, le-ltb}
-use lib.Dec.{ltb}
+use lib.Dec.{ltb, eqb, eqb·suc-zero}
 use lib.Pow.{pow-pos}
 use lib.ListN.{length, getD, take, drop, set, length-append, List·getD-append, length-take, length-drop, take-append-drop, drop-of-length-le}
 use lib.Seq.{getD-append-add, getD-set-other, getD-drop, getD-take, length-take-le, sets, length-sets, sets-eq, take-at, drop-at, take-suc, take-all, take-add, drop-drop}
 use Rattle.octets.specs.Bits.{digitsOf, valueOf, bitsOf, octetsOf, bitOf, part, laid}
-use Rattle.octets.proofs.Digits.{Bits, append-bits, take-bits, drop-bits, digits-length, digits-bits, digits-at, digits-value, value-digits, value-part, value-append, value-grows}
+use Rattle.octets.proofs.Digits.{Bits, append-bits, take-bits, drop-bits, digits-length, digits-bits, digits-at, digits-value, value-digits, value-part, value-append}
 
 -- every element of s is an octet
 abbrev pub Octets : List ℕ → Type 0
@@ -205,7 +205,7 @@ part-clipped s at n =
         pick (yes h) = take-all (min n (length l)) l (omega arith) ∙ sym (take-all n l (omega arith))
         pick (no h) = let e : min n (length l) ≡ n = omega arith in ap (λ (k : ℕ). take k l) e
 
--- ---- what a loop that looks for a 1 has seen: bits of value 0. The first k of n bits, and m more behind them
+-- ---- whether bits are all 0: the first k, and m more behind them
 
 module _ (s : List ℕ) (at k m : ℕ) where
   abbrev seen : List ℕ
@@ -216,15 +216,67 @@ module _ (s : List ℕ) (at k m : ℕ) where
       ap valueOf (take-add k m (drop at (bitsOf s)) ∙ ap (λ (l : List ℕ). seen ++ take m l) (drop-drop k at (bitsOf s)))
       ∙ value-append seen (part (at + k) m (bitsOf s))
 
-  pub clear-next : valueOf seen ≡ 0 → valueOf (part (at + k) m (bitsOf s)) ≡ 0 → valueOf (part at (k + m) (bitsOf s)) ≡ 0
-  clear-next e z = joined ∙ ap₂ (λ (x y : ℕ). x * 2 ^ length seen + y) z e ∙ omega arith
-
-  pub clear-not : (n : ℕ) → k + m ≤ n → (valueOf (part (at + k) m (bitsOf s)) ≡ 0 → ⊥) → valueOf (part at n (bitsOf s)) ≡ 0 → ⊥
-  clear-not n h z e =
-      let L = drop at (bitsOf s) in
-      let g : valueOf (take (k + m) L) ≤ valueOf (take n L) = value-grows L (k + m) n h in
-      z (none (valueOf (part (at + k) m (bitsOf s))) (2 ^ length seen) (valueOf seen) (pow-pos (length seen)) (omega (arith, joined)))
+  pub clear-both : min (valueOf (part at (k + m) (bitsOf s))) 1 ≡ min (valueOf seen + valueOf (part (at + k) m (bitsOf s))) 1
+  clear-both = ap (λ (x : ℕ). min x 1) joined ∙ either (valueOf (part (at + k) m (bitsOf s))) (2 ^ length seen) (valueOf seen) (pow-pos (length seen))
     where
-      none : (b p v : ℕ) → 0 < p → b * p + v ≡ 0 → b ≡ 0
-      none zero p v h e = refl
-      none (suc b) p v h e = absurd (omega (arith, suc-mul b p))
+      either : (b p v : ℕ) → 0 < p → min (b * p + v) 1 ≡ min (v + b) 1
+      either zero p v h = omega arith
+      either (suc b) p v h = omega (arith, suc-mul b p)
+
+-- ---- n bits from a place on, in three parts: those before the next octet, whole octets, and those behind them
+
+pub head-small : (at n head : ℕ) → head ≡ min n ((8 - at % 8) % 8) → (head ≤ n) × (head < 8)
+head-small at n head h = (omega arith, omega arith)
+
+-- the octets, and what is before those behind them
+octets-between : (n head i : ℕ) → head ≤ n → (8 * (i + (n - head) / 8 - i) ≡ (n - head) / 8 * 8) × (n - (n - head) % 8 ≡ head + (n - head) / 8 * 8)
+octets-between n head i h = (omega arith, omega arith)
+
+-- where there is an octet, the bits before it end at it
+octet-begins : (at n head : ℕ) → head ≡ min n ((8 - at % 8) % 8) → 1 ≤ (n - head) / 8 * 8 → at + head ≡ 8 * (at / 8 + (at % 8 + 7) / 8)
+octet-begins at n head h l = ends at head (short n ((8 - at % 8) % 8) head h l)
+  where
+    short : (n m head : ℕ) → head ≡ min n m → 1 ≤ (n - head) / 8 * 8 → head ≡ m
+    short n m head h l = omega arith
+
+    ends : (at head : ℕ) → head ≡ (8 - at % 8) % 8 → at + head ≡ 8 * (at / 8 + (at % 8 + 7) / 8)
+    ends at head h = omega arith
+
+-- whether they are all 0, as the code reads the three
+pub clear-three : (s : List ℕ) (at n head : ℕ) {x y z : ℕ} → head ≡ min n ((8 - at % 8) % 8)
+    → x ≡ valueOf (part (at + 0) (min head 56) (bitsOf s))
+    → y ≡ valueOf (part (8 * (at / 8 + (at % 8 + 7) / 8)) (8 * (at / 8 + (at % 8 + 7) / 8 + (n - head) / 8 - (at / 8 + (at % 8 + 7) / 8))) (bitsOf s))
+    → z ≡ valueOf (part (at + (n - (n - head) % 8)) (min ((n - head) % 8) 56) (bitsOf s))
+    → min (valueOf (part at n (bitsOf s))) 1 ≡ min (x + y + z) 1
+clear-three s at n head {x} {y} {z} h ex ey ez =
+    let B = bitsOf s in
+    let i = at / 8 + (at % 8 + 7) / 8 in
+    let k = head-small at n head h in
+    let b = octets-between n head i (k .0) in
+    three head ((n - head) / 8 * 8) ((n - head) % 8) i (whole n head (k .0)) (octet-begins at n head h)
+    (ex ∙ ap₂ (λ (p m : ℕ). valueOf (part p m B)) (add-zero at) (few head (k .1)))
+    (ey ∙ ap (λ (m : ℕ). valueOf (part (8 * i) m B)) (b .0))
+    (ez ∙ ap₂ (λ (p m : ℕ). valueOf (part (at + p) m B)) (b .1) (few ((n - head) % 8) (mod-lt (n - head) (suc-le-suc zero-le))))
+  where
+    few : (m : ℕ) → m < 8 → min m 56 ≡ m
+    few m l = omega arith
+
+    whole : (n head : ℕ) → head ≤ n → head + (n - head) / 8 * 8 + (n - head) % 8 ≡ n
+    whole n head l = omega arith
+
+    middle : (a b i : ℕ) → (1 ≤ b → at + a ≡ 8 * i) → part (at + a) b (bitsOf s) ≡ part (8 * i) b (bitsOf s)
+    middle a zero i f = refl
+    middle a (suc b) i f = ap (λ (p : ℕ). part p (suc b) (bitsOf s)) (f (suc-le-suc zero-le))
+
+    three : (a b c i : ℕ) → a + b + c ≡ n → (1 ≤ b → at + a ≡ 8 * i) → x ≡ valueOf (part at a (bitsOf s)) → y ≡ valueOf (part (8 * i) b (bitsOf s))
+        → z ≡ valueOf (part (at + (a + b)) c (bitsOf s)) → min (valueOf (part at n (bitsOf s))) 1 ≡ min (x + y + z) 1
+    three a b c i e f ex ey ez =
+        ap (λ (k : ℕ). min (valueOf (part at k (bitsOf s))) 1) (sym e)
+        ∙ omega (arith, clear-both s at (a + b) c, clear-both s at a b, ap valueOf (middle a b i f))
+
+-- numbers of which both are 0 or neither
+pub none-same : (x y : ℕ) → min x 1 ≡ min y 1 → eqb x 0 ≡ eqb y 0
+none-same zero zero e = refl
+none-same zero (suc y) e = absurd (omega arith)
+none-same (suc x) zero e = absurd (omega arith)
+none-same (suc x) (suc y) e = eqb·suc-zero x ∙ sym (eqb·suc-zero y)

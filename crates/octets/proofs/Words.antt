@@ -2,19 +2,19 @@
 use mathlib.Core.Path.{_≡_, refl, sym, ap, ap₂, _∙_, subst}
 use mathlib.Core.Logic.{inr}
 use mathlib.Core.List.{List, [], _∷_, _++_, append-assoc, append-nil}
-use Prim.Native.Nat.{ℕ, zero, suc, _+_, _-_, _*_, _/_, _%_, _^_, _≤_, _<_, zero-le, suc-le-suc}
+use Prim.Native.Nat.{ℕ, zero, suc, _+_, _-_, _*_, _/_, _%_, _^_, _≤_, _<_, zero-le, suc-le-suc, min}
 use native.Mathlib.Nat.{div-one, zero-add, suc-add, add-zero, mul-assoc, mod-lt, mod-one, mod-eq-of-lt, div-eq-of-lt, pow-suc}
 use native.Mathlib.Decide.{decLe, decLt}
 use native.Mathlib.Omega.{arith}
 use lib.Arith.{digits-lt, digits-div, digits-mod, mod-mul}
 use lib.Dec.{lit≤}
 use lib.Pow.{field, high, low, mod-mod-pow, mod-pow-add, pow-pos, pow-mono, pow-add, shl-exact, shl-shr, shr-lt, shr-shr}
-use lib.Bits.{bitAnd, bitOr, and-mask, or-shifted}
+use lib.Bits.{bitAnd, bitOr, and-le-l, and-le-r, and-mask, or-add-and, or-shifted}
 use lib.ListN.{length, getD, take, drop, set, length-append, length-drop, take-append-drop, drop-of-length-le, List·getD-eq-default}
 use lib.Seq.{length-take-le, take-nil, take-at, drop-at, take-take, drop-drop, take-add, take-append-le, drop-append-le, drop-cons, getD-take, getD-drop, set-out, set-getD, sets, length-sets, sets-eq}
 use Rattle.octets.specs.Bits.{digitsOf, valueOf, bitsOf, octetsOf, part, laid}
 use Rattle.octets.proofs.Digits.{Bits, take-bits, drop-bits, digits-length, digits-bits, digits-at, digits-take, digits-mod-pow, digits-value, shr-suc, value-append, value-digits, value-part}
-use Rattle.octets.proofs.Laws.{Octets, bits-length, bits-bits, octets-are, octets-bits, octets-length, bits-octets, laid-next, sets-below, sets-append, sets-other}
+use Rattle.octets.proofs.Laws.{Octets, bits-length, bits-bits, octets-are, octets-bits, octets-length, bits-octets, laid-next, sets-below, sets-append, sets-other, clear-both}
 
 -- ---- digits in parts
 
@@ -227,15 +227,6 @@ shl-mod a j k w e =
     ∙ ap₂ (λ (x y : ℕ). x % 2 ^ j * 2 ^ k + y) (shl-shr a k) (ap (λ (x : ℕ). x % 2 ^ k) (sym z) ∙ low a k (pow-pos k))
     ∙ omega arith
 
--- of 64 bits from a place on, the first m, shifted to the top
-pub front-shifted : (s : List ℕ) (p m : ℕ) → m ≤ 64 → valueOf (part p 64 (bitsOf s)) * 2 ^ (64 - m) % 2 ^ 64 ≡ valueOf (part p m (bitsOf s)) * 2 ^ (64 - m)
-front-shifted s p m h =
-    shl-mod (valueOf (part p 64 (bitsOf s))) m (64 - m) 64 (omega arith) ∙ ap (λ (x : ℕ). x * 2 ^ (64 - m)) (front-value s p m h)
-
--- what is 0 shifted was 0
-pub front-none : (x k : ℕ) → x * 2 ^ k ≡ 0 → x ≡ 0
-front-none x k e = sym (shl-shr x k) ∙ ap (λ (y : ℕ). y / 2 ^ k) e ∙ div-eq-of-lt (pow-pos k)
-
 module _ (x r : ℕ) (h : r < 64) where
   -- what goes to the top of the word, as the code shifts it: by 64 - r, which may be all 64
   top : (y : ℕ) → y * 2 ^ (63 - r) % 2 ^ 64 * 2 ^ 1 % 2 ^ 64 ≡ y % 2 ^ r * 2 ^ (64 - r)
@@ -394,6 +385,16 @@ value-octet s j m o = pick (decLe (length s) j)
         sym (ap valueOf (sym (part-more (bitsOf s) (8 * j) 8 m (m + 8) f) ∙ ap₂ (λ (x : List ℕ) (k : ℕ). x ++ part k m (bitsOf s)) (sym d) e)
         ∙ value-append (digitsOf 8 (getD s j 0)) P
         ∙ ap₂ (λ (k x : ℕ). valueOf P * 2 ^ k + x) (digits-length 8 (getD s j 0)) (value-digits 8 (getD s j 0) ∙ mod-eq-of-lt (o j)))
+
+-- one octet more of those that may all be 0, behind m of them
+pub clear-octet : (s : List ℕ) (i m k all : ℕ) → Octets s → i + m ≡ k → min all 1 ≡ min (valueOf (part (8 * i) (8 * m) (bitsOf s))) 1
+    → min (bitOr all (getD s k 0)) 1 ≡ min (valueOf (part (8 * i) (8 * m + 8) (bitsOf s))) 1
+unfolding valueOf
+clear-octet s i m k all o e h =
+    let p : 8 * i + 8 * m ≡ 8 * k = omega arith in
+    let x = getD s k 0 in
+    let f : valueOf (part (8 * i + 8 * m) 8 (bitsOf s)) ≡ x = ap (λ (q : ℕ). valueOf (part q 8 (bitsOf s))) p ∙ sym (value-octet s k 0 o) ∙ zero-add x in
+    omega (arith, or-add-and all x, and-le-l all x, and-le-r all x, clear-both s (8 * i) (8 * m) 8)
 
 -- eight octets written, or as many as there are
 pub word-laid : (s : List ℕ) (i v : ℕ) → Octets s → sets s i (octetsOf 8 (digitsOf 64 v)) ≡ laid s (8 * i) (digitsOf 64 v)

@@ -3,6 +3,7 @@
 ghost use mathlib.Core.Path.{_≡_};
 ghost use mathlib.Core.List.{_++_};
 ghost use Prim.Native.Nat.{_+_, _-_, _*_, _%_, _<_, _≤_, min};
+ghost use lib.Dec.{eqb};
 ghost use lib.ListN.{length, take, drop};
 ghost use lib.Seq.{sets};
 ghost use Rattle.octets.specs.Bits.{digitsOf, valueOf, bitsOf, octetsOf, part, laid};
@@ -222,19 +223,48 @@ pub fn clear(s: &mut [u8], at: usize, n: u32)
     }
 }
 
-// Whether the n bits from place `at` on are all 0.
+// How many of the n bits from place `at` on stand before the next octet.
+fn leading(at: usize, n: u32) -> u32
+    ensures { λ r. ⌜ r ≡ min n ((8 - at % 8) % 8) ⌝ }
+{
+    least(n, ((8 - at % 8) % 8) as u32)
+}
+
+// How many octets before octet `end` are there.
+fn within(s: &[u8], end: usize) -> usize
+    ensures { λ r. ⌜ r ≡ min end (length (now (s .entry))) ⌝ }
+{
+    if end < s.len() { end } else { s.len() }
+}
+
+// Whether the octets from octet i to before octet `end` are all 0. The loop goes to its end, so the compiler takes many octets at once.
+fn octets_clear(s: &[u8], i: usize, end: usize) -> bool
+    ensures { λ r. ⌜ r ≡ eqb (valueOf (part (8 * i) (8 * (end - i)) (bitsOf (now (s .entry))))) 0 ⌝ }
+{
+    let last = within(s, end);
+    let mut all: u8 = 0;
+    let mut k = i;
+    while k < last {
+        all = all | s[k];
+        k += 1;
+    }
+    all == 0
+}
+
+// Whether the n bits from place `at` on are all 0: those before an octet, those behind the last whole octet, and the octets between.
 pub fn is_clear(s: &[u8], at: usize, n: u32) -> bool
     ensures { λ r. ⌜ IsClear (now (s .entry)) at n r ⌝ }
 {
-    let mut k: u32 = 0;
-    while k < n {
-        let m = least(n - k, WORD);
-        if long(s, at, k) << (WORD - m) != 0 {
-            return false;
-        }
-        k += m;
+    let head = leading(at, n);
+    let last = (n - head) % 8;
+    if bits(s, at, 0, head) != 0 {
+        return false;
     }
-    true
+    if bits(s, at, n - last, last) != 0 {
+        return false;
+    }
+    let i = at / 8 + (at % 8 + 7) / 8;
+    octets_clear(s, i, i + ((n - head) / 8) as usize)
 }
 
 // The whole number that the w low digits of n stand for in two's complement; a width over 32 counts as 32.

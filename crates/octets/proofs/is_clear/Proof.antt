@@ -1,104 +1,97 @@
--- `octets::is_clear` meets its contract. The k bits passed have the value 0.
+-- `octets::is_clear` meets its contract.
 use borrow.Author.Needs.{needs}
-use mathlib.Core.Path.{_≡_, refl, sym, ap, subst, _∙_}
-use Prim.Native.Nat.{ℕ, _+_, _-_, _*_, _%_, _^_, _≤_}
+use borrow.Author.Tests.{ne-eqb}
+use mathlib.Core.Path.{_≡_, refl, sym, _∙_}
+use Prim.Native.Nat.{ℕ, _+_, _-_, _*_, _/_, _%_, min}
 use native.Mathlib.Omega.{arith}
-use borrow.Author.Tests.{eq-eqb, ne-eqb}
-use Rattle.octets.specs.Bits.{bitsOf, valueOf, part}
-use Rattle.octets.proofs.Laws.{clear-next, clear-not}
-use Rattle.octets.proofs.Words.{front-none, front-shifted}
+use Rattle.octets.specs.Bits.{valueOf, bitsOf, part}
+use Rattle.octets.proofs.Laws.{clear-three, none-same}
 use Rattle.octets.proofs.is_clear.Statement.{statement}
 use Rattle.octets.proofs.is_clear.Tie as tie
 
-abbrev Inv-loop : tie.InvT-loop
-Inv-loop s at n k₀ k = (k ≤ n) × (valueOf (part at k (bitsOf s)) ≡ 0)
+leading-requires : tie.Need-leading-requires
+leading-requires c κs = search needs
 
-abbrev μ-loop : tie.MeasureT-loop
-μ-loop s at n k₀ k = n - k
+sub-last : tie.Need-sub-last
+sub-last c = search needs
 
-loop-holds : tie.Need-loop-holds Inv-loop μ-loop
-unfolding valueOf
-loop-holds c = (omega arith, refl)
+bits-requires : tie.Need-bits-requires
+bits-requires c κs = search needs
 
-sub-least : tie.Need-sub-least Inv-loop μ-loop
-sub-least c = omega arith
-
-least-requires : tie.Need-least-requires Inv-loop μ-loop
-least-requires c κs = search needs
-
-long-requires : tie.Need-long-requires Inv-loop μ-loop
-long-requires c κs = search needs
-
-sub-if1 : tie.Need-sub-if1 Inv-loop μ-loop
-sub-if1 c = omega (arith, c .before .least .ensures)
-
-cast-if1 : tie.Need-cast-if1 Inv-loop μ-loop
-cast-if1 c = omega arith
-
-shl-if1 : tie.Need-shl-if1 Inv-loop μ-loop
-shl-if1 c = omega (arith, c .before .least .ensures)
-
--- the m bits, as the code shifts them to the top
-module _ (c : tie.After-long Inv-loop μ-loop) where
-  abbrev m : ℕ
-  m = c .before .least .result
-
-  abbrev place : ℕ
-  place = c .before .before .before .before .before .args .at + c .before .before .before .loop .k
-
-  shifted : c .long .result * 2 ^ (64 - m) % 2 ^ 64 ≡ valueOf (part place m (bitsOf (c .before .before .before .before .before .args .s .now))) * 2 ^ (64 - m)
-  shifted =
-      ap (λ (x : ℕ). x * 2 ^ (64 - m) % 2 ^ 64) (c .long .ensures)
-      ∙ front-shifted (c .before .before .before .before .before .args .s .now) place m (omega (arith, c .before .least .ensures))
-
-returns : tie.Need-returns Inv-loop μ-loop
+-- a bit before the octets is not 0
+returns : tie.Need-returns
 returns c =
     let u = c .before in
-    let l = u .before .before .before .loop in
-    let a = u .before .before .before .before .before .args in
-    let zero : 0 * 2 ^ (64 - m u) ≡ 0 = omega arith in
+    let a = u .before .before .before .args in
     sym
     (ne-eqb _ _
-    (clear-not (a .s .now) (a .at) (l .k) (m u) (a .n) (omega (arith, u .before .least .ensures))
-    (λ z. c .if1 .taken (shifted u ∙ ap (λ (x : ℕ). x * 2 ^ (64 - m u)) z ∙ zero))))
+    (λ (z : valueOf (part (a .at) (a .n) (bitsOf (a .s .now))) ≡ 0).
+    c .if1 .taken (omega (arith, clear-three (a .s .now) (a .at) (a .n) (u .before .leading .result) (u .before .leading .ensures) (u .bits .ensures) refl refl))))
 
-add-k : tie.Need-add-k Inv-loop μ-loop
-add-k c = omega (arith, c .before .before .least .ensures)
+sub-bits : tie.Need-sub-bits
+sub-bits c = search needs
 
-loop-less : tie.Need-loop-less Inv-loop μ-loop
-loop-less c = omega (arith, c .before .before .least .ensures)
+bits-requires-2 : tie.Need-bits-requires-2
+bits-requires-2 c κs = search needs
 
-loop-again : tie.Need-loop-again Inv-loop μ-loop
-loop-again c =
-    let u = c .before in
-    let l = u .before .before .before .loop in
-    let a = u .before .before .before .before .before .args in (
-      omega (arith, u .before .least .ensures),
-      clear-next (a .s .now) (a .at) (l .k) (m u) (l .inv .1) (front-none _ (64 - m u) (sym (shifted u) ∙ c .if1 .left)),
-    )
-
-returns-2 : tie.Need-returns-2 Inv-loop μ-loop
+-- a bit behind them is not 0
+returns-2 : tie.Need-returns-2
 returns-2 c =
-    let a = c .before .before .before .args in
-    let l = c .before .loop in
-    let e : l .k ≡ a .n = omega arith in
-    sym (eq-eqb _ _ (subst (λ (k : ℕ). valueOf (part (a .at) k (bitsOf (a .s .now))) ≡ 0) e (l .inv .1)))
+    let u = c .before .before .before in
+    let a = u .before .before .before .args in
+    sym
+    (ne-eqb _ _
+    (λ (z : valueOf (part (a .at) (a .n) (bitsOf (a .s .now))) ≡ 0).
+    c .if2 .taken
+    (omega (arith, clear-three (a .s .now) (a .at) (a .n) (u .before .leading .result) (u .before .leading .ensures) (u .bits .ensures) refl (c .before .bits2 .ensures)))))
+
+add-i : tie.Need-add-i
+add-i c = search needs
+
+add-i-2 : tie.Need-add-i-2
+add-i-2 c = search needs
+
+sub-octets-clear : tie.Need-sub-octets-clear
+sub-octets-clear c = search needs
+
+cast-octets-clear : tie.Need-cast-octets-clear
+cast-octets-clear c = search needs
+
+add-octets-clear : tie.Need-add-octets-clear
+add-octets-clear c = search needs
+
+octets-clear-requires : tie.Need-octets-clear-requires
+octets-clear-requires c κs = search needs
+
+returns-3 : tie.Need-returns-3
+returns-3 c =
+    let v = c .before .before in
+    let u = v .before .before in
+    let a = u .before .before .before .args in
+    let B = bitsOf (a .s .now) in
+    let i = a .at / 8 + (a .at % 8 + 7) / 8 in
+    let m = valueOf (part (8 * i) (8 * (i + (a .n - u .before .leading .result) / 8 - i)) B) in
+    let e : min (valueOf (part (a .at) (a .n) B)) 1 ≡ min (u .bits .result + m + v .bits2 .result) 1 =
+    clear-three (a .s .now) (a .at) (a .n) (u .before .leading .result) (u .before .leading .ensures) (u .bits .ensures) refl (v .bits2 .ensures) in
+    let x : u .bits .result ≡ 0 = v .before .if1 .left in
+    let z : v .bits2 .result ≡ 0 = c .before .if2 .left in
+    c .octets-clear .ensures ∙ none-same m (valueOf (part (a .at) (a .n) B)) (omega arith)
 
 pub is-clear-spec : {M : Type 1} → statement M
 is-clear-spec =
     tie.close
     (tie.spec
-    Inv-loop
-    μ-loop
-    loop-holds
-    sub-least
-    least-requires
-    long-requires
-    sub-if1
-    cast-if1
-    shl-if1
+    leading-requires
+    sub-last
+    bits-requires
     returns
-    add-k
-    loop-less
-    loop-again
-    returns-2)
+    sub-bits
+    bits-requires-2
+    returns-2
+    add-i
+    add-i-2
+    sub-octets-clear
+    cast-octets-clear
+    add-octets-clear
+    octets-clear-requires
+    returns-3)
