@@ -10,10 +10,10 @@ use native.Mathlib.Decide.{decLt}
 use borrow.Author.Tests.{lt-ltb, le-ltb}
 use lib.Dec.{ltb, eqb, eqb·suc-zero}
 use lib.Pow.{pow-pos}
-use lib.ListN.{length, getD, take, drop, set, length-append, List·getD-append, length-take, length-drop, take-append-drop, drop-of-length-le}
+use lib.ListN.{length, getD, take, drop, set, replicate, length-replicate, replicate-append-replicate, length-append, List·getD-append, length-take, length-drop, take-append-drop, drop-of-length-le}
 use lib.Seq.{getD-append-add, getD-set-other, getD-drop, getD-take, length-take-le, sets, length-sets, sets-eq, take-at, drop-at, take-suc, take-all, take-add, drop-drop}
 use Rattle.octets.specs.Bits.{digitsOf, valueOf, bitsOf, octetsOf, bitOf, part, laid}
-use Rattle.octets.proofs.Digits.{Bits, append-bits, take-bits, drop-bits, digits-length, digits-bits, digits-at, digits-value, value-digits, value-part, value-append}
+use Rattle.octets.proofs.Digits.{Bits, append-bits, take-bits, drop-bits, zeros-bits, digits-length, digits-bits, digits-at, digits-value, value-digits, value-part, value-append}
 
 -- every element of s is an octet
 abbrev pub Octets : List ℕ → Type 0
@@ -225,12 +225,15 @@ module _ (s : List ℕ) (at k m : ℕ) where
 
 -- ---- n bits from a place on, in three parts: those before the next octet, whole octets, and those behind them
 
-pub head-small : (at n head : ℕ) → head ≡ min n ((8 - at % 8) % 8) → (head ≤ n) × (head < 8)
+head-small : (at n head : ℕ) → head ≡ min n ((8 - at % 8) % 8) → (head ≤ n) × (head < 8)
 head-small at n head h = (omega arith, omega arith)
 
 -- the octets, and what is before those behind them
 octets-between : (n head i : ℕ) → head ≤ n → (8 * (i + (n - head) / 8 - i) ≡ (n - head) / 8 * 8) × (n - (n - head) % 8 ≡ head + (n - head) / 8 * 8)
 octets-between n head i h = (omega arith, omega arith)
+
+whole : (n head : ℕ) → head ≤ n → head + (n - head) / 8 * 8 + (n - head) % 8 ≡ n
+whole n head h = omega arith
 
 -- where there is an octet, the bits before it end at it
 octet-begins : (at n head : ℕ) → head ≡ min n ((8 - at % 8) % 8) → 1 ≤ (n - head) / 8 * 8 → at + head ≡ 8 * (at / 8 + (at % 8 + 7) / 8)
@@ -261,9 +264,6 @@ clear-three s at n head {x} {y} {z} h ex ey ez =
     few : (m : ℕ) → m < 8 → min m 56 ≡ m
     few m l = omega arith
 
-    whole : (n head : ℕ) → head ≤ n → head + (n - head) / 8 * 8 + (n - head) % 8 ≡ n
-    whole n head l = omega arith
-
     middle : (a b i : ℕ) → (1 ≤ b → at + a ≡ 8 * i) → part (at + a) b (bitsOf s) ≡ part (8 * i) b (bitsOf s)
     middle a zero i f = refl
     middle a (suc b) i f = ap (λ (p : ℕ). part p (suc b) (bitsOf s)) (f (suc-le-suc zero-le))
@@ -280,3 +280,36 @@ none-same zero zero e = refl
 none-same zero (suc y) e = absurd (omega arith)
 none-same (suc x) zero e = absurd (omega arith)
 none-same (suc x) (suc y) e = eqb·suc-zero x ∙ sym (eqb·suc-zero y)
+
+-- ---- zeros laid
+
+-- behind zeros; where there are none, the place is no matter
+zeros-next : (s₀ : List ℕ) (at a b : ℕ) {s t : List ℕ} (p : ℕ) → (1 ≤ b → at + a ≡ p) → s ≡ laid s₀ at (replicate a 0) → t ≡ laid s p (replicate b 0)
+    → t ≡ laid s₀ at (replicate (a + b) 0)
+unfolding laid
+zeros-next s₀ at a b {s} {t} p f e g =
+    laid-next s₀ at (replicate a 0) (replicate b 0) (at + a) (zeros-bits a) (ap (λ (j : ℕ). at + j) (length-replicate a 0)) e (g ∙ move b f)
+    ∙ ap (laid s₀ at) (replicate-append-replicate a b 0)
+  where
+    move : (b : ℕ) → (1 ≤ b → at + a ≡ p) → laid s p (replicate b 0) ≡ laid s (at + a) (replicate b 0)
+    move zero f = refl
+    move (suc b) f = ap (λ (q : ℕ). laid s q (replicate (suc b) 0)) (sym (f (suc-le-suc zero-le)))
+
+-- in three parts, as the code lays them
+pub zeros-three : (s₀ : List ℕ) (at n head : ℕ) {s t u : List ℕ} → head ≡ min n ((8 - at % 8) % 8)
+    → s ≡ laid s₀ (at + 0) (replicate head 0)
+    → t ≡ laid s (8 * (at / 8 + (at % 8 + 7) / 8)) (replicate (8 * (at / 8 + (at % 8 + 7) / 8 + (n - head) / 8 - (at / 8 + (at % 8 + 7) / 8))) 0)
+    → u ≡ laid t (at + (n - (n - head) % 8)) (replicate ((n - head) % 8) 0)
+    → u ≡ laid s₀ at (replicate n 0)
+zeros-three s₀ at n head {s} {t} {u} h es et eu =
+    let i = at / 8 + (at % 8 + 7) / 8 in
+    let b = (n - head) / 8 * 8 in
+    let c = (n - head) % 8 in
+    let k = head-small at n head h in
+    let o = octets-between n head i (k .0) in
+    zeros-next s₀ at (head + b) c (at + (head + b)) (λ some. refl)
+    (zeros-next s₀ at head b (8 * i) (octet-begins at n head h)
+    (es ∙ ap (λ (p : ℕ). laid s₀ p (replicate head 0)) (add-zero at))
+    (et ∙ ap (λ (m : ℕ). laid s (8 * i) (replicate m 0)) (o .0)))
+    (eu ∙ ap (λ (p : ℕ). laid t (at + p) (replicate c 0)) (o .1))
+    ∙ ap (λ (m : ℕ). laid s₀ at (replicate m 0)) (whole n head (k .0))

@@ -10,10 +10,10 @@ use lib.Arith.{digits-lt, digits-div, digits-mod, mod-mul}
 use lib.Dec.{lit≤}
 use lib.Pow.{field, high, low, mod-mod-pow, mod-pow-add, pow-pos, pow-mono, pow-add, shl-exact, shl-shr, shr-lt, shr-shr}
 use lib.Bits.{bitAnd, bitOr, and-le-l, and-le-r, and-mask, or-add-and, or-shifted}
-use lib.ListN.{length, getD, take, drop, set, length-append, length-drop, take-append-drop, drop-of-length-le, List·getD-eq-default}
+use lib.ListN.{length, getD, take, drop, set, replicate, length-replicate, replicate-append-replicate, length-append, length-drop, take-append-drop, drop-of-length-le, List·getD-eq-default}
 use lib.Seq.{length-take-le, take-nil, take-at, drop-at, take-take, drop-drop, take-add, take-append-le, drop-append-le, drop-cons, getD-take, getD-drop, set-out, set-getD, sets, length-sets, sets-eq}
 use Rattle.octets.specs.Bits.{digitsOf, valueOf, bitsOf, octetsOf, part, laid}
-use Rattle.octets.proofs.Digits.{Bits, take-bits, drop-bits, digits-length, digits-bits, digits-at, digits-take, digits-mod-pow, digits-value, shr-suc, value-append, value-digits, value-part}
+use Rattle.octets.proofs.Digits.{Bits, take-bits, drop-bits, zeros-bits, digits-length, digits-bits, digits-at, digits-take, digits-mod-pow, digits-value, shr-suc, value-append, value-digits, value-part}
 use Rattle.octets.proofs.Laws.{Octets, bits-length, bits-bits, octets-are, octets-bits, octets-length, bits-octets, laid-next, sets-below, sets-append, sets-other, clear-both}
 
 -- ---- digits in parts
@@ -399,6 +399,38 @@ clear-octet s i m k all o e h =
 -- eight octets written, or as many as there are
 pub word-laid : (s : List ℕ) (i v : ℕ) → Octets s → sets s i (octetsOf 8 (digitsOf 64 v)) ≡ laid s (8 * i) (digitsOf 64 v)
 word-laid s i v o = octets-laid s (digitsOf 64 v) i 8 o (digits-bits 64 v) (digits-length 64 v)
+
+-- ---- octets 0
+
+octets-zeros : (n : ℕ) → octetsOf n (replicate (8 * n) 0) ≡ replicate n 0
+unfolding octetsOf valueOf
+octets-zeros zero = refl
+octets-zeros (suc n) =
+    let e : 8 * suc n ≡ suc (suc (suc (suc (suc (suc (suc (suc (8 * n)))))))) = omega arith in
+    ap (λ (k : ℕ). octetsOf (suc n) (replicate k 0)) e ∙ ap (λ (l : List ℕ). 0 ∷ l) (octets-zeros n)
+
+-- one more, behind m
+pub zero-more : (s₀ : List ℕ) (i m k : ℕ) {s : List ℕ} → i + m ≡ k → s ≡ sets s₀ i (replicate m 0) → set s k 0 ≡ sets s₀ i (replicate (m + 1) 0)
+zero-more s₀ i m k e g =
+    ap₂ (λ (l : List ℕ) (j : ℕ). set l j 0) g (sym (ap (λ (j : ℕ). i + j) (length-replicate m 0) ∙ e))
+    ∙ sym (sets-append s₀ i (replicate m 0) (0 ∷ []))
+    ∙ ap (sets s₀ i) (replicate-append-replicate m 1 0)
+
+-- n of them are zero bits laid, where m are all that are there
+pub zeros-laid : (s : List ℕ) (i m n : ℕ) → Octets s → m ≤ n → (m < n → length s ≤ i + m) → sets s i (replicate m 0) ≡ laid s (8 * i) (replicate (8 * n) 0)
+zeros-laid s i m n o h l =
+    let e : m + (n - m) ≡ n = omega arith in
+    rest (n - m) e
+    ∙ ap (sets s i) (replicate-append-replicate m (n - m) 0 ∙ ap (λ (k : ℕ). replicate k 0) e ∙ sym (octets-zeros n))
+    ∙ octets-laid s (replicate (8 * n) 0) i n o (zeros-bits (8 * n)) (length-replicate (8 * n) 0)
+  where
+    rest : (k : ℕ) → m + k ≡ n → sets s i (replicate m 0) ≡ sets s i (replicate m 0 ++ replicate k 0)
+    rest zero e = ap (sets s i) (sym (append-nil (replicate m 0)))
+    rest (suc k) e =
+        let S = sets s i (replicate m 0) in
+        let p : length s ≤ i + m = l (omega arith) in
+        sym (sets-own S (i + length (replicate {A = ℕ} m 0)) (replicate (suc k) 0) (λ j a b. absurd (omega (arith, length-sets s i (replicate m 0), length-replicate {A = ℕ} m 0))))
+        ∙ sym (sets-append s i (replicate m 0) (replicate (suc k) 0))
 
 -- ---- the digits of a number with a field of them replaced, as the code does it
 

@@ -4,7 +4,7 @@ ghost use mathlib.Core.Path.{_≡_};
 ghost use mathlib.Core.List.{_++_};
 ghost use Prim.Native.Nat.{_+_, _-_, _*_, _%_, _<_, _≤_, min};
 ghost use lib.Dec.{eqb};
-ghost use lib.ListN.{length, take, drop};
+ghost use lib.ListN.{length, take, drop, replicate};
 ghost use lib.Seq.{sets};
 ghost use Rattle.octets.specs.Bits.{digitsOf, valueOf, bitsOf, octetsOf, part, laid};
 ghost use Rattle.octets.specs.Promises.{BitRead, HasBit, WordRead, WordPut, BitsRead, BitsPut, FrontPut, Copied, Cleared, IsClear, Signed, Twos};
@@ -211,18 +211,6 @@ pub fn copy(s: &mut [u8], at: usize, source: &[u8], from: usize, n: u32)
     }
 }
 
-// The n bits from place `at` on become 0.
-pub fn clear(s: &mut [u8], at: usize, n: u32)
-    ensures { λ r. ⌜ Cleared (now (s .entry)) at n (now (s .exit)) ⌝ }
-{
-    let mut k: u32 = 0;
-    while k < n {
-        let m = step(at, k, n - k);
-        put_at(s, at, k, m, 0);
-        k += m;
-    }
-}
-
 // How many of the n bits from place `at` on stand before the next octet.
 fn leading(at: usize, n: u32) -> u32
     ensures { λ r. ⌜ r ≡ min n ((8 - at % 8) % 8) ⌝ }
@@ -235,6 +223,40 @@ fn within(s: &[u8], end: usize) -> usize
     ensures { λ r. ⌜ r ≡ min end (length (now (s .entry))) ⌝ }
 {
     if end < s.len() { end } else { s.len() }
+}
+
+// The octets from octet i to before octet `end` become 0, those that are there. The compiler fills them as one piece of memory.
+fn fill(s: &mut [u8], i: usize, end: usize)
+    ensures { λ r. ⌜ now (s .exit) ≡ laid (now (s .entry)) (8 * i) (replicate (8 * (end - i)) 0) ⌝ }
+{
+    let last = within(s, end);
+    let mut k = i;
+    while k < last {
+        s[k] = 0;
+        k += 1;
+    }
+}
+
+// The n bits from the one k places behind place `at` on become 0, fewer than 8. For none nothing is loaded.
+fn put_zeros(s: &mut [u8], at: usize, k: u32, n: u32)
+    requires { ⌜ n < 8 ⌝ }
+    ensures { λ r. ⌜ now (s .exit) ≡ laid (now (s .entry)) (at + k) (replicate n 0) ⌝ }
+{
+    if n != 0 {
+        put_at(s, at, k, n, 0);
+    }
+}
+
+// The n bits from place `at` on become 0: those before an octet, whole octets, and those behind them.
+pub fn clear(s: &mut [u8], at: usize, n: u32)
+    ensures { λ r. ⌜ Cleared (now (s .entry)) at n (now (s .exit)) ⌝ }
+{
+    let head = leading(at, n);
+    let last = (n - head) % 8;
+    let i = at / 8 + (at % 8 + 7) / 8;
+    put_zeros(s, at, 0, head);
+    fill(s, i, i + ((n - head) / 8) as usize);
+    put_zeros(s, at, n - last, last);
 }
 
 // Whether the octets from octet i to before octet `end` are all 0. The loop goes to its end, so the compiler takes many octets at once.

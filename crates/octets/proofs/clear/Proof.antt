@@ -1,74 +1,68 @@
--- `octets::clear` meets its contract. The first k bits are zero.
+-- `octets::clear` meets its contract.
 use borrow.Author.Needs.{needs}
-use mathlib.Core.Path.{_≡_, ap, _∙_}
-use Prim.Native.Nat.{ℕ, _+_, _-_, _≤_}
-use native.Mathlib.Omega.{arith}
-use lib.ListN.{length, replicate, length-replicate, replicate-append-replicate}
-use Rattle.octets.specs.Bits.{laid}
-use Rattle.octets.proofs.Digits.{zeros-bits, zeros-digits}
-use Rattle.octets.proofs.Laws.{laid-none, laid-next, laid-length}
+use Rattle.octets.proofs.Laws.{zeros-three}
 use Rattle.octets.proofs.clear.Statement.{statement}
 use Rattle.octets.proofs.clear.Tie as tie
 
-abbrev Inv-loop : tie.InvT-loop
-Inv-loop s₀ at n k₀ s k = (k ≤ n) × (s ≡ laid s₀ at (replicate k 0))
+leading-requires : tie.Need-leading-requires
+leading-requires c κs = search needs
 
-abbrev μ-loop : tie.MeasureT-loop
-μ-loop s₀ at n k₀ s k = n - k
+sub-last : tie.Need-sub-last
+sub-last c = search needs
 
-loop-holds : tie.Need-loop-holds Inv-loop μ-loop
-loop-holds c = let a = c .before .args in (omega arith, laid-none (a .s .now) (a .at) (λ i. omega (arith, c .slice-known .given i)))
+add-i : tie.Need-add-i
+add-i c = search needs
 
-sub-step : tie.Need-sub-step Inv-loop μ-loop
-sub-step c = omega arith
+add-i-2 : tie.Need-add-i-2
+add-i-2 c = search needs
 
-step-requires : tie.Need-step-requires Inv-loop μ-loop
-step-requires c κs = search needs
+put-zeros-requires : tie.Need-put-zeros-requires
+put-zeros-requires c κs = search needs
 
-put-at-requires : tie.Need-put-at-requires Inv-loop μ-loop
-put-at-requires c κs = c .before .step .ensures .2
+sub-fill : tie.Need-sub-fill
+sub-fill c = search needs
 
-add-k : tie.Need-add-k Inv-loop μ-loop
-add-k c = omega (arith, c .before .before .before .before .step .ensures)
+cast-fill : tie.Need-cast-fill
+cast-fill c = search needs
 
-loop-less : tie.Need-loop-less Inv-loop μ-loop
-loop-less c = omega (arith, c .before .before .before .before .step .ensures)
+add-fill : tie.Need-add-fill
+add-fill c = search needs
 
-loop-again : tie.Need-loop-again Inv-loop μ-loop
-loop-again c =
-    let t = c .before .before .before .before in
-    let m = t .step .result in
-    let l = t .before .before .loop in
-    let a = t .before .before .before .before .args in (
-      omega (arith, t .step .ensures),
-      laid-next (a .s .now) (a .at) (replicate (l .k) 0) (replicate m 0) (a .at + l .k) (zeros-bits (l .k))
-          (ap (λ (j : ℕ). a .at + j) (length-replicate (l .k) 0)) (l .inv .1)
-          (c .before .before .put-at .ensures ∙ ap (laid (l .s) (a .at + l .k)) (zeros-digits m))
-          ∙ ap (laid (a .s .now) (a .at)) (replicate-append-replicate (l .k) m 0),
-    )
+fill-requires : tie.Need-fill-requires
+fill-requires c κs = search needs
 
-same-length : tie.Need-same-length Inv-loop μ-loop
-same-length c = ap length (c .before .loop .inv .1) ∙ simp laid-length
+sub-put-zeros : tie.Need-sub-put-zeros
+sub-put-zeros c = search needs
 
-returns : tie.Need-returns Inv-loop μ-loop
+put-zeros-requires-2 : tie.Need-put-zeros-requires-2
+put-zeros-requires-2 c κs = search needs
+
+same-length : tie.Need-same-length
+same-length c = search needs
+
+returns : tie.Need-returns
 returns c =
-    let a = c .before .before .before .args in
-    let l = c .before .loop in
-    let e : l .k ≡ a .n = omega arith in
-    l .inv .1 ∙ ap (λ (k : ℕ). laid (a .s .now) (a .at) (replicate k 0)) e
+    let z = c .before .before in
+    let f = z .before .before .before .before in
+    let y = f .before .before .before .before in
+    let w = y .before .before in
+    let a = w .before .before .args in
+    zeros-three (a .s .now) (a .at) (a .n) (w .leading .result) (w .leading .ensures) (y .put-zeros .ensures) (f .fill .ensures) (z .put-zeros2 .ensures)
 
 pub clear-spec : {M : Type 1} → statement M
 clear-spec =
     tie.close
     (tie.spec
-    Inv-loop
-    μ-loop
-    loop-holds
-    sub-step
-    step-requires
-    put-at-requires
-    add-k
-    loop-less
-    loop-again
+    leading-requires
+    sub-last
+    add-i
+    add-i-2
+    put-zeros-requires
+    sub-fill
+    cast-fill
+    add-fill
+    fill-requires
+    sub-put-zeros
+    put-zeros-requires-2
     same-length
     returns)

@@ -2,7 +2,7 @@
 use borrow.Author.Needs.{needs}
 use borrow.Author.Tests.{ne-eqb}
 use mathlib.Core.Path.{_≡_, refl, sym, _∙_}
-use Prim.Native.Nat.{ℕ, _+_, _-_, _*_, _/_, _%_, min}
+use Prim.Native.Nat.{_+_, _-_, _*_, _/_, _%_, min}
 use native.Mathlib.Omega.{arith}
 use Rattle.octets.specs.Bits.{valueOf, bitsOf, part}
 use Rattle.octets.proofs.Laws.{clear-three, none-same}
