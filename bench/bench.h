@@ -4,7 +4,6 @@
  *   bench.c     rounds, the clock, the table
  *   rows.c      what is measured: inputs, and a pass over them for each operation
  *   data.c      inputs and operations of the data-mode frame
- *   bybit.c     the data-mode frame in plain C, a bit at a time
  *   dear.c      the inputs that are dearest by construction
  *   others.c    other ways: a bit-serial register in plain C, and where they were found libosmocore, libcrcutil and GNU Radio
  *   crcutil.cpp libcrcutil
@@ -28,7 +27,7 @@
 #define RUN 2048    /* symbols in a run of the encoder or precoder */
 #define CODES 20000 /* codes for the supervisor */
 
-/* A side: the functions of sdsl.h, ours or those of tests/second/reference.c and bybit.c. */
+/* A side: the functions of sdsl.h, ours or those of tests/second/reference.c. */
 struct library {
     const char *name;
     __typeof__(sdsl_frame_write) *frame_write;
@@ -49,11 +48,6 @@ struct library {
     __typeof__(sdsl_data_check) *data_check;
 };
 extern const struct library ours, plain;
-
-__typeof__(sdsl_data_write) plain_data_write;
-__typeof__(sdsl_data_crc) plain_data_crc;
-__typeof__(sdsl_data_read) plain_data_read;
-__typeof__(sdsl_data_check) plain_data_check;
 
 /* What a pass found. One of these is written by all sides in turn, so that all are lent the same memory. */
 struct results {

@@ -16,7 +16,7 @@ const struct library plain = {
     "plain C",
     ref_frame_write, ref_frame_check, ref_frame_read, ref_scramble_frame, ref_descramble_frame,
     ref_encode, ref_encode_run, ref_precode, ref_unprecode, ref_start, ref_step, ref_run_codes,
-    plain_data_write, plain_data_crc, plain_data_read, plain_data_check,
+    ref_data_write, ref_data_crc, ref_data_read, ref_data_check,
 };
 
 struct results results;

@@ -10,6 +10,7 @@ use lib.Dec.{eqb}
 use lib.ListN.{length, getD, drop, length-drop}
 use lib.Seq.{length-take-le}
 use Rattle.octets.specs.Bits.{valueOf, bitsOf, part}
+use Rattle.octets.proofs.Digits.{no-value}
 use Rattle.octets.proofs.Laws.{bits-length}
 use Rattle.places.specs.Streams.{streamIn}
 use Rattle.dataframe.specs.Table.{stuffing, unused, endWidth, lineBits, roomOf, table}
@@ -32,12 +33,8 @@ second-of (b ∷ c ∷ p) q e f = absurd (omega arith)
 second-of (b ∷ []) [] e f = absurd (omega arith)
 second-of (b ∷ []) (c ∷ d ∷ q) e f = absurd (omega arith)
 
-none-value : valueOf [] ≡ 0
-unfolding valueOf
-none-value = refl
-
 empty-clear : eqb (valueOf []) 0 ≡ true
-empty-clear = eq-eqb (valueOf []) 0 none-value
+empty-clear = eq-eqb (valueOf []) 0 no-value
 
 -- two marks p and q, where s is four times the first and b is the second
 module _ (p q s b : ℕ) (t : Bool) (e : s ≡ 4 * p) (f : b ≡ q) where
@@ -127,3 +124,17 @@ clear-is form k s frame h l e =
 -- a known form that is not synchronous
 pub form-one : (form : ℕ) → form ≤ 1 → (form ≡ 0 → ⊥) → form ≡ 1
 form-one form h n = omega (arith, h, n)
+
+-- places by blocks of 12 k bits, and numbers that fit; stated apart from all else that is known where they are needed
+pub twice : (k p : ℕ) → 2 * (12 * k) + p ≡ 24 * k + p
+twice k p = omega arith
+
+pub four-times : (k p : ℕ) → 4 * (12 * k) + p ≡ 48 * k + p
+four-times k p = omega arith
+
+pub places-fit : (k : ℕ) → k ≤ 289
+    → (12 * k < 2 ^ 32) × (12 * k < 2 ^ 64) × (2 * (12 * k) < 2 ^ 64) × (2 * (12 * k) + 35 < 2 ^ 64) × (4 * (12 * k) < 2 ^ 64) × (4 * (12 * k) + 46 < 2 ^ 64)
+places-fit k h = (omega (arith, h), omega (arith, h), omega (arith, h), omega (arith, h), omega (arith, h), omega (arith, h))
+
+pub mark-fits : (b : ℕ) → b ≤ 1 → 4 * b < 2 ^ 32
+mark-fits b h = omega (arith, h)

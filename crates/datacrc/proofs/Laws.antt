@@ -10,8 +10,8 @@ use lib.ListN.{length, drop, length-append, length-drop}
 use lib.Seq.{length-take-le}
 use Rattle.answer.specs.Answer.{answer}
 use Rattle.octets.specs.Bits.{digitsOf, valueOf, bitsOf, part}
-use Rattle.octets.proofs.Digits.{Bits, append-bits, take-bits, drop-bits, digits-value, value-append}
-use Rattle.octets.proofs.Laws.{bits-length, bits-bits}
+use Rattle.octets.proofs.Digits.{Bits, append-bits, digits-value, value-append}
+use Rattle.octets.proofs.Laws.{bits-length, bits-part}
 use Rattle.remainder.specs.Division.{Degree, polynomial, Remainder, RemainderFrom}
 use Rattle.remainder.specs.Promises.{startRefusals, FromStart}
 use Rattle.remainder.specs.declared.Left.{Left}
@@ -39,9 +39,6 @@ nothing : Remainder 6 sixGenerator [] 0
 unfolding Rattle.remainder.specs.Division.times valueOf
 nothing = record { quotient = []; divided = refl; below = lit≤ tt }
 
-part-is-bits : (s : List ℕ) (at n : ℕ) → Bits (part at n (bitsOf s))
-part-is-bits s at n = take-bits n (drop at (bitsOf s)) (drop-bits at (bitsOf s) (bits-bits s))
-
 module _ (p q r t : List ℕ) (bp : Bits p) (bq : Bits q) (br : Bits r) (bt : Bits t) where
   pub four : (a b c d : ℕ) → RemainderFrom 6 sixGenerator 0 p a → RemainderFrom 6 sixGenerator a q b → RemainderFrom 6 sixGenerator b r c
       → RemainderFrom 6 sixGenerator c t d → Remainder 6 sixGenerator (p ++ (q ++ (r ++ t))) d
@@ -60,8 +57,8 @@ module _ (s : List ℕ) (n e a b c d : ℕ) where
       → RemainderFrom 6 sixGenerator b (part (2 * n + 32) (n + 8) B) c → RemainderFrom 6 sixGenerator c (part (3 * n + 42) (n + 4 + e) B) d
       → Remainder 6 sixGenerator (part 14 (n + 6) B ++ (part (n + 22) (n + 8) B ++ (part (2 * n + 32) (n + 8) B ++ part (3 * n + 42) (n + 4 + e) B))) d
   due-is =
-      four (part 14 (n + 6) B) (part (n + 22) (n + 8) B) (part (2 * n + 32) (n + 8) B) (part (3 * n + 42) (n + 4 + e) B) (part-is-bits s 14 (n + 6))
-      (part-is-bits s (n + 22) (n + 8)) (part-is-bits s (2 * n + 32) (n + 8)) (part-is-bits s (3 * n + 42) (n + 4 + e)) a b c d
+      four (part 14 (n + 6) B) (part (n + 22) (n + 8) B) (part (2 * n + 32) (n + 8) B) (part (3 * n + 42) (n + 4 + e) B) (bits-part s 14 (n + 6))
+      (bits-part s (n + 22) (n + 8)) (bits-part s (2 * n + 32) (n + 8)) (bits-part s (3 * n + 42) (n + 4 + e)) a b c d
 
 -- ---- the six that stand in a frame
 
@@ -83,7 +80,7 @@ carried-is s m a b c r h ea eb ec e =
     let long : (at : ℕ) → at + 2 ≤ 8 * length s → length (part at 2 B) ≡ 2 = λ at k. length-take-le 2 (drop at B) (omega (arith, length-drop at B, n, k)) in
     e ∙ ap (λ (x : ℕ). valueOf (reverse (digitsOf 6 x))) (ap₂ (λ (x y : ℕ). x + 4 * y) ea (ap₂ (λ (x y : ℕ). x + 4 * y) eb ec))
     ∙ six-value (part (m + 20) 2 B) (part (2 * m + 30) 2 B) (part (3 * m + 40) 2 B) (long (m + 20) (omega (arith, h))) (long (2 * m + 30) (omega (arith, h)))
-    (long (3 * m + 40) (omega (arith, h))) (part-is-bits s (m + 20) 2) (part-is-bits s (2 * m + 30) 2) (part-is-bits s (3 * m + 40) 2)
+    (long (3 * m + 40) (omega (arith, h))) (bits-part s (m + 20) 2) (bits-part s (2 * m + 30) 2) (bits-part s (3 * m + 40) 2)
 
 -- ---- the room of a form
 
@@ -133,11 +130,11 @@ module _ (form k : ℕ) (frame : List ℕ) (h : form ≤ 1) where
       subst Bits (sym (covered-is form k F h))
       (append-bits (part 14 (12 * k + 6) F)
       (part (12 * k + 22) (12 * k + 8) F ++ (part (24 * k + 32) (12 * k + 8) F ++ part (36 * k + 42) (12 * k + 4 + endWidth form 0) F))
-      (part-is-bits frame 14 (12 * k + 6))
+      (bits-part frame 14 (12 * k + 6))
       (append-bits (part (12 * k + 22) (12 * k + 8) F) (part (24 * k + 32) (12 * k + 8) F ++ part (36 * k + 42) (12 * k + 4 + endWidth form 0) F)
-      (part-is-bits frame (12 * k + 22) (12 * k + 8))
-      (append-bits (part (24 * k + 32) (12 * k + 8) F) (part (36 * k + 42) (12 * k + 4 + endWidth form 0) F) (part-is-bits frame (24 * k + 32) (12 * k + 8))
-      (part-is-bits frame (36 * k + 42) (12 * k + 4 + endWidth form 0)))))
+      (bits-part frame (12 * k + 22) (12 * k + 8))
+      (append-bits (part (24 * k + 32) (12 * k + 8) F) (part (36 * k + 42) (12 * k + 4 + endWidth form 0) F) (bits-part frame (24 * k + 32) (12 * k + 8))
+      (bits-part frame (36 * k + 42) (12 * k + 4 + endWidth form 0)))))
 
   pub due-computed : (r : ℕ) → Due form k F r → r ≡ dueOf form k F
   due-computed r d = computed 6 sixGenerator (lit≤ tt) six-degree (covered form k F) r covered-bits d

@@ -8,19 +8,14 @@ use native.Mathlib.Omega.{arith}
 use lib.ListN.{length, take, drop, length-append, length-drop}
 use lib.Seq.{length-take-le}
 use Rattle.octets.specs.Bits.{valueOf, bitsOf, octetsOf, part, laid}
-use Rattle.octets.proofs.Digits.{Bits, append-bits, take-bits, drop-bits, value-append}
-use Rattle.octets.proofs.Laws.{bits-length, bits-bits, laid-next, laid-end}
+use Rattle.octets.proofs.Digits.{Bits, value-append}
+use Rattle.octets.proofs.Laws.{bits-length, bits-part, laid-next, laid-end}
 use Rattle.remainder.specs.Division.{polynomial}
 use Rattle.dataframe.specs.declared.Overhead.{Overhead}
 use Rattle.dataframe.specs.Table.{indicators, eoc, spare, payload, crc, roomOf}
 use Rattle.dataframe.specs.Frame.{carried, stuffedIn, overheadIn, payloadIn}
 use Rattle.dataframe.proofs.Rows.{indicators-are, eoc-is, spare-is, no-spare, payload-is}
 use Rattle.datareader.specs.Reading.{spareBits}
-
--- no bits have the value 0
-pub none-value : 0 ≡ valueOf []
-unfolding valueOf
-none-value = refl
 
 -- ---- numbers of pieces: the first w bits, and the value of the rest above them
 
@@ -72,7 +67,7 @@ module _ (p s : List ℕ) (n : ℕ) (l : 8 * length p ≡ 4 * n) (h : 4 * n + 46
   C = bitsOf s
 
   block-bits : (at : ℕ) → Bits (part at n C)
-  block-bits at = take-bits n (drop at C) (drop-bits at C (bits-bits s))
+  block-bits at = bits-part s at n
 
   block-length : (at : ℕ) → at + n ≤ 4 * n + 46 → length (part at n C) ≡ n
   block-length at k = length-take-le n (drop at C) (omega (arith, length-drop at C, bits-length s, h, k))

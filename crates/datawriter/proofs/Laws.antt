@@ -11,8 +11,8 @@ use lib.Dec.{eqb, lit≤}
 use lib.ListN.{length, take, drop, replicate, length-append, length-drop, length-replicate}
 use lib.Seq.{length-take-le}
 use Rattle.octets.specs.Bits.{digitsOf, valueOf, bitsOf, octetsOf, part, laid}
-use Rattle.octets.proofs.Digits.{Bits, append-bits, take-bits, drop-bits, zeros-bits, digits-bits, digits-length, digits-take, digits-mod-pow}
-use Rattle.octets.proofs.Laws.{bits-length, bits-bits, laid-next, laid-end}
+use Rattle.octets.proofs.Digits.{Bits, append-bits, zeros-bits, digits-bits, digits-length, digits-take, digits-mod-pow}
+use Rattle.octets.proofs.Laws.{bits-length, bits-part, laid-next, laid-end}
 use Rattle.octets.proofs.Turn.{turn-digits}
 use Rattle.octets.proofs.Words.{digits-drop, digits-join}
 use Rattle.remainder.specs.Division.{checkBits}
@@ -54,9 +54,6 @@ second-last-is s e m =
 
 -- ---- laid one behind the other
 
-part-is-bits : (s : List ℕ) (at n : ℕ) → Bits (part at n (bitsOf s))
-part-is-bits s at n = take-bits n (drop at (bitsOf s)) (drop-bits at (bitsOf s) (bits-bits s))
-
 -- one run and its block
 pub run-is : (s v : List ℕ) (at w run from n : ℕ) (s₁ s₂ : List ℕ) → w ≤ 32 → s₁ ≡ laid s at (digitsOf (min w 32) run)
     → s₂ ≡ laid s₁ (at + w) (part from n (bitsOf v)) → s₂ ≡ laid s at (digitsOf w run ++ part from n (bitsOf v))
@@ -74,7 +71,7 @@ module _ (s v : List ℕ) (r : Rows) (n rest : ℕ) (hv : 4 * n ≤ 8 * length v
   run w d from = digitsOf w d ++ part from n P
 
   run-bits : (w d from : ℕ) → Bits (run w d from)
-  run-bits w d from = append-bits (digitsOf w d) (part from n P) (digits-bits w d) (part-is-bits v from n)
+  run-bits w d from = append-bits (digitsOf w d) (part from n P) (digits-bits w d) (bits-part v from n)
 
   run-length : (w d from : ℕ) → from + n ≤ 4 * n → length (run w d from) ≡ w + n
   run-length w d from h =

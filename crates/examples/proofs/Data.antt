@@ -8,4 +8,4 @@ use Rattle.examples.specs.Data.{dataTable, found, DataClaim, DataHold}
 
 pub data-examples : DataHold dataTable
 unfolding dataTable found DataClaim DataHold onesFrom digitsOf valueOf bitsOf octetsOf registerOf dataBits
-data-examples = (refl, (refl, (refl, (refl, (refl, (refl, (refl, tt)))))))
+data-examples = (refl, (refl, (refl, (refl, (refl, (refl, (refl, (refl, (refl, tt)))))))))

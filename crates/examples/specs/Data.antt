@@ -1,4 +1,4 @@
--- Five examples of data-mode frames (SCOPE, "The data-mode frame"), all of the size k = 24: what is written, what is asked of it, and what is due. What is
+-- Six examples of data-mode frames (SCOPE, "The data-mode frame"), all of the size k = 24: what is written, what is asked of it, and what is due. What is
 -- due was worked out by hand from clause 7.1.5 of 002, and not by the definitions.
 use mathlib.Core.Path.{_≡_}
 use mathlib.Core.List.{List, [], _∷_, _++_}
@@ -43,7 +43,7 @@ noBit = replicate 1152 0
 abbrev pub lastBit : List ℕ
 lastBit = replicate 1151 0 ++ (1 ∷ [])
 
--- the five examples, in their order; an example with several parts has a row for each. X^6 leaves X + 1, which is 3, and two bits further on
+-- the six examples, in their order; an example with several parts has a row for each. X^6 leaves X + 1, which is 3, and two bits further on
 -- it is 12. Bit 12 k + 24 is sbid1, 24 k + 36 is sbid2, 48 k + 46 is the last of payload, and stuffing follows it
 unfoldable pub dataTable : List DataRow
 dataTable =
@@ -54,6 +54,8 @@ dataTable =
     ∷ written 4 synchronous 0x0C3F (overhead 3 0 0) noBit (begins 2) (0x3F ∷ 0xCC ∷ [])
     ∷ written 4 plesiochronous 0x0C3F (overhead 3 0 0) noBit (begins 2) (0x3F ∷ 0xCC ∷ [])
     ∷ written 5 plesiochronous 0 (overhead 0 0 4) noBit onesIn (312 ∷ 612 ∷ 1199 ∷ 1200 ∷ 1201 ∷ 1202 ∷ [])
+    ∷ written 6 plesiochronous 0 (record { indicators = 8; eoc = 1; spare = 0; stuffing = 0; crc = 32 }) noBit onesIn (305 ∷ 309 ∷ 609 ∷ [])
+    ∷ written 6 synchronous 0 (overhead 1 4 0) noBit onesIn (15 ∷ 1199 ∷ [])
     ∷ []
 
 -- what is found in a frame's octets

@@ -106,6 +106,10 @@ zeros-digits (suc n) = ap (λ (l : List ℕ). 0 ∷ l) (zeros-digits n)
 
 -- ---- values
 
+pub no-value : valueOf [] ≡ 0
+unfolding valueOf
+no-value = refl
+
 pub value-digits : (w v : ℕ) → valueOf (digitsOf w v) ≡ v % 2 ^ w
 unfolding valueOf digitsOf
 value-digits zero v = sym (mod-one v)

@@ -63,8 +63,11 @@ has-bit s at k = pick (decLt (holder at k) (length s))
     pick (no h) = le-ltb (holder at k) (length s) (omega arith) ∙ sym (le-ltb (at + k) (length (bitsOf s)) (omega (arith, bits-length s)))
 
 -- any part of the bits of octets is bits
+pub bits-part : (s : List ℕ) (at n : ℕ) → Bits (part at n (bitsOf s))
+bits-part s at n = take-bits n (drop at (bitsOf s)) (drop-bits at (bitsOf s) (bits-bits s))
+
 pub part-bits : (s : List ℕ) (at n k : ℕ) → Bits (take k (part at n (bitsOf s)))
-part-bits s at n k = take-bits k (part at n (bitsOf s)) (take-bits n (drop at (bitsOf s)) (drop-bits at (bitsOf s) (bits-bits s)))
+part-bits s at n k = take-bits k (part at n (bitsOf s)) (bits-part s at n)
 
 -- so its value is small
 pub part-lt : (s : List ℕ) (at n : ℕ) → valueOf (part at n (bitsOf s)) < 2 ^ n

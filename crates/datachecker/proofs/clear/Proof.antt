@@ -12,7 +12,7 @@ use Rattle.datachecker.proofs.clear.Statement.{statement}
 use Rattle.datachecker.proofs.clear.Tie as tie
 
 line-bits-requires : tie.Need-line-bits-requires
-line-bits-requires c κs = search needs
+line-bits-requires c κs = (c .before .pre .1, c .before .pre .4)
 
 cast-is-clear : tie.Need-cast-is-clear
 cast-is-clear c = search needs
@@ -35,7 +35,7 @@ sub-is-clear : tie.Need-sub-is-clear
 sub-is-clear c = let h = fit c .1 in omega (arith, h, c .line-bits .ensures)
 
 is-clear-requires : tie.Need-is-clear-requires
-is-clear-requires c κs = search needs
+is-clear-requires c κs = tt
 
 returns : tie.Need-returns
 returns c =
