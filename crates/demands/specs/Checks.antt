@@ -1,4 +1,4 @@
--- The checks of each function, in the order in which they run: the lists of SCOPE and of document 02, over what is handed in to a library of any make.
+-- The checks of each function, in the order in which they run: the lists of SCOPE, over what is handed in to a library of any make.
 use mathlib.Core.List.{List, [], _∷_}
 use Prim.Native.Nat.{ℕ}
 use Rattle.answer.specs.Answer.{Refusal, wrongLength}
