@@ -126,4 +126,21 @@ extern const struct other scramble_ltu_others[], scramble_ntu_others[], descramb
 void prepare_others(void);
 extern const char others_found[]; /* which libraries the program was compiled with */
 
+/* What is measured of data-mode frames, in the order of the rows: PASS(name, operation, set). */
+#define DATA_PASSES(PASS) \
+    PASS(write_synchronous_24, write_data, SYNCHRONOUS_24) \
+    PASS(write_synchronous_289, write_data, SYNCHRONOUS_289) \
+    PASS(write_plesiochronous_24, write_data, PLESIOCHRONOUS_24) \
+    PASS(write_plesiochronous_289, write_data, PLESIOCHRONOUS_289) \
+    PASS(check_synchronous_24, check_data, SYNCHRONOUS_24) \
+    PASS(check_synchronous_289, check_data, SYNCHRONOUS_289) \
+    PASS(check_plesiochronous_24, check_data, PLESIOCHRONOUS_24) \
+    PASS(check_plesiochronous_289, check_data, PLESIOCHRONOUS_289) \
+    PASS(read_synchronous_24, read_data, SYNCHRONOUS_24) \
+    PASS(read_synchronous_289, read_data, SYNCHRONOUS_289) \
+    PASS(read_plesiochronous_24, read_data, PLESIOCHRONOUS_24) \
+    PASS(read_plesiochronous_289, read_data, PLESIOCHRONOUS_289) \
+    PASS(six_24, six_of_data, SYNCHRONOUS_24) \
+    PASS(six_289, six_of_data, SYNCHRONOUS_289)
+
 #endif

@@ -1,4 +1,4 @@
-// Checking a data-mode frame (002, clause 7.1.5).
+// Checking a data-mode frame (002, clause 7.1.5). Places count from 0, and a block has m = 12k bits: place 2m + 35 is bit 24k + 36.
 ghost use mathlib.Core.Path.{_≡_};
 ghost use Prim.Native.Nat.{_*_, _≤_};
 ghost use lib.Dec.{eqb};

@@ -1,4 +1,5 @@
-// The six check bits of a data-mode frame (002, clause 7.1.5): those that stand in it, and those that the next frame has to carry.
+// The six check bits of a data-mode frame (002, clause 7.1.5): those that stand in it, and those that the next frame has to carry. Places count
+// from 0, and a block has m or n = 12k bits: place m + 20 is bit 12k + 21.
 ghost use mathlib.Core.Path.{_≡_};
 ghost use mathlib.Core.List.{_++_};
 ghost use Prim.Native.Nat.{_+_, _*_, _^_, _<_, _≤_};

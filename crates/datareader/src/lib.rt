@@ -1,4 +1,4 @@
-// Reading a data-mode frame (002, clause 7.1.5, table 7.2).
+// Reading a data-mode frame (002, clause 7.1.5, table 7.2). Places count from 0, and a block has m or n = 12k bits: place 2m + 26 is bit 24k + 27.
 ghost use mathlib.Core.Path.{_≡_};
 ghost use mathlib.Core.List.{_++_};
 ghost use Prim.Native.Nat.{_+_, _*_, _<_, _≤_};

@@ -1,4 +1,4 @@
-// Writing a data-mode frame (002, clause 7.1.5, table 7.2).
+// Writing a data-mode frame (002, clause 7.1.5, table 7.2). Places count from 0, and a block has m or n = 12k bits: place 2m + 26 is bit 24k + 27.
 ghost use mathlib.Core.Path.{_≡_};
 ghost use mathlib.Core.Bool.{true};
 ghost use mathlib.Core.List.{_++_};
@@ -53,7 +53,7 @@ fn marks_of(form: u32, spare: u32, stuffing: u32) -> Marks
     Marks {
         first: stuffing / 4,
         second: stuffing / 4,
-        end: 15,
+        end: dataframe::ONES,
         ends: stuffing,
     }
 }
@@ -62,7 +62,7 @@ fn marks_of(form: u32, spare: u32, stuffing: u32) -> Marks
 fn head(sync: u32, indicators: u32) -> u32
     ensures { λ r. ⌜ digitsOf 16 r ≡ digitsOf 14 sync ++ digitsOf 2 indicators ⌝ }
 {
-    sync % 16384 + 16384 * (indicators % 4)
+    sync % dataframe::SYNCS + dataframe::SYNCS * (indicators % 4)
 }
 
 // Ten overhead bits: four of eoc, two check bits, and four more.
