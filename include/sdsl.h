@@ -1,5 +1,6 @@
 /*
- * sdsl.h: SDSL activation (ETSI TS 101 524-2), proved, for a card's host software in C11 or C++. Link with libsdsl.a.
+ * sdsl.h: SDSL activation (ETSI TS 101 524-2) and the data-mode frame (part 1), proved, for a card's host software in C11 or C++. Link
+ * with libsdsl.a.
  *
  * What holds for every function
  * - Every call ends and answers with one of the numbers of enum sdsl_answer. There is nothing to check before a call.
@@ -16,7 +17,7 @@
  * - No call takes more than SDSL_STACK_OCTETS octets of stack, beside what those three take.
  *
  * Bits in octets. Bit n of the paper, n from 1, has weight 1 << ((n - 1) % 8) in octet (n - 1) / 8. The first bit on the line is
- * bit 1. This holds for frames, for vendor data and for the scrambler's runs.
+ * bit 1. This holds for frames of both kinds, for vendor data, for payload and for the scrambler's runs.
  *
  * Numbers in octets. A buffer of coefficients, outputs or samples holds each number in four octets, low octet first, in two's
  * complement: coefficient 1 stands in octets 0 to 3. sdsl_put_number and sdsl_get_number put a number there and get it back. On a

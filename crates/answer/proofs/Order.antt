@@ -3,7 +3,7 @@
 use mathlib.Core.Path.{_≡_, refl, sym, ap, ap₂, _∙_, subst}
 use mathlib.Core.Bool.{Bool, true, false, cond, _&&_}
 use mathlib.Core.Logic.{_⊎_, inl, inr}
-use mathlib.Core.List.{List, [], _∷_}
+use mathlib.Core.List.{List, [], _∷_, _++_}
 use Prim.Native.Nat.{ℕ, zero, suc, _+_, _-_, _≤_, _<_, zero-le}
 use native.Mathlib.Decide.{decLe}
 use native.Mathlib.Omega.{arith}
@@ -43,7 +43,7 @@ some-up n (suc k) h = refl
 joined : (a b : Bool) → a ≡ true → b ≡ true → a && b ≡ true
 joined a b p q = ap₂ _&&_ p q
 
-risen : (low : ℕ) (ts : List Refusal) → low ≤ 8 → inOrder low ts ≡ true → inTurn (up low (10 - low)) ts ≡ true
+risen : (low : ℕ) (ts : List Refusal) → low ≤ 8 → inOrder low ts ≡ true → inTurn (up low (9 - low)) ts ≡ true
 unfolding inOrder inTurn
 risen low [] h e = refl
 risen low (t ∷ ts) h e =
@@ -52,10 +52,10 @@ risen low (t ∷ ts) h e =
     let q = both (leb n 8) (inOrder n ts) (p .1) in
     let l : low ≤ n = leb-true low n (p .0) in
     let m : n ≤ 8 = leb-true n 8 (q .0) in
-    let c : low + (10 - low) - n ≡ 10 - n = omega arith in
-    let f : from n (up low (10 - low)) ≡ up n (10 - n) = from-up low n (10 - low) l (omega arith) ∙ ap (up n) c in
+    let c : low + (9 - low) - n ≡ 9 - n = omega arith in
+    let f : from n (up low (9 - low)) ≡ up n (9 - n) = from-up low n (9 - low) l (omega arith) ∙ ap (up n) c in
     subst (λ (o : List ℕ). some o && inTurn o ts ≡ true) (sym f)
-    (joined (some (up n (10 - n))) (inTurn (up n (10 - n)) ts) (some-up n (10 - n) (omega arith)) (risen n ts m (q .1)))
+    (joined (some (up n (9 - n))) (inTurn (up n (9 - n)) ts) (some-up n (9 - n) (omega arith)) (risen n ts m (q .1)))
 
 -- checks whose numbers lie from 1 to 8 and never fall run in SCOPE's order
 pub rising-is : (ts : List Refusal) → inOrder 1 ts ≡ true → inTurn rising ts ≡ true
@@ -99,11 +99,21 @@ listed-in-table order h ts e = pick (answer-in order ts e)
     pick (inl z) = subst (λ (k : ℕ). inTable k ≡ true) (sym z) refl
     pick (inr z) = h (answer ts) z
 
+-- what stands in an order stands in a longer one
+longer : (n : ℕ) (os ps : List ℕ) → some (from n os) ≡ true → some (from n (os ++ ps)) ≡ true
+longer n [] ps e = absurd (mathlib.Core.Bool.false≢true e)
+longer n (o ∷ os) ps e = pick (eqb o n) e (longer n os ps)
+  where
+    pick : (b : Bool) → some (cond b (o ∷ os) (from n os)) ≡ true → (some (from n os) ≡ true → some (from n (os ++ ps)) ≡ true)
+        → some (cond b (o ∷ (os ++ ps)) (from n (os ++ ps))) ≡ true
+    pick true h ih = refl
+    pick false h ih = ih h
+
 -- in SCOPE's order
 pub answer-in-table : (ts : List Refusal) → inTurn rising ts ≡ true → inTable (answer ts) ≡ true
-answer-in-table ts e = listed-in-table rising (λ n h. beside n (eqb 0 n) h) ts e
+answer-in-table ts e = listed-in-table rising (λ n h. beside n (eqb 0 n) (longer n rising (9 ∷ []) h)) ts e
   where
-    beside : (n : ℕ) (b : Bool) → some (from n rising) ≡ true → some (cond b (0 ∷ rising) (from n rising)) ≡ true
+    beside : (n : ℕ) (b : Bool) → some (from n (rising ++ (9 ∷ []))) ≡ true → some (cond b (0 ∷ (rising ++ (9 ∷ []))) (from n (rising ++ (9 ∷ [])))) ≡ true
     beside n true h = refl
     beside n false h = h
 

@@ -1,7 +1,7 @@
 -- What comes back (SCOPE), number by number with its meaning: the one table. Header, README and programs have their words from here (tests/answers).
 -- A function's checks run in an order of its own, a list of numbers; SCOPE's is the rising one.
 use mathlib.Core.Bool.{Bool, true, false, cond, _&&_}
-use mathlib.Core.List.{List, [], _∷_}
+use mathlib.Core.List.{List, [], _∷_, _++_}
 use Prim.Native.Nat.{ℕ}
 use Prim.Native.String.{String}
 use lib.Dec.{eqb}
@@ -20,7 +20,7 @@ means n t = record { number = n; text = t }
 abbrev pub done : Meaning
 done = means 0 "done"
 
--- the refusals, as SCOPE lists them: 1 to 8 of activation frames, bits, symbols and start-up; 9 of data-mode frames, which share 1, 2, 4, 5, 6 and 7
+-- the refusals, as SCOPE lists them
 abbrev pub refusals : List Meaning
 refusals =
     means 1 "a lent buffer has the wrong length"
@@ -31,8 +31,11 @@ refusals =
     ∷ means 6 "an unused bit behind the frame is not zero"
     ∷ means 7 "the check bits differ"
     ∷ means 8 "a reserved bit is not zero (training frame)"
-    ∷ means 9 "stuffing bits that the form cannot have (data-mode frame)"
     ∷ []
+
+-- and one more that only data-mode frames have, beside 1, 2, 4, 5, 6 and 7
+abbrev pub dataRefusals : List Meaning
+dataRefusals = means 9 "stuffing bits that the form cannot have (data-mode frame)" ∷ []
 
 -- the table's numbers, in its order
 abbrev pub numbersOf : List Meaning → List ℕ
@@ -55,7 +58,7 @@ some (o ∷ os) = true
 
 -- whether a number is one of the table
 abbrev pub inTable : ℕ → Bool
-inTable n = some (from n (numbersOf (done ∷ refusals)))
+inTable n = some (from n (numbersOf (done ∷ refusals ++ dataRefusals)))
 
 -- whether checks run in an order: the number of each stands in it, at or behind that of the one before
 unfoldable pub inTurn : List ℕ → List Refusal → Bool
