@@ -38,8 +38,8 @@ pub record Answers {C N M : Type 0} (f : C → Outcome N M) (checks : C → List
 abbrev pub InTheirOrder : {C : Type 0} → List ℕ → (C → List Refusal) → Type 0
 InTheirOrder {C} order checks = (c : C) → inTurn order (checks c) ≡ true
 
--- "Checks run in the order of these numbers": so it is of each function's list of checks. Those of data-mode frames have an order of their own:
--- "1 to 4 as before, then 5 sync, 9 stuffing bits impossible for the form, 6 unused bits, 7 for the six check bits, last" (theorem `ordered`)
+-- "Checks run in the order of these numbers": so it is of each function's list of checks. Those of data-mode frames have an order of their own
+-- (SCOPE, M32: "the order 1, 2, 4, 5, 9, 6, 7"; theorem `ordered`)
 pub record Ordered : Type 0 where
   pub write : InTheirOrder rising writeChecks
   pub check : InTheirOrder rising checkRefusals
