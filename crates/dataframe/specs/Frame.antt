@@ -41,10 +41,11 @@ dataOctets form k word o octets = octetsOf (roomOf form) (dataBits form k word o
 abbrev pub carried : ℕ → ℕ → ℕ → List ℕ → List ℕ
 carried x form k bits = streamIn x (table form k 0) bits
 
--- sbid1 and sbid2; 0 where the form has none
+-- sbid1; 0 where the form has none
 abbrev pub sbid1 : ℕ → ℕ → List ℕ → ℕ
 sbid1 form k bits = getD (carried sbid form k bits) 0 0
 
+-- sbid2
 abbrev pub sbid2 : ℕ → ℕ → List ℕ → ℕ
 sbid2 form k bits = getD (carried sbid form k bits) 1 0
 

@@ -19,10 +19,11 @@ payloadPlace k p = 17 + p + 10 * (p / block k)
 abbrev pub overheadPlace : ℕ → ℕ → ℕ
 overheadPlace k o = o + block k * ((o - 7) / 10)
 
--- how many payload bits, and how many overhead bits
+-- how many payload bits there are
 abbrev pub payloadBits : ℕ → ℕ
 payloadBits k = 48 * k
 
+-- and how many overhead bits
 abbrev pub overheadCount : ℕ → ℕ → ℕ
 overheadCount form stuffed = 46 + endWidth form stuffed
 

@@ -18,6 +18,7 @@ dataOrder = 1 ∷ 2 ∷ 4 ∷ 5 ∷ 9 ∷ 6 ∷ 7 ∷ []
 abbrev pub isRoom : ℕ → ℕ → Bool
 isRoom form n = (eqb n (roomOf synchronous) && not (eqb form plesiochronous)) || (eqb n (roomOf plesiochronous) && not (eqb form synchronous))
 
+-- so a frame is refused that is no such room
 abbrev pub noRoom : ℕ → List ℕ → Refusal
 noRoom form frame = refuse 1 (not (isRoom form (length frame)))
 
@@ -25,10 +26,11 @@ noRoom form frame = refuse 1 (not (isRoom form (length frame)))
 abbrev pub noForm : ℕ → Refusal
 noForm form = refuse 2 (ltb plesiochronous form)
 
--- 4: a number outside its range
+-- 4: a size outside its range
 abbrev pub noSize : ℕ → Refusal
 noSize k = refuse 4 (not (isSize k))
 
+-- and a number of more than w bits
 abbrev pub tooWide : ℕ → ℕ → Refusal
 tooWide w n = refuse 4 (leb (2 ^ w) n)
 

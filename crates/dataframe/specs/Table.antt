@@ -8,10 +8,11 @@ use Rattle.places.specs.Streams.{Row, row}
 
 -- ---- forms and sizes
 
--- the two forms
+-- the one form: the line's clock is locked to that of payload
 abbrev pub synchronous : ℕ
 synchronous = 0
 
+-- the other: it is not, and stuffing bits make up for it
 abbrev pub plesiochronous : ℕ
 plesiochronous = 1
 
@@ -33,9 +34,11 @@ pub record Covers (k : ℕ) : Type 0 where
 abbrev pub smallest : ℕ
 smallest = subBlock 3 0
 
+-- the largest
 abbrev pub largest : ℕ
 largest = subBlock 36 1
 
+-- whether a number is a size
 abbrev pub isSize : ℕ → Bool
 isSize k = leb smallest k && leb k largest
 
@@ -91,10 +94,11 @@ marks form = cond (eqb form synchronous) spare sbid
 abbrev pub ends : ℕ → ℕ
 ends form = cond (eqb form synchronous) spare stuffing
 
--- a frame's bits up to the last of payload; and behind it, two spare bits, or no or four stuffing bits
+-- a frame's bits up to the last of payload
 abbrev pub lastPayload : ℕ → ℕ
 lastPayload k = 48 * k + 46
 
+-- behind it: two spare bits, or no or four stuffing bits
 abbrev pub endWidth : ℕ → ℕ → ℕ
 endWidth form stuffed = cond (eqb form synchronous) 2 stuffed
 

@@ -11,6 +11,7 @@ use Rattle.dataframe.specs.Table.{crc}
 abbrev pub spareBits : ℕ → ℕ → List ℕ → List ℕ
 spareBits form m bits = cond (eqb form 0) (part (m + 23) 1 bits ++ (part (2 * m + 35) 1 bits ++ part (4 * m + 46) 2 bits)) []
 
+-- spare_of
 abbrev pub SpareRead : ℕ → ℕ → List ℕ → ℕ → Type 0
 SpareRead form m bits r = r ≡ valueOf (spareBits form m bits)
 

@@ -36,6 +36,7 @@ overhead i s n = record { indicators = i; eoc = 0; spare = s; stuffing = n; crc 
 abbrev pub none : Overhead
 none = overhead 0 0 0
 
+-- payload of zeros
 abbrev pub noBit : List ℕ
 noBit = replicate 1152 0
 
