@@ -53,7 +53,7 @@ extern const struct library ours, plain;
 struct results {
     uint32_t numbers[CODES];
     struct sdsl_supervisor state;
-    uint8_t octets[CARDS * (SDSL_COEFFICIENT_OCTETS + SDSL_VENDOR_OCTETS)];
+    uint8_t octets[CARDS * (SDSL_COEFFICIENT_OCTETS + SDSL_VENDOR_OCTETS + SDSL_RESERVED_OCTETS)];
 };
 extern struct results results;
 

@@ -19,7 +19,7 @@ static uint8_t dear_frames[2][FRAME_CASES][SDSL_FRAME_OCTETS]; /* by kind */
 static uint8_t ends[2][SDSL_COEFFICIENT_OCTETS];               /* all coefficients at their least, all at -1 */
 static uint8_t full_vendor[SDSL_VENDOR_OCTETS];
 
-/* A training frame whose last reserved bit is one passes every check but the last; a final frame's last check is its check bits. */
+/* The last check of either kind is that of the check bits: the last of them is wrong. */
 static void make_frames(void)
 {
     memset(full_vendor, 0xFF, sizeof full_vendor);
@@ -32,7 +32,7 @@ static void make_frames(void)
             ref_frame_write(kind, SDSL_COUNT_MAX, ends[c == ALL_ONES], SDSL_COEFFICIENT_OCTETS, SDSL_WORD_MAX, SDSL_WORD_MAX, full_vendor,
                             sizeof full_vendor, dear_frames[kind][c], SDSL_FRAME_OCTETS);
         }
-        flip_bit(dear_frames[kind][LAST_CHECK], kind == SDSL_TRAINING ? SDSL_CHECK_BIT - 1 : SDSL_CHECK_BIT + 15);
+        flip_bit(dear_frames[kind][LAST_CHECK], SDSL_CHECK_BIT + 15);
     }
     for (size_t n = SDSL_COEFFICIENT_BIT; n < SDSL_CHECK_BIT; n++) {
         if (!get_bit(dear_frames[SDSL_FINAL][ALL_ONES], n)) {
@@ -40,7 +40,6 @@ static void make_frames(void)
         }
     }
     ref_put_check_bits(dear_frames[SDSL_FINAL][ALL_ONES]);
-    ref_put_check_bits(dear_frames[SDSL_TRAINING][LAST_CHECK]);
 }
 
 static void frame_name(size_t which, char *text, size_t room)
@@ -89,7 +88,8 @@ static void read_frames(const struct library *library, uint32_t kind, size_t whi
     for (size_t i = 0; i < count; i++) {
         struct sdsl_frame_fields fields =
             library->frame_read(dear_frames[kind][which], SDSL_FRAME_OCTETS, results.octets, SDSL_COEFFICIENT_OCTETS,
-                                results.octets + SDSL_COEFFICIENT_OCTETS, SDSL_VENDOR_OCTETS);
+                                results.octets + SDSL_COEFFICIENT_OCTETS, SDSL_VENDOR_OCTETS,
+                                results.octets + SDSL_COEFFICIENT_OCTETS + SDSL_VENDOR_OCTETS, SDSL_RESERVED_OCTETS);
         memcpy(results.numbers + 4 * i, &fields, sizeof fields);
     }
 }

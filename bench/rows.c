@@ -78,9 +78,6 @@ static void make_frames(void)
         if (i % 17 < 2) {
             flip_bit(cards[i], spoilt[i % 4]);
         }
-        if (i % 4 == 3 && i % 17 < 2) {
-            ref_put_check_bits(cards[i]);
-        }
     }
     for (uint32_t end = SDSL_LTU; end <= SDSL_NTU; end++) {
         uint32_t state = sdsl_scrambler_start(end).state;
@@ -161,9 +158,10 @@ static void check(const struct library *library)
 static void read_frames(const struct library *library, uint8_t (*frames)[SDSL_FRAME_OCTETS], size_t count)
 {
     for (size_t i = 0; i < count; i++) {
-        uint8_t *coefficients = results.octets + i * (SDSL_COEFFICIENT_OCTETS + SDSL_VENDOR_OCTETS);
-        struct sdsl_frame_fields fields = library->frame_read(frames[i], SDSL_FRAME_OCTETS, coefficients, SDSL_COEFFICIENT_OCTETS,
-                                                              coefficients + SDSL_COEFFICIENT_OCTETS, SDSL_VENDOR_OCTETS);
+        uint8_t *coefficients = results.octets + i * (SDSL_COEFFICIENT_OCTETS + SDSL_VENDOR_OCTETS + SDSL_RESERVED_OCTETS);
+        uint8_t *vendor = coefficients + SDSL_COEFFICIENT_OCTETS;
+        struct sdsl_frame_fields fields = library->frame_read(frames[i], SDSL_FRAME_OCTETS, coefficients, SDSL_COEFFICIENT_OCTETS, vendor,
+                                                              SDSL_VENDOR_OCTETS, vendor + SDSL_VENDOR_OCTETS, SDSL_RESERVED_OCTETS);
         memcpy(results.numbers + 4 * i, &fields, sizeof fields);
     }
 }

@@ -36,9 +36,9 @@
 
 /* The version of this header and of the library that belongs to it. */
 #define SDSL_VERSION_MAJOR 0
-#define SDSL_VERSION_MINOR 2
+#define SDSL_VERSION_MINOR 3
 #define SDSL_VERSION_PATCH 0
-#define SDSL_VERSION "0.2.0"
+#define SDSL_VERSION "0.3.0"
 
 #ifdef __cplusplus
 extern "C" {
@@ -56,7 +56,7 @@ enum sdsl_answer {
     SDSL_NO_SYNC = 5,      /* the sync word is not an expected one */
     SDSL_BAD_PAD = 6,      /* an unused bit behind the frame is not zero */
     SDSL_BAD_CHECK = 7,    /* the check bits differ */
-    SDSL_RESERVED = 8,     /* a reserved bit is not zero (training frame) */
+    /* 8 is not used; it was: a reserved bit is not zero */
     SDSL_BAD_STUFFING = 9  /* stuffing bits that the form cannot have (data-mode frame) */
 };
 
@@ -87,8 +87,6 @@ static inline const char *sdsl_answer_text(uint32_t answer)
         return "an unused bit behind the frame is not zero";
     case SDSL_BAD_CHECK:
         return "the check bits differ";
-    case SDSL_RESERVED:
-        return "a reserved bit is not zero (training frame)";
     case SDSL_BAD_STUFFING:
         return "stuffing bits that the form cannot have (data-mode frame)";
     default:
@@ -135,6 +133,7 @@ enum sdsl_kind { SDSL_TRAINING = 0, SDSL_FINAL = 1 };
 #define SDSL_COEFFICIENTS 180           /* precoder coefficients in a frame; the precoder remembers as many outputs */
 #define SDSL_COEFFICIENT_OCTETS 720     /* 180 numbers of four octets */
 #define SDSL_VENDOR_OCTETS 16           /* vendor data */
+#define SDSL_RESERVED_OCTETS 9          /* the reserved bits, as reading hands them back */
 #define SDSL_COUNT_MIN 128              /* coefficients in use, at least */
 #define SDSL_COUNT_MAX 180              /* coefficients in use, at most */
 #define SDSL_COEFFICIENT_MIN (-2097152) /* -16 in steps of 1/131072 */
@@ -151,11 +150,12 @@ enum sdsl_kind { SDSL_TRAINING = 0, SDSL_FINAL = 1 };
 #define SDSL_B_BIT 3996         /* 21 bits, b0 first */
 #define SDSL_WORD_BITS 21
 #define SDSL_VENDOR_BIT 4017    /* 128 bits */
-#define SDSL_RESERVED_BIT 4145  /* 67 bits, zero in a training frame */
+#define SDSL_RESERVED_BIT 4145  /* 67 bits: written as zero; read as they are, under the check bits */
+#define SDSL_RESERVED_BITS 67
 #define SDSL_CHECK_BIT 4212     /* 16 bits, c1 first */
 
 /*
- * Writes a frame of 529 octets.
+ * Writes a frame of 529 octets. Its reserved bits are zero.
  *   kind          SDSL_TRAINING or SDSL_FINAL
  *   count         how many coefficients are in use, 128 to 180; the rest are written as zero, whatever the buffer holds
  *   coefficients  720 octets; only the first `count` numbers are looked at, each from -2097152 to 2097151
@@ -189,24 +189,37 @@ struct sdsl_frame_fields {
 };
 
 /*
- * Reads a frame of 529 octets. It returns kind, A and B, and writes the vendor data (16 octets) and, from a training frame, all 180
- * coefficients (720 octets). A final frame leaves `coefficients` as it was, but its length must still be right.
+ * Reads a frame of 529 octets. It returns kind, A and B, and writes
+ *   coefficients  720 octets, all 180 coefficients, from a training frame only
+ *   vendor        16 octets, from a frame of either kind
+ *   reserved      9 octets, the 67 reserved bits, from a training frame only: bit 4145 has weight 1 in the first octet, bit 4211 weight
+ *                 4 in the last, whose top five bits become zero
+ * A final frame leaves `coefficients` and `reserved` as they were, but their lengths must still be right.
+ * Reserved bits are not judged: a card of another make may set some. (Part 1 has the number of wire pairs, or of this pair, less one,
+ * in bits 4145 and 4146.) They are under the check bits, and sdsl_frame_write puts zeros: what is read comes out the same when it is
+ * written again with a count of 180 exactly where all nine octets are zero.
  * A frame does not say how many coefficients are in use: unused ones are zero. Look at `answer` first: after a refusal kind is 0, which
  * is also SDSL_TRAINING.
- * Answers 0, 1, 5, 6, 7, 8.
+ * Answers 0, 1, 5, 6, 7.
  *
  * Example:
- *     uint8_t coefficients[SDSL_COEFFICIENT_OCTETS], vendor[SDSL_VENDOR_OCTETS], frame[SDSL_FRAME_OCTETS] = {0x9F, 0x35};
- *     struct sdsl_frame_fields got = sdsl_frame_read(frame, sizeof frame, coefficients, sizeof coefficients, vendor, sizeof vendor);
+ *     uint8_t coefficients[SDSL_COEFFICIENT_OCTETS], vendor[SDSL_VENDOR_OCTETS], reserved[SDSL_RESERVED_OCTETS];
+ *     uint8_t frame[SDSL_FRAME_OCTETS] = {0x9F, 0x35};
+ *     frame[(SDSL_RESERVED_BIT - 1) / 8] = 0x03; // another maker's card sets two of them
+ *     frame[526] = 0xD0, frame[527] = 0x8A;           // and these are the check bits of such a frame
+ *     struct sdsl_frame_fields got = sdsl_frame_read(frame, sizeof frame, coefficients, sizeof coefficients, vendor, sizeof vendor,
+ *                                                    reserved, sizeof reserved);
  *     assert(got.answer == SDSL_DONE && got.kind == SDSL_TRAINING && got.a == 0 && got.b == 0);
+ *     assert(reserved[0] == 0x03 && reserved[8] == 0);
  */
 struct sdsl_frame_fields sdsl_frame_read(const uint8_t *frame, size_t frame_len,
                                          uint8_t *coefficients, size_t coefficients_len,
-                                         uint8_t *vendor, size_t vendor_len);
+                                         uint8_t *vendor, size_t vendor_len,
+                                         uint8_t *reserved, size_t reserved_len);
 
 /*
  * Gives the answer that sdsl_frame_read would give to a frame of 529 octets, and writes nothing.
- * Answers 0, 1, 5, 6, 7, 8.
+ * Answers 0, 1, 5, 6, 7.
  *
  * Example:
  *     uint8_t frame[SDSL_FRAME_OCTETS] = {0x9F, 0x35};

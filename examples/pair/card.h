@@ -69,6 +69,7 @@ struct card {
     struct wishes far; /* what the far card's frame asked of it */
     bool deaf;         /* a fault: its receiver never converges */
     bool turned;       /* a fault: it reads A and B last bit first */
+    bool newer;        /* a card of another make: it sets two of the reserved bits */
     bool quiet;        /* prints no story */
     unsigned now;      /* milliseconds */
     unsigned trained;  /* ticks from the opening to data mode */

@@ -1,6 +1,7 @@
 /* hearing.c: what a card makes of the line. */
 #include "card.h"
 
+#include <stdio.h>
 #include <string.h>
 
 /* How long a receiver adapts before it has converged: a maker's own affair (clause 4.1), here three seconds of signal. */
@@ -49,12 +50,26 @@ static uint32_t last_bit_first(uint32_t word)
     return turned;
 }
 
+/* Reserved bits that the far card sets: nothing follows from them here, but a host may know what they mean. */
+static void tell_reserved(const struct card *card, const uint8_t reserved[SDSL_RESERVED_OCTETS])
+{
+    char numbers[5 * SDSL_RESERVED_BITS + 1] = "";
+    for (size_t i = 0; i < SDSL_RESERVED_BITS; i++) {
+        if (bit_at(reserved, i)) {
+            snprintf(numbers + strlen(numbers), sizeof numbers - strlen(numbers), " %zu", SDSL_RESERVED_BIT + i);
+        }
+    }
+    if (numbers[0] != '\0') {
+        card_tell(card, "in which reserved bits are set:%s", numbers);
+    }
+}
+
 /* A frame of the far card, from bit `start` of the line: descrambled, checked, read, and reported. */
 static void hear_frame(struct card *card, size_t start)
 {
     struct receiver *r = &card->hear;
     struct wishes got = {0};
-    uint8_t line[SDSL_FRAME_OCTETS] = {0}, frame[SDSL_FRAME_OCTETS];
+    uint8_t line[SDSL_FRAME_OCTETS] = {0}, frame[SDSL_FRAME_OCTETS], reserved[SDSL_RESERVED_OCTETS];
     uint32_t state = 0;
     for (size_t i = start - STATE_BITS; i < start; i++) {
         state = state << 1 | window_bit(r, i);
@@ -64,7 +79,8 @@ static void hear_frame(struct card *card, size_t start)
     }
     must(sdsl_descramble_frame(far_end(card), state, line, sizeof line, frame, sizeof frame).answer, "sdsl_descramble_frame");
     struct sdsl_frame_fields fields =
-        sdsl_frame_read(frame, sizeof frame, got.coefficients, sizeof got.coefficients, got.vendor, sizeof got.vendor);
+        sdsl_frame_read(frame, sizeof frame, got.coefficients, sizeof got.coefficients, got.vendor, sizeof got.vendor,
+                        reserved, sizeof reserved);
     if (fields.answer != SDSL_DONE) {
         card_tell(card, "refuses a frame (%u): %s", fields.answer, sdsl_answer_text(fields.answer));
     } else if (fields.kind == SDSL_TRAINING && (card->state.phase == SDSL_SR || card->state.phase == SDSL_TC)) {
@@ -72,6 +88,7 @@ static void hear_frame(struct card *card, size_t start)
         got.b = card->turned ? last_bit_first(fields.b) : fields.b;
         card->far = got;
         card_tell(card, "reads a frame: A %u, B %u, \"%.*s\"", got.a, got.b, (int)sizeof got.vendor, (const char *)got.vendor);
+        tell_reserved(card, reserved);
         card_report(card, card->end == SDSL_LTU ? SDSL_TR_SEEN : SDSL_TC_SEEN);
     }
     r->finals += sync_at(r, start) == SDSL_FINAL;

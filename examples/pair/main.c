@@ -15,7 +15,7 @@
 
 struct options {
     unsigned delay, drop, flip;
-    int deaf, turned; /* an end, or -1 */
+    int deaf, turned, newer; /* an end, or -1 */
     uint64_t seed;
     bool quiet;
 };
@@ -24,11 +24,13 @@ static void usage(const char *wrong, const char *argument)
 {
     fprintf(stderr,
             "pair: %s: %s\n"
-            "usage: pair [--flip] [--drop N] [--deaf END] [--turned END] [--delay MS] [--seed N] [--quiet]\n"
+            "usage: pair [--flip] [--drop N] [--deaf END] [--turned END] [--newer END] [--delay MS] [--seed N]\n"
+            "            [--quiet]\n"
             "  --flip        one bit of the LTU's first frame is flipped on the line\n"
             "  --drop N      the LTU's frame N (1 to 1000) is lost on the line\n"
             "  --deaf END    the receiver of END (LTU or NTU) never converges\n"
             "  --turned END  END reads A and B last bit first\n"
+            "  --newer END   END sets two of the reserved bits of its training frames\n"
             "  --delay MS    the line's delay in each direction, 0 to %d; 1 where not given\n"
             "  --seed N      other coefficients and another payload\n"
             "  --quiet       only how it went\n",
@@ -60,7 +62,7 @@ static int end(const char *option, const char *value)
 
 static struct options read_options(char **argv)
 {
-    struct options o = {.delay = 1, .deaf = -1, .turned = -1, .seed = 1};
+    struct options o = {.delay = 1, .deaf = -1, .turned = -1, .newer = -1, .seed = 1};
     for (char **a = argv + 1; *a != NULL; a++) {
         if (strcmp(*a, "--flip") == 0) {
             o.flip = 1;
@@ -80,6 +82,9 @@ static struct options read_options(char **argv)
             a++;
         } else if (strcmp(*a, "--turned") == 0) {
             o.turned = end(*a, a[1]);
+            a++;
+        } else if (strcmp(*a, "--newer") == 0) {
+            o.newer = end(*a, a[1]);
             a++;
         } else {
             usage("not understood", *a);
@@ -137,6 +142,8 @@ int main(int argc, char **argv)
     ntu.deaf = o.deaf == SDSL_NTU;
     ltu.turned = o.turned == SDSL_LTU;
     ntu.turned = o.turned == SDSL_NTU;
+    ltu.newer = o.newer == SDSL_LTU;
+    ntu.newer = o.newer == SDSL_NTU;
     down = (struct line){.delay = o.delay, .flip = o.flip, .drop = o.drop};
     up = (struct line){.delay = o.delay};
 

@@ -30,6 +30,24 @@ static unsigned send_ones(struct card *card, struct symbol *out, unsigned room)
     return room;
 }
 
+/*
+ * What a card of another make sends: bits 4145 and 4146 set, and the check bits of the frame that comes of it (clause 4.1.3.6, bit by
+ * bit). The library writes no reserved bit.
+ */
+static void make_newer(uint8_t frame[SDSL_FRAME_OCTETS])
+{
+    uint32_t left = 0;
+    frame[(SDSL_RESERVED_BIT - 1) / 8] |= 0x03;
+    for (size_t n = SDSL_COEFFICIENT_BIT; n < SDSL_CHECK_BIT; n++) {
+        uint32_t top = left >> 15 ^ bit_at(frame, n - 1);
+        left = (left << 1 & 0xFFFF) ^ (top ? 0x1021 : 0);
+    }
+    for (size_t i = 0; i < 16; i++) {
+        size_t place = SDSL_CHECK_BIT - 1 + i;
+        frame[place / 8] = (uint8_t)((frame[place / 8] & ~(1u << place % 8)) | (left >> (15 - i) & 1) << place % 8);
+    }
+}
+
 /* The next frame: T_c and T_r carry what this card's receiver asks of the far card; F_c carries vendor data only. */
 static void next_frame(struct card *card)
 {
@@ -39,6 +57,9 @@ static void next_frame(struct card *card)
     uint32_t kind = card->state.phase == SDSL_FC ? SDSL_FINAL : SDSL_TRAINING;
     must(sdsl_frame_write(kind, own->count, own->coefficients, sizeof own->coefficients, own->a, own->b, own->vendor, sizeof own->vendor,
                           frame, sizeof frame), "sdsl_frame_write");
+    if (card->newer && kind == SDSL_TRAINING) {
+        make_newer(frame);
+    }
     struct sdsl_scrambled run = sdsl_scramble_frame(card->end, s->scrambler, frame, sizeof frame, s->frame, sizeof s->frame);
     must(run.answer, "sdsl_scramble_frame");
     s->scrambler = run.state;

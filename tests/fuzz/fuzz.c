@@ -5,8 +5,9 @@
  *
  * An input decides which function is called, with which numbers, lengths and contents. Every lent buffer lies against a page that may
  * not be touched, at its front or at its end as the input says, and against a pattern on the other side; a buffer of length 0 may be
- * NULL. After each call: the answer is one that the header lists for the function, nothing outside the lent memory has changed, const
- * buffers hold what they held, and after a refusal so does everything, the state comes back equal and every other number is 0.
+ * NULL. After each call: the answer is one that the header lists for the function (8 is listed for none), nothing outside the lent
+ * memory has changed, const buffers hold what they held, and after a refusal so does everything, the state comes back equal and every
+ * other number is 0.
  *
  * Inputs come from the seed: new ones, and changed copies of those that were the first or latest to get an answer. At the end it prints
  * how often each answer of each function was seen; one that the header lists and no input got is a failure too.
@@ -164,7 +165,7 @@ static struct lent *lend(size_t len, bool written)
     return l;
 }
 
-/* Any octets: zeros, those of the input, or many made of eight of them. */
+/* Any octets: zeros, ones in every bit, those of the input, or many made of eight of them. */
 static void fill(struct lent *l)
 {
     if (l->len == 0) {
@@ -176,7 +177,7 @@ static void fill(struct lent *l)
         s ^= s << 13;
         s ^= s >> 7;
         s ^= s << 17;
-        l->p[i] = how == 0 ? 0 : how == 1 ? take8() : (uint8_t)(s >> 32);
+        l->p[i] = how == 0 ? 0 : how == 1 ? take8() : how == 2 ? 255 : (uint8_t)(s >> 32);
     }
 }
 
@@ -219,7 +220,10 @@ static void put_check_bits(uint8_t *frame)
     }
 }
 
-/* A frame that is right as far as the input says: sync, pad, check bits, reserved bits; and then perhaps a bit that is not. */
+/*
+ * A frame that is right as far as the input says: sync, pad, check bits; and then perhaps a bit that is not. Its reserved bits are any,
+ * or zero.
+ */
 static void fill_frame(struct lent *l)
 {
     fill(l);
@@ -235,7 +239,7 @@ static void fill_frame(struct lent *l)
     for (unsigned n = SDSL_FRAME_BITS + 1; right >= 2 && n <= 8 * SDSL_FRAME_OCTETS; n++) {
         put_bit(l->p, n, 0);
     }
-    for (unsigned n = SDSL_RESERVED_BIT; right >= 4 && n < SDSL_CHECK_BIT; n++) {
+    for (unsigned n = SDSL_RESERVED_BIT; right >= 4 && right % 2 == 0 && n < SDSL_CHECK_BIT; n++) {
         put_bit(l->p, n, 0);
     }
     if (right >= 3) {
@@ -329,6 +333,11 @@ static void keep(void)
     }
 }
 
+static bool is_kept(const struct lent *l)
+{
+    return l->len == 0 || memcmp(l->p, l->before, l->len) == 0;
+}
+
 /* What has to hold of memory after a call. */
 static void look_after(uint32_t answer)
 {
@@ -338,7 +347,7 @@ static void look_after(uint32_t answer)
         for (size_t k = 0; k < PATTERN; k++) {
             want(pattern[k] == (uint8_t)(0xA5 ^ (i + 1)), "writes outside a lent buffer");
         }
-        bool same = l->len == 0 || memcmp(l->p, l->before, l->len) == 0;
+        bool same = is_kept(l);
         want(same || l->written, "changes a const buffer");
         want(same || answer == SDSL_DONE, "changes a buffer and refuses");
     }
@@ -362,16 +371,21 @@ static uint32_t try_frame_write(void)
 static uint32_t try_frame_read(void)
 {
     struct lent *f = lend(length(SDSL_FRAME_OCTETS), false), *c = lend(length(SDSL_COEFFICIENT_OCTETS), true);
-    struct lent *v = lend(length(SDSL_VENDOR_OCTETS), true);
+    struct lent *v = lend(length(SDSL_VENDOR_OCTETS), true), *nine = lend(length(SDSL_RESERVED_OCTETS), true);
     fill_frame(f);
     fill(c);
     fill(v);
+    fill(nine);
     keep();
-    struct sdsl_frame_fields r = sdsl_frame_read(f->p, f->len, c->p, c->len, v->p, v->len);
+    struct sdsl_frame_fields r = sdsl_frame_read(f->p, f->len, c->p, c->len, v->p, v->len, nine->p, nine->len);
+    bool lengths = f->len == SDSL_FRAME_OCTETS && c->len == SDSL_COEFFICIENT_OCTETS && v->len == SDSL_VENDOR_OCTETS &&
+                   nine->len == SDSL_RESERVED_OCTETS;
+    want((r.answer == SDSL_BAD_LENGTH) == !lengths, "takes another length, or refuses the right ones");
     want(r.answer == SDSL_DONE || (r.kind | r.a | r.b) == 0, "gives numbers and refuses");
     want(r.kind <= SDSL_FINAL && r.a <= SDSL_WORD_MAX && r.b <= SDSL_WORD_MAX, "gives a number out of its range");
-    want(r.kind == SDSL_TRAINING || ((r.a | r.b) == 0 && (c->len == 0 || memcmp(c->p, c->before, c->len) == 0)),
-         "gives a final frame's coefficients");
+    want(r.kind == SDSL_TRAINING || ((r.a | r.b) == 0 && is_kept(c)), "gives a final frame's coefficients");
+    want(r.kind == SDSL_TRAINING || is_kept(nine), "gives a final frame's reserved bits");
+    want(r.answer != SDSL_DONE || r.kind == SDSL_FINAL || nine->p[8] <= 7, "leaves a one above the 67 reserved bits");
     return r.answer;
 }
 
@@ -732,6 +746,7 @@ int LLVMFuzzerTestOneInput(const uint8_t *data, size_t size)
             }
             input.function = i;
             want(calls[i] != NULL, "is in the header and not tried here");
+            want((fuzz_functions[i].answers >> 8 & 1) == 0, "lists answer 8, which is not used");
         }
     }
     input.data = data;

@@ -19,12 +19,15 @@ static void frames(void)
 {
     uint8_t coefficients[SDSL_COEFFICIENT_OCTETS] = {0};
     uint8_t vendor[SDSL_VENDOR_OCTETS] = {0xF0, 0xF1};
+    uint8_t reserved[SDSL_RESERVED_OCTETS] = {0xFF, 1, 2, 3, 4, 5, 6, 7, 0xFF}, none[SDSL_RESERVED_OCTETS] = {0};
     uint8_t frame[SDSL_FRAME_OCTETS];
     look(sdsl_frame_write(SDSL_TRAINING, SDSL_COUNT_MAX, coefficients, sizeof coefficients, 1, SDSL_WORD_MAX, vendor, sizeof vendor, frame,
                           sizeof frame) == SDSL_DONE && frame[0] == 0x9F, "sdsl_frame_write");
     look(sdsl_frame_check(frame, sizeof frame) == SDSL_DONE, "sdsl_frame_check");
-    struct sdsl_frame_fields got = sdsl_frame_read(frame, sizeof frame, coefficients, sizeof coefficients, vendor, sizeof vendor);
-    look(got.answer == SDSL_DONE && got.kind == SDSL_TRAINING && got.a == 1 && got.b == SDSL_WORD_MAX, "sdsl_frame_read");
+    struct sdsl_frame_fields got = sdsl_frame_read(frame, sizeof frame, coefficients, sizeof coefficients, vendor, sizeof vendor,
+                                                   reserved, sizeof reserved);
+    look(got.answer == SDSL_DONE && got.kind == SDSL_TRAINING && got.a == 1 && got.b == SDSL_WORD_MAX &&
+         memcmp(reserved, none, sizeof none) == 0, "sdsl_frame_read");
 
     uint8_t line[SDSL_FRAME_OCTETS], heard[SDSL_FRAME_OCTETS];
     struct sdsl_scrambled sent = sdsl_scramble_frame(SDSL_NTU, SDSL_SCRAMBLER_MAX, frame, sizeof frame, line, sizeof line);
@@ -130,13 +133,18 @@ static void supervisor(void)
     look(run.attempts == 1 && run.opened_at == 1 && run.state.phase == SDSL_HEARING, "sdsl_run_codes");
 }
 
-/* Whether each number up to `last` has a text of its own, and every number beyond it the same one. */
-static int own_texts(const char *(*text)(uint32_t), uint32_t last)
+/* No number up to the last is left out. */
+#define ALL_USED UINT32_MAX
+
+/* Whether each number up to `last` but `unused` has a text of its own, and every other number the same one. */
+static int own_texts(const char *(*text)(uint32_t), uint32_t last, uint32_t unused)
 {
-    int good = strcmp(text(last + 1), text(UINT32_MAX)) == 0;
-    for (uint32_t i = 0; i <= last; i++) {
-        for (uint32_t k = 0; k <= last + 1; k++) {
-            good = good && (strcmp(text(i), text(k)) == 0) == (i == k);
+    int good = 1;
+    for (uint32_t i = 0; i <= last + 1; i++) {
+        int used = i <= last && i != unused;
+        good = good && (strcmp(text(i), text(UINT32_MAX)) != 0) == used;
+        for (uint32_t k = 0; k < i; k++) {
+            good = good && !(used && strcmp(text(i), text(k)) == 0);
         }
     }
     return good;
@@ -149,13 +157,14 @@ static void texts(void)
                                          "Settling", "Valid", "Exception"};
     static const char *const reports[] = {"one millisecond", "pre-activation ended", "C_r begins", "C_r has ended",
                                           "own receiver converged", "T_c seen", "T_r seen", "second F_c frame over", "abnormal"};
-    int good = own_texts(sdsl_phase_text, SDSL_PHASE_MAX);
-    look(own_texts(sdsl_answer_text, SDSL_BAD_STUFFING) && strcmp(sdsl_answer_text(SDSL_DONE), "done") == 0, "sdsl_answer_text");
+    int good = own_texts(sdsl_phase_text, SDSL_PHASE_MAX, ALL_USED);
+    look(own_texts(sdsl_answer_text, SDSL_BAD_STUFFING, 8) && strcmp(sdsl_answer_text(SDSL_DONE), "done") == 0,
+         "sdsl_answer_text: 0 to 7 and 9, and none for 8");
     for (uint32_t i = 0; i <= SDSL_PHASE_MAX; i++) {
         good = good && strcmp(sdsl_phase_text(i), phases[i]) == 0;
     }
     look(good, "sdsl_phase_text");
-    good = own_texts(sdsl_report_text, SDSL_REPORT_MAX);
+    good = own_texts(sdsl_report_text, SDSL_REPORT_MAX, ALL_USED);
     for (uint32_t i = 0; i <= SDSL_REPORT_MAX; i++) {
         good = good && strcmp(sdsl_report_text(i), reports[i]) == 0;
     }
@@ -204,6 +213,14 @@ static uint32_t written(uint32_t count, int32_t coefficient, uint32_t a)
     return sdsl_frame_write(SDSL_TRAINING, count, coefficients, sizeof coefficients, a, a, vendor, sizeof vendor, frame, sizeof frame);
 }
 
+/* What reading a training frame answers, with so many octets of room for the reserved bits. */
+static uint32_t read_into(size_t reserved_len)
+{
+    uint8_t coefficients[SDSL_COEFFICIENT_OCTETS], vendor[SDSL_VENDOR_OCTETS], reserved[SDSL_RESERVED_OCTETS + 1];
+    uint8_t frame[SDSL_FRAME_OCTETS] = {0x9F, 0x35};
+    return sdsl_frame_read(frame, sizeof frame, coefficients, sizeof coefficients, vendor, sizeof vendor, reserved, reserved_len).answer;
+}
+
 /* What a run of ticks makes of a state: the number of ticks until the phase is left. */
 static int lasts(struct sdsl_supervisor state)
 {
@@ -226,6 +243,9 @@ static void limits(void)
          written(SDSL_COUNT_MIN, SDSL_COEFFICIENT_MIN - 1, 0) == SDSL_OUT_OF_RANGE &&
          written(SDSL_COUNT_MIN, SDSL_COEFFICIENT_MAX + 1, 0) == SDSL_OUT_OF_RANGE &&
          written(SDSL_COUNT_MIN, 0, SDSL_WORD_MAX + 1) == SDSL_OUT_OF_RANGE, "the limits of a coefficient and of A and B");
+    look(read_into(SDSL_RESERVED_OCTETS) == SDSL_DONE && read_into(SDSL_RESERVED_OCTETS - 1) == SDSL_BAD_LENGTH &&
+         read_into(SDSL_RESERVED_OCTETS + 1) == SDSL_BAD_LENGTH && SDSL_RESERVED_BIT + SDSL_RESERVED_BITS == SDSL_CHECK_BIT,
+         "the room for reserved bits");
     look(sdsl_scramble(SDSL_LTU, SDSL_SCRAMBLER_MAX, NULL, 0, 0, NULL, 0).answer == SDSL_DONE &&
          sdsl_scramble(SDSL_LTU, SDSL_SCRAMBLER_MAX + 1, NULL, 0, 0, NULL, 0).answer == SDSL_OUT_OF_RANGE, "the scrambler's largest state");
     look(sdsl_encode(0, 0, SDSL_REGISTER_MAX, SDSL_SYMBOL_MAX).answer == SDSL_DONE &&

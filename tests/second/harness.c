@@ -166,6 +166,15 @@ struct pair lend_junk(size_t len)
     return pair;
 }
 
+struct pair lend_ones(size_t len)
+{
+    uint8_t *contents = take_memory(len);
+    memset(contents, 255, len);
+    struct pair pair = lend(contents, len);
+    free(contents);
+    return pair;
+}
+
 void give_back(struct pair *pair)
 {
     free(pair->lib_zone);

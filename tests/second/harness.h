@@ -66,6 +66,7 @@ struct pair {
 
 struct pair lend(const uint8_t *contents, size_t len);
 struct pair lend_junk(size_t len);
+struct pair lend_ones(size_t len); /* every bit set */
 void give_back(struct pair *pair);
 
 /* ---- Comparing ---- */

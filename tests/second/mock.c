@@ -15,9 +15,10 @@ uint32_t sdsl_frame_write(uint32_t kind, uint32_t count,
 
 struct sdsl_frame_fields sdsl_frame_read(const uint8_t *frame, size_t frame_len,
                                          uint8_t *coefficients, size_t coefficients_len,
-                                         uint8_t *vendor, size_t vendor_len)
+                                         uint8_t *vendor, size_t vendor_len,
+                                         uint8_t *reserved, size_t reserved_len)
 {
-    return ref_frame_read(frame, frame_len, coefficients, coefficients_len, vendor, vendor_len);
+    return ref_frame_read(frame, frame_len, coefficients, coefficients_len, vendor, vendor_len, reserved, reserved_len);
 }
 
 uint32_t sdsl_frame_check(const uint8_t *frame, size_t frame_len)

@@ -218,7 +218,7 @@ uint32_t ref_frame_write(uint32_t kind, uint32_t count,
     return SDSL_DONE;
 }
 
-/* Refusals 5 to 8 of a frame of the right length, and its kind. */
+/* Refusals 5 to 7 of a frame of the right length, and its kind. Reserved bits are under the check bits, and not judged otherwise. */
 static uint32_t judge(const uint8_t *bits, uint32_t *kind)
 {
     if (!has_sync(bits, training_sync) && !has_sync(bits, final_sync)) {
@@ -235,18 +235,16 @@ static uint32_t judge(const uint8_t *bits, uint32_t *kind)
             return SDSL_BAD_CHECK;
         }
     }
-    if (*kind == SDSL_TRAINING && !all_zero(bits, RESERVED_BIT, CHECK_BIT - 1)) {
-        return SDSL_RESERVED;
-    }
     return SDSL_DONE;
 }
 
 struct sdsl_frame_fields ref_frame_read(const uint8_t *frame, size_t frame_len,
                                         uint8_t *coefficients, size_t coefficients_len,
-                                        uint8_t *vendor, size_t vendor_len)
+                                        uint8_t *vendor, size_t vendor_len,
+                                        uint8_t *reserved, size_t reserved_len)
 {
     struct sdsl_frame_fields fields = {0, 0, 0, 0};
-    if (frame_len != 529 || coefficients_len != 720 || vendor_len != 16) {
+    if (frame_len != 529 || coefficients_len != 720 || vendor_len != 16 || reserved_len != 9) {
         fields.answer = SDSL_BAD_LENGTH;
         return fields;
     }
@@ -270,6 +268,12 @@ struct sdsl_frame_fields ref_frame_read(const uint8_t *frame, size_t frame_len,
         }
         fields.a = (uint32_t)get_field(bits, A_BIT, 21);
         fields.b = (uint32_t)get_field(bits, B_BIT, 21);
+        /* Nine octets have 72 bits: the 67 reserved ones, and five zeros. */
+        uint8_t nine[72 + 1] = {0};
+        for (size_t i = 1; i <= 67; i++) {
+            nine[i] = bits[RESERVED_BIT + i - 1];
+        }
+        pack(nine, 72, reserved);
     }
     return fields;
 }

@@ -17,7 +17,8 @@ uint32_t ref_frame_write(uint32_t kind, uint32_t count,
                          uint8_t *frame, size_t frame_len);
 struct sdsl_frame_fields ref_frame_read(const uint8_t *frame, size_t frame_len,
                                         uint8_t *coefficients, size_t coefficients_len,
-                                        uint8_t *vendor, size_t vendor_len);
+                                        uint8_t *vendor, size_t vendor_len,
+                                        uint8_t *reserved, size_t reserved_len);
 uint32_t ref_frame_check(const uint8_t *frame, size_t frame_len);
 
 /* The data-mode frame. */

@@ -23,7 +23,6 @@ MEANING = {
     5: "the sync word is neither of the two, so it is no frame",
     6: "a pad bit is not zero, so it is more than a frame",
     7: "the check bits differ, so it is damaged",
-    8: "a reserved bit is not zero, which no training frame has",
 }
 UNREAD, AGAIN = "cannot be read", "do not ship; capture its frame again"
 # the verdicts but the refusals, the worst first, with what to do
@@ -40,8 +39,8 @@ VENDOR = bytes(range(0xF0, 0x100))
 
 # ---- frames
 
-def training(coefficients, a, b, vendor=VENDOR):
-    return frame(TRAINING, payload(coefficients, a, b, vendor))
+def training(coefficients, a, b, vendor=VENDOR, reserved=()):
+    return frame(TRAINING, payload(coefficients, a, b, vendor, reserved))
 
 
 def turned(word):
@@ -108,9 +107,9 @@ class Card:
         return Card(name, self.octets, self.kind, self.cells, self.words, self.number)
 
 
-def good(name, coefficients, a, b, vendor=VENDOR):
+def good(name, coefficients, a, b, vendor=VENDOR, reserved=()):
     highest = max((k for k, c in enumerate(coefficients, 1) if c), default=0)
-    return Card(name, training(coefficients, a, b, vendor), "training", (highest, a, b, vendor.hex().upper(), as_text(vendor)), (a, b))
+    return Card(name, training(coefficients, a, b, vendor, reserved), "training", (highest, a, b, vendor.hex().upper(), as_text(vendor)), (a, b))
 
 
 def bad(name, octets, number):
@@ -251,9 +250,9 @@ case("refused 1: 0, 1, 528, 530 and 100000 octets",
 case("refused 5", [bad("sync.frame", wrong(SOUND, 1), 5)])
 case("refused 6: each pad bit", [bad(f"pad-{n}.frame", wrong(SOUND, n), 6) for n in range(4228, 4233)])
 case("refused 7: a message bit, a check bit", [bad("message.frame", wrong(SOUND, 15), 7), bad("check.frame", wrong(SOUND, 4227), 7)])
-case("refused 8: the first and the last reserved bit",
-     [bad(f"reserved-{n}.frame", frame(TRAINING, payload([3], 5, 6, VENDOR, [0] * n + [1])), 8) for n in (0, 66)])
-case("refused 5 before 6, 6 before 7, 7 before 8",
+case("reserved bits set, the first, the last, two and all: good",
+     [good(f"reserved-{k}.frame", [3], 5, 6, VENDOR, bits) for k, bits in enumerate(([1], [0] * 66 + [1], [1, 1], [1] * 67))])
+case("refused 5 before 6, 6 before 7, 7 for a reserved bit that the check bits do not know of",
      [bad("5.frame", wrong(SOUND, 2, 4229, 4212), 5), bad("6.frame", wrong(SOUND, 4230, 4150), 6), bad("7.frame", wrong(SOUND, 4150), 7)])
 case("a file that is not there, and a folder", [ONE, unread("nothing.frame"), unread(".")])
 case("names with spaces, a tab, a new line, an escape, 127, and octets over 127",
@@ -339,7 +338,7 @@ def told(name, words, starts):
 
 for words in (["--help"], ["nothing", "--help"], ["--help", "--bogus"]):
     told(f"{words} tells how it is called", words, USAGE + b"Sorts ")
-told("--version", ["--version"], b"sdsl-sorter 0.2.0\n")
+told("--version", ["--version"], b"sdsl-sorter 0.3.0\n")
 
 # ---- arguments in any place
 with tempfile.TemporaryDirectory() as folder:
@@ -391,7 +390,7 @@ case("one card that matches", [good("one", [1], *customer)], customer)
 case("one card that does not", [good("one", [1], 7, 9)], customer)
 case("every verdict at once", both + [final("final"), unread("nothing"), unread(".")] + [bad(str(n), (SOUND + bytes(9))[:n], 1) for n in (0, 1, 528, 530)]
      + [bad("sync", wrong(SOUND, 1), 5), bad("pad", wrong(SOUND, 4228), 6), bad("check", wrong(SOUND, 4227), 7),
-        bad("reserved", frame(TRAINING, payload([3], 5, 6, VENDOR, [1])), 8)], customer)
+        good("reserved", [3], *customer, VENDOR, [1, 1])], customer)
 
 
 def any_card(k):

@@ -1,7 +1,7 @@
--- Laws of orders: what is answered stands in the order, and is a number of the table; checks whose numbers rise from 1 to 8 run in SCOPE's.
--- Assumes nothing.
+-- Laws of orders: what is answered stands in the order, and is a number of the table; checks whose numbers rise from 1 to 7 run in SCOPE's;
+-- 8 is no number of the table. Assumes nothing.
 use mathlib.Core.Path.{_≡_, refl, sym, ap, ap₂, _∙_, subst}
-use mathlib.Core.Bool.{Bool, true, false, cond, _&&_}
+use mathlib.Core.Bool.{Bool, true, false, cond, _&&_, false≢true}
 use mathlib.Core.Logic.{_⊎_, inl, inr}
 use mathlib.Core.List.{List, [], _∷_, _++_}
 use Prim.Native.Nat.{ℕ, zero, suc, _+_, _-_, _≤_, _<_, zero-le}
@@ -43,21 +43,21 @@ some-up n (suc k) h = refl
 joined : (a b : Bool) → a ≡ true → b ≡ true → a && b ≡ true
 joined a b p q = ap₂ _&&_ p q
 
-risen : (low : ℕ) (ts : List Refusal) → low ≤ 8 → inOrder low ts ≡ true → inTurn (up low (9 - low)) ts ≡ true
+risen : (low : ℕ) (ts : List Refusal) → low ≤ 7 → inOrder low ts ≡ true → inTurn (up low (8 - low)) ts ≡ true
 unfolding inOrder inTurn
 risen low [] h e = refl
 risen low (t ∷ ts) h e =
     let n = t .number in
-    let p = both (leb low n) (leb n 8 && inOrder n ts) e in
-    let q = both (leb n 8) (inOrder n ts) (p .1) in
+    let p = both (leb low n) (leb n 7 && inOrder n ts) e in
+    let q = both (leb n 7) (inOrder n ts) (p .1) in
     let l : low ≤ n = leb-true low n (p .0) in
-    let m : n ≤ 8 = leb-true n 8 (q .0) in
-    let c : low + (9 - low) - n ≡ 9 - n = omega arith in
-    let f : from n (up low (9 - low)) ≡ up n (9 - n) = from-up low n (9 - low) l (omega arith) ∙ ap (up n) c in
+    let m : n ≤ 7 = leb-true n 7 (q .0) in
+    let c : low + (8 - low) - n ≡ 8 - n = omega arith in
+    let f : from n (up low (8 - low)) ≡ up n (8 - n) = from-up low n (8 - low) l (omega arith) ∙ ap (up n) c in
     subst (λ (o : List ℕ). some o && inTurn o ts ≡ true) (sym f)
-    (joined (some (up n (9 - n))) (inTurn (up n (9 - n)) ts) (some-up n (9 - n) (omega arith)) (risen n ts m (q .1)))
+    (joined (some (up n (8 - n))) (inTurn (up n (8 - n)) ts) (some-up n (8 - n) (omega arith)) (risen n ts m (q .1)))
 
--- checks whose numbers lie from 1 to 8 and never fall run in SCOPE's order
+-- checks whose numbers lie from 1 to 7 and never fall run in SCOPE's order
 pub rising-is : (ts : List Refusal) → inOrder 1 ts ≡ true → inTurn rising ts ≡ true
 rising-is ts e = risen 1 ts (lit≤ tt) e
 
@@ -101,7 +101,7 @@ listed-in-table order h ts e = pick (answer-in order ts e)
 
 -- what stands in an order stands in a longer one
 longer : (n : ℕ) (os ps : List ℕ) → some (from n os) ≡ true → some (from n (os ++ ps)) ≡ true
-longer n [] ps e = absurd (mathlib.Core.Bool.false≢true e)
+longer n [] ps e = absurd (false≢true e)
 longer n (o ∷ os) ps e = pick (eqb o n) e (longer n os ps)
   where
     pick : (b : Bool) → some (cond b (o ∷ os) (from n os)) ≡ true → (some (from n os) ≡ true → some (from n (os ++ ps)) ≡ true)
@@ -117,15 +117,21 @@ answer-in-table ts e = listed-in-table rising (λ n h. beside n (eqb 0 n) (longe
     beside n true h = refl
     beside n false h = h
 
--- ---- checks whose numbers rise to 8 answer with a number of the table
+-- ---- checks whose numbers rise to 7 answer with a number of the table
 
-pub answer-within : (low : ℕ) (ts : List Refusal) → inOrder low ts ≡ true → answer ts ≤ 8
+pub answer-within : (low : ℕ) (ts : List Refusal) → inOrder low ts ≡ true → answer ts ≤ 7
 unfolding inOrder
 answer-within low [] e = zero-le
 answer-within low (t ∷ ts) e =
-    let w = both (leb (t .number) 8) (inOrder (t .number) ts) (both (leb low (t .number)) _ e .1) in
+    let w = both (leb (t .number) 7) (inOrder (t .number) ts) (both (leb low (t .number)) _ e .1) in
     pick (t .applies) (leb-true _ _ (w .0)) (answer-within (t .number) ts (w .1))
   where
-    pick : (b : Bool) → t .number ≤ 8 → answer ts ≤ 8 → cond b (t .number) (answer ts) ≤ 8
+    pick : (b : Bool) → t .number ≤ 7 → answer ts ≤ 7 → cond b (t .number) (answer ts) ≤ 7
     pick true x y = x
     pick false x y = y
+
+-- ---- 8 is not used
+
+-- no number of the table is 8
+pub eight-unused : (n : ℕ) → inTable n ≡ true → n ≡ 8 → ⊥
+eight-unused n h e = false≢true (subst (λ (k : ℕ). inTable k ≡ true) e h)

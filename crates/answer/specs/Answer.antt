@@ -29,7 +29,7 @@ abbrev pub held : {A : Type 0} → ℕ → A → A → A
 held zero old new = new
 held (suc n) old new = old
 
--- whether the numbers of the checks lie from low to 8 and never fall
+-- whether the numbers of the checks lie from low to 7 and never fall
 unfoldable pub inOrder : ℕ → List Refusal → Bool
 inOrder low [] = true
-inOrder low (t ∷ ts) = leb low (t .number) && (leb (t .number) 8 && inOrder (t .number) ts)
+inOrder low (t ∷ ts) = leb low (t .number) && (leb (t .number) 7 && inOrder (t .number) ts)

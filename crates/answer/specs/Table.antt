@@ -20,7 +20,7 @@ means n t = record { number = n; text = t }
 abbrev pub done : Meaning
 done = means 0 "done"
 
--- the refusals, as SCOPE lists them
+-- the refusals, as SCOPE lists them; 8 is not used (it was: a reserved bit is not zero)
 abbrev pub refusals : List Meaning
 refusals =
     means 1 "a lent buffer has the wrong length"
@@ -30,7 +30,6 @@ refusals =
     ∷ means 5 "the sync word is not an expected one"
     ∷ means 6 "an unused bit behind the frame is not zero"
     ∷ means 7 "the check bits differ"
-    ∷ means 8 "a reserved bit is not zero (training frame)"
     ∷ []
 
 -- and one more that only data-mode frames have, beside 1, 2, 4, 5, 6 and 7

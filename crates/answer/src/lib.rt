@@ -1,4 +1,4 @@
-// What comes back: SCOPE's ten numbers by name. The rule for choosing one is specs/Answer.antt.
+// What comes back: SCOPE's nine numbers by name. The rule for choosing one is specs/Answer.antt.
 
 // Done.
 pub const DONE: u32 = 0;
@@ -16,7 +16,7 @@ pub const SYNC: u32 = 5;
 pub const PAD: u32 = 6;
 // The check bits differ.
 pub const CHECK: u32 = 7;
-// A reserved bit is not zero.
-pub const RESERVED: u32 = 8;
+// 8 is not used; it was: a reserved bit is not zero.
+
 // Stuffing bits that the form cannot have.
 pub const STUFFING: u32 = 9;

@@ -31,7 +31,7 @@ reasons =
     text "\nthe file is not as long as a frame\nunknown end, frame kind or report code\ncoefficient count outside 128 to 180\n"
     ++ text "a number outside its range\nthe sync word is neither of the two, so it is no frame\n"
     ++ text "a pad bit is not zero, so it is more than a frame\n"
-    ++ text "the check bits differ, so it is damaged\na reserved bit is not zero, which no training frame has\n"
+    ++ text "the check bits differ, so it is damaged\n"
 
 -- behind the word "refused": "7: the check bits differ, so it is damaged"
 unfoldable pub refusal : ℕ → List ℕ

@@ -78,8 +78,7 @@ fn put_refusal(room: &mut [u8], at: usize, n: u32) -> usize
           a number outside its range\n\
           the sync word is neither of the two, so it is no frame\n\
           a pad bit is not zero, so it is more than a frame\n\
-          the check bits differ, so it is damaged\n\
-          a reserved bit is not zero, which no training frame has\n",
+          the check bits differ, so it is damaged\n",
         n,
     )
 }

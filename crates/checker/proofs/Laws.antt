@@ -1,15 +1,15 @@
 -- Laws of checking a frame. Assumes nothing.
 use mathlib.Core.Path.{_≡_, refl, sym, ap, ap₂, _∙_}
-use mathlib.Core.Bool.{Bool, true, false, cond, not, _&&_, _||_}
-use mathlib.Core.List.{List, [], _∷_, reverse}
+use mathlib.Core.Bool.{Bool, true, false, cond, not, _||_}
+use mathlib.Core.List.{List, _∷_, reverse}
 use Prim.Native.Nat.{ℕ, zero, suc}
 use native.Mathlib.Omega.{arith}
 use borrow.Author.Tests.{eq-eqb, ne-eqb, eqb-true, not-false}
 use lib.Dec.{eqb, lit≤}
-use lib.ListN.{length, take, drop, length-drop}
+use lib.ListN.{length, drop, length-drop}
 use lib.Seq.{length-take-le}
 use Rattle.answer.specs.Answer.{refuse, answer, held}
-use Rattle.answer.proofs.Laws.{none, kept, given}
+use Rattle.answer.proofs.Laws.{passed, none, kept, given}
 use Rattle.octets.specs.Bits.{digitsOf, valueOf, bitsOf, part}
 use Rattle.octets.proofs.Digits.{digits-value, take-bits, drop-bits}
 use Rattle.octets.proofs.Laws.{bits-length, bits-bits}
@@ -20,7 +20,7 @@ use Rattle.remainder.specs.Division.{polynomial, generator}
 use Rattle.remainder.specs.Promises.{CheckBits}
 use Rattle.remainder.proofs.Division.{computed}
 use Rattle.remainder.proofs.Errors.{generator-degree}
-use Rattle.layout.specs.Places.{reservedField, checkField, padField}
+use Rattle.layout.specs.Places.{checkField, padField}
 use Rattle.layout.specs.Frame.{trainingSync, finalSync, fieldOf, messageOf, checkOf}
 use Rattle.layout.specs.Refusals.{hasSync, bitRefusals, checkRefusals}
 use Rattle.layout.proofs.Laws.{training-value, final-value}
@@ -83,51 +83,18 @@ module _ (f : List ℕ) (t : TakenPair) (e : PairTaken f 4211 16 5 t) where
   pub pad-is : t .second ≡ 0 → eqb (valueOf (fieldOf padField (bitsOf f))) 0 ≡ true
   pad-is h = eq-eqb (valueOf (fieldOf padField (bitsOf f))) 0 (sym (ap (λ (x : TakenPair). x .second) e) ∙ h)
 
--- ---- the order of the checks
+-- ---- behind a sync word that is known, a frame is refused for what its end is refused for
 
--- the end's two, then a third
-end-first : (p c s : Bool) (n : ℕ) → n ≡ answer (refuse 6 p ∷ refuse 7 c ∷ []) → (n ≡ 0 → ⊥) → n ≡ answer (refuse 6 p ∷ refuse 7 c ∷ refuse 8 s ∷ [])
-end-first true c s n e z = e
-end-first false true s n e z = e
-end-first false false s n e z = absurd (z e)
+end-is : (f : List ℕ) → (hasSync trainingSync (bitsOf f) || hasSync finalSync (bitsOf f)) ≡ true
+    → answer (drop 1 (bitRefusals (bitsOf f))) ≡ answer (bitRefusals (bitsOf f))
+end-is f k = sym (passed 5 (drop 1 (bitRefusals (bitsOf f))) (ap not k))
 
-then-third : (p c s : Bool) (n : ℕ) → n ≡ answer (refuse 6 p ∷ refuse 7 c ∷ []) → n ≡ 0
-    → answer (refuse 6 p ∷ refuse 7 c ∷ refuse 8 s ∷ []) ≡ answer (refuse 8 s ∷ [])
-then-third true c s n e z = absurd (omega (arith, e, z))
-then-third false true s n e z = absurd (omega (arith, e, z))
-then-third false false s n e z = refl
+pub training-end : (f : List ℕ) → hasSync trainingSync (bitsOf f) ≡ true → answer (drop 1 (bitRefusals (bitsOf f))) ≡ answer (bitRefusals (bitsOf f))
+training-end f t = end-is f (ap (λ (b : Bool). b || hasSync finalSync (bitsOf f)) t)
 
-module _ (f : List ℕ) where
-  abbrev B : List ℕ
-  B = bitsOf f
-
-  abbrev pad : Bool
-  pad = not (eqb (valueOf (fieldOf padField B)) 0)
-
-  abbrev check : Bool
-  check = not (eqb (polynomial (fieldOf checkField B)) (checkOf (messageOf B)))
-
-  abbrev reserved : Bool
-  reserved = not (eqb (valueOf (fieldOf reservedField B)) 0)
-
-  -- what is refused, by the two sync words
-  abbrev by : Bool → Bool → ℕ
-  by t u = answer (refuse 5 (not (t || u)) ∷ refuse 6 pad ∷ refuse 7 check ∷ refuse 8 (t && reserved) ∷ [])
-
-  -- a training frame
-  module _ (t : hasSync trainingSync B ≡ true) (n : ℕ) (e : n ≡ answer (take 2 (drop 1 (bitRefusals B)))) where
-    pub training-end : (n ≡ 0 → ⊥) → n ≡ answer (bitRefusals B)
-    training-end z = end-first pad check reserved n e z ∙ ap (λ (x : Bool). by x (hasSync finalSync B)) (sym t)
-
-    pub training-rest : n ≡ 0 → (k : Bool) → k ≡ eqb (valueOf (fieldOf reservedField B)) 0 → answer (refuse 8 (not k) ∷ []) ≡ answer (bitRefusals B)
-    training-rest z k g =
-        ap (λ (x : Bool). answer (refuse 8 (not x) ∷ [])) g
-        ∙ sym (then-third pad check reserved n e z)
-        ∙ ap (λ (x : Bool). by x (hasSync finalSync B)) (sym t)
-
-  -- a final one
-  pub final-end : hasSync trainingSync B ≡ false → hasSync finalSync B ≡ true → answer (take 2 (drop 1 (bitRefusals B))) ≡ answer (bitRefusals B)
-  final-end t u = ap₂ by (sym t) (sym u)
+pub final-end : (f : List ℕ) → hasSync trainingSync (bitsOf f) ≡ false → hasSync finalSync (bitsOf f) ≡ true
+    → answer (drop 1 (bitRefusals (bitsOf f))) ≡ answer (bitRefusals (bitsOf f))
+final-end f t u = end-is f (ap₂ _||_ t u)
 
 -- ---- the promise
 

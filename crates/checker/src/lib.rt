@@ -1,14 +1,13 @@
 // Checking an activation frame (SCOPE, "The activation frame").
 ghost use mathlib.Core.Path.{_≡_};
-ghost use mathlib.Core.Bool.{true};
-ghost use lib.ListN.{length, take, drop};
+ghost use lib.ListN.{length, drop};
 ghost use Rattle.answer.specs.Answer.{answer};
 ghost use Rattle.octets.specs.Bits.{valueOf, bitsOf};
 ghost use Rattle.remainder.specs.Division.{polynomial};
 ghost use lib.Dec.{eqb};
 ghost use Rattle.layout.specs.Places.{frameLength, checkField};
-ghost use Rattle.layout.specs.Frame.{trainingSync, fieldOf, messageOf, checkOf};
-ghost use Rattle.layout.specs.Refusals.{hasSync, bitRefusals};
+ghost use Rattle.layout.specs.Frame.{fieldOf, messageOf, checkOf};
+ghost use Rattle.layout.specs.Refusals.{bitRefusals};
 ghost use Rattle.checker.specs.Promises.{Checked, KindChecked};
 
 // What checking gives: the answer, and of a frame that is right its kind; with a refusal the kind is 0.
@@ -26,10 +25,10 @@ fn checks(frame: &[u8], c: u32) -> bool
     bitfields::turned(layout::CHECK_BITS, c) == r
 }
 
-// What is wrong with a frame's end, the check bits and the pad, or 0: all that is checked of a final frame behind its sync.
+// What is wrong with a frame's end, the check bits and the pad, or 0: all that is checked of a frame behind its sync.
 fn end_wrong(frame: &[u8]) -> u32
     requires { ⌜ length (now frame) ≡ frameLength ⌝ }
-    ensures { λ r. ⌜ r ≡ answer (take 2 (drop 1 (bitRefusals (bitsOf (now (frame .entry)))))) ⌝ }
+    ensures { λ r. ⌜ r ≡ answer (drop 1 (bitRefusals (bitsOf (now (frame .entry))))) ⌝ }
 {
     let end = walk::pair(
         frame,
@@ -46,20 +45,6 @@ fn end_wrong(frame: &[u8]) -> u32
     answer::DONE
 }
 
-// What is wrong with a training frame behind its sync, or 0: its end, or a reserved bit.
-fn training_wrong(frame: &[u8]) -> u32
-    requires { ⌜ (length (now frame) ≡ frameLength) × (hasSync trainingSync (bitsOf (now frame)) ≡ true) ⌝ }
-    ensures { λ r. ⌜ r ≡ answer (bitRefusals (bitsOf (now (frame .entry)))) ⌝ }
-{
-    let n = end_wrong(frame);
-    if n == answer::DONE {
-        if !octets::is_clear(frame, layout::RESERVED_AT, layout::RESERVED_BITS) {
-            return answer::RESERVED;
-        }
-    }
-    n
-}
-
 // What is wrong with a frame, or 0 and its kind.
 pub fn kind_of(frame: &[u8]) -> Kind
     ensures { λ r. ⌜ KindChecked (now (frame .entry)) r ⌝ }
@@ -72,7 +57,7 @@ pub fn kind_of(frame: &[u8]) -> Kind
     }
     match bitfields::field(frame, 0, layout::SYNC_BITS) {
         layout::TRAINING_SYNC => Kind {
-            answer: training_wrong(frame),
+            answer: end_wrong(frame),
             kind: layout::TRAINING,
         },
         layout::FINAL_SYNC => {

@@ -87,18 +87,20 @@ module _ (c : WriteCall) (h : Right (writeChecks c)) where
 pub read-fit : (c : ReadCall) → Right (readChecks c)
     → (length (c .coefficients) ≡ 720) × (length (c .frame) ≡ 529) × (length (c .vendor) ≡ 16) × (answer (bitRefusals (bitsOf (c .frame))) ≡ 0)
 read-fit c h =
-    let L = frameReadRefusals (c .frame) (c .coefficients) (c .vendor) in
+    let L = frameReadRefusals (c .frame) (c .coefficients) (c .vendor) (c .reserved) in
     let one = none 0 (not (eqb (length (c .coefficients)) 720)) (drop 1 L) h in
     let two = none 0 (not (eqb (length (c .frame)) 529)) (drop 2 L) (one .1) in
     let three = none 0 (not (eqb (length (c .vendor)) 16)) (drop 3 L) (two .1) in
-    (eqb-true _ _ (not-false _ (one .0)), eqb-true _ _ (not-false _ (two .0)), eqb-true _ _ (not-false _ (three .0)), three .1)
+    let four = none 0 (not (eqb (length (c .reserved)) 9)) (drop 4 L) (three .1) in
+    (eqb-true _ _ (not-false _ (one .0)), eqb-true _ _ (not-false _ (two .0)), eqb-true _ _ (not-false _ (three .0)), four .1)
 
 -- and back: a frame of these bits in rooms of the right lengths
 pub read-right : (c : ReadCall) → length (c .coefficients) ≡ 720 → length (c .frame) ≡ 529 → length (c .vendor) ≡ 16
-    → answer (bitRefusals (bitsOf (c .frame))) ≡ 0 → Right (readChecks c)
-read-right c l m n z =
-    let L = frameReadRefusals (c .frame) (c .coefficients) (c .vendor) in
-    passed 1 (drop 1 L) (ap not (eq-eqb _ _ l)) ∙ passed 1 (drop 2 L) (ap not (eq-eqb _ _ m)) ∙ passed 1 (drop 3 L) (ap not (eq-eqb _ _ n)) ∙ z
+    → length (c .reserved) ≡ 9 → answer (bitRefusals (bitsOf (c .frame))) ≡ 0 → Right (readChecks c)
+read-right c l m n k z =
+    let L = frameReadRefusals (c .frame) (c .coefficients) (c .vendor) (c .reserved) in
+    passed 1 (drop 1 L) (ap not (eq-eqb _ _ l)) ∙ passed 1 (drop 2 L) (ap not (eq-eqb _ _ m)) ∙ passed 1 (drop 3 L) (ap not (eq-eqb _ _ n))
+    ∙ passed 1 (drop 4 L) (ap not (eq-eqb _ _ k)) ∙ z
 
 -- a bit to scramble or to descramble
 pub bit-fit : (c : BitCall) → Right (bitChecks c) → (ltb 1 (c .end) ≡ false) × (leb (2 ^ 23) (c .state) ≡ false) × (c .bit < 2)

@@ -1,6 +1,6 @@
 -- What follows from the demands, for a library of any make that meets them. Assumes nothing.
 use mathlib.Core.Path.{_≡_, refl, sym, ap, ap₂, _∙_}
-use mathlib.Core.Bool.{true, not, _&&_}
+use mathlib.Core.Bool.{Bool, true, not, _&&_}
 use mathlib.Core.Logic.{_⊎_}
 use mathlib.Core.List.{List, []}
 use Prim.Native.Nat.{ℕ, zero, suc, _*_, _≤_, _<_}
@@ -10,8 +10,9 @@ use lib.Dec.{eqb, lit≤}
 use lib.IntN.{ℤ}
 use lib.ListN.{length, drop, take}
 use lib.Seq.{take-all}
-use Rattle.answer.specs.Answer.{answer}
+use Rattle.answer.specs.Answer.{Refusal, answer}
 use Rattle.answer.proofs.Laws.{none, passed}
+use Rattle.answer.proofs.Order.{eight-unused as eight-unused-in-table}
 use Rattle.octets.specs.Bits.{valueOf, bitsOf, octetsOf, part}
 use Rattle.octets.specs.Signed.{signedOf, numbersIn}
 use Rattle.ranges.specs.Ranges.{isCoefficient, every}
@@ -22,23 +23,25 @@ use Rattle.octets.proofs.Laws.{octets-length, bits-length, bits-bits, octets-bi
 use Rattle.octets.proofs.Numbers.{numbers-length}
 use Rattle.remainder.specs.Errors.{flipped}
 use Rattle.layout.specs.Places.{coefficientsField, aField, bField, vendorField}
-use Rattle.layout.specs.Frame.{trainingSync, finalSync, trainingBits, frameBits, fieldOf, coefficientsOf}
-use Rattle.layout.specs.Refusals.{bitRefusals, hasSync, writeRefusals}
+use Rattle.layout.specs.Frame.{syncWord, trainingBits, frameBits, fieldOf, coefficientsOf}
+use Rattle.layout.specs.Refusals.{bitRefusals, writeRefusals}
 use Rattle.checker.proofs.Laws.{checked}
-use Rattle.layout.proofs.RoundTrip.{training-laid, a-back, b-back, used-back, vendor-back, sound, field-bits, final-free, laid-in, training-again}
-use Rattle.layout.proofs.Laws.{final-length, final-bits}
+use Rattle.layout.proofs.RoundTrip.{training-laid, a-back, b-back, used-back, vendor-back, sound, field-bits, free, free-laid, training-again, only-clear-again}
 use Rattle.layout.proofs.OneBit.{one-bit}
+use Rattle.reader.specs.Promises.{reservedOctets}
+use Rattle.reader.proofs.Given.{reserved-bits, reserved-tell, clear-octets, octets-clear}
 use Rattle.distance.specs.Errors.{Few, Burst}
 use Rattle.distance.proofs.Frames.{changed-checked}
 use Rattle.numbers.specs.Promises.{numbersOf, numberOctets}
 use Rattle.numbers.proofs.Laws.{octets-many, numbers-kept}
 use Rattle.demands.specs.Handed.{Outcome, None, WriteCall, ReadCall, Fields, Rooms}
 use Rattle.demands.specs.Library.{Library}
-use Rattle.demands.specs.One.{One}
-use Rattle.demands.specs.Checks.{writeChecks, readChecks}
+use Rattle.demands.specs.One.{Answers, One}
+use Rattle.demands.specs.Checks.{writeChecks}
 use Rattle.demands.specs.Frames.{Right, Octets}
 use Rattle.demands.specs.Two.{Two}
-use Rattle.demands.specs.Follow.{SameFields}
+use Rattle.demands.specs.Unused.{NeverEight, EightUnused}
+use Rattle.demands.specs.Follow.{SameFields, writtenAgain, WrittenAgain, Trains, HandsReserved}
 use Rattle.demands.proofs.Fit.{many, training-fit, read-fit}
 
 module _ (x : Library) (two : Two x) where
@@ -81,23 +84,29 @@ numbers-range (suc n) bits h =
     rw (mag-range 2097151 (signedOf 22 (valueOf (take 22 bits))) (omega (arith, signed-range 22 (valueOf (take 22 bits)) (lit≤ tt) (value-part 22 bits h))))
     (numbers-range n (drop 22 bits) (drop-bits 22 bits h))
 
-module _ (x : Library) (two : Two x) (c : ReadCall) (room : List ℕ) (o : Octets (c .frame)) (h : Right (readChecks c))
-    (t : hasSync trainingSync (bitsOf (c .frame)) ≡ true) (lr : length room ≡ 529) where
+module _ (x : Library) (two : Two x) (c : ReadCall) (room : List ℕ) (o : Octets (c .frame)) (trains : Trains c) (lr : length room ≡ 529) where
   abbrev B : List ℕ
   B = bitsOf (c .frame)
 
-  abbrev call : Outcome Fields Rooms → WriteCall
-  call r = record { kind = 0; count = 180; coefficients = r .memory .coefficients; a = r .numbers .a; b = r .numbers .b; vendor = r .memory .vendor; frame = room }
+  abbrev T : List ℕ
+  T = trainingBits 180 (coefficientsOf B) (valueOf (fieldOf aField B)) (valueOf (fieldOf bField B)) (octetsOf 16 (fieldOf vendorField B))
 
-  -- a training frame that reads with answer 0 is, octet for octet, what writing its fields with count 180 gives
-  pub written-again : x .write (call (x .read c)) .memory ≡ c .frame
-  written-again =
-      let f = read-fit c h in
-      let L : length B ≡ 4232 = bits-length (c .frame) ∙ ap (λ (k : ℕ). 8 * k) (f .1) in
+  frame-length : length (c .frame) ≡ 529
+  frame-length = read-fit c (trains .0) .1
+
+  bits-many : length B ≡ 4232
+  bits-many = bits-length (c .frame) ∙ ap (λ (k : ℕ). 8 * k) frame-length
+
+  many-coefficients : length (coefficientsOf B) ≡ 180
+  many-coefficients = numbers-length 22 180 (fieldOf coefficientsField B)
+
+  -- what is written again is a training frame of the fields that were read
+  rewritten : writtenAgain x c room ≡ octetsOf 529 T
+  rewritten =
       let hB = bits-bits (c .frame) in
       let cs = coefficientsOf B in
-      let l : length cs ≡ 180 = numbers-length 22 180 (fieldOf coefficientsField B) in
-      let all : every isCoefficient cs ≡ true = numbers-range 180 (fieldOf coefficientsField B) (field-bits B L hB 14 3960) in
+      let l = many-coefficients in
+      let all : every isCoefficient cs ≡ true = numbers-range 180 (fieldOf coefficientsField B) (field-bits B bits-many hB 14 3960) in
       let w : WriteCall = record {
         kind = 0;
         count = 180;
@@ -118,11 +127,48 @@ module _ (x : Library) (two : Two x) (c : ReadCall) (room : List ℕ) (o : Octet
       ∙ passed 4 (drop 6 R) (ap (λ (zs : List ℤ). not (every isCoefficient (take 180 zs))) n
       ∙ ap (λ (zs : List ℤ). not (every isCoefficient zs)) (take-all 180 cs (omega arith)) ∙ ap not all)
       ∙ passed 4 [] (ap not (ap₂ _&&_ (le-leb (w .a) 2097151 (word 3974)) (le-leb (w .b) 2097151 (word 3995)))) in
-      ap (λ (r : Outcome Fields Rooms). x .write (call r) .memory) (two .exact .frames .read-training c h t)
+      let call : Outcome Fields Rooms → WriteCall = λ r. record {
+        kind = 0;
+        count = 180;
+        coefficients = r .memory .coefficients;
+        a = r .numbers .a;
+        b = r .numbers .b;
+        vendor = r .memory .vendor;
+        frame = room;
+      } in
+      ap (λ (r : Outcome Fields Rooms). x .write (call r) .memory) (two .exact .frames .read-training c (trains .0) (trains .1))
       ∙ ap (λ (m : Outcome None (List ℕ)). m .memory) (two .exact .frames .training w refl right)
       ∙ ap (λ (zs : List ℤ). octetsOf 529 (trainingBits 180 zs (w .a) (w .b) (w .vendor))) n
-      ∙ ap (octetsOf 529) (sym (training-again B L hB (sound B (f .3)) t))
-      ∙ ap (λ (k : ℕ). octetsOf k B) (sym (f .1)) ∙ octets-bits (c .frame) o
+
+  -- a training frame that reads with answer 0 is, octet for octet, what writing its fields with count 180 gives, exactly where no reserved bit is set
+  pub written-again : WrittenAgain x c room
+  written-again =
+      let handed = ap (λ (r : Outcome Fields Rooms). r .memory .reserved) (two .exact .frames .read-training c (trains .0) (trains .1)) in
+      let hB = bits-bits (c .frame) in
+      let laid = training-laid 180 (coefficientsOf B) (valueOf (fieldOf aField B)) (valueOf (fieldOf bField B)) (octetsOf 16 (fieldOf vendorField B)) (lit≤ tt)
+      many-coefficients (octets-length 16 (fieldOf vendorField B)) in
+      record {
+        same = λ z.
+            rewritten
+            ∙ ap (octetsOf 529) (sym (training-again B bits-many hB (sound B (read-fit c (trains .0) .3)) (trains .1)
+            (octets-clear (c .frame) frame-length (sym handed ∙ z))))
+            ∙ ap (λ (k : ℕ). octetsOf k B) (sym frame-length) ∙ octets-bits (c .frame) o;
+        only = λ e.
+            handed ∙ clear-octets (c .frame) frame-length (only-clear-again B bits-many hB (ap bitsOf (sym e ∙ rewritten) ∙ laid));
+      }
+
+-- ---- the reserved bits that are handed back
+
+module _ (x : Library) (two : Two x) where
+  handed-back : (c : ReadCall) → Trains c → x .read c .memory .reserved ≡ reservedOctets (bitsOf (c .frame))
+  handed-back c t = ap (λ (r : Outcome Fields Rooms). r .memory .reserved) (two .exact .frames .read-training c (t .0) (t .1))
+
+  pub hands-reserved : HandsReserved x
+  hands-reserved = record {
+    bits = λ c t. ap bitsOf (handed-back c t) ∙ reserved-bits (c .frame) (read-fit c (t .0) .1);
+    tell = λ c d t u e.
+        reserved-tell (c .frame) (read-fit c (t .0) .1) (d .frame) (read-fit d (u .0) .1) (sym (handed-back c t) ∙ e ∙ handed-back d u);
+  }
 
 -- ---- check
 
@@ -141,10 +187,42 @@ module _ (x : Library) (one : One x) where
   wrong-bits-seen frame frame′ l f c =
       changed-checked frame frame′ l f (checked (sym c ∙ one .check .first frame)) (x .check frame′ .answer) (checked (one .check .first frame′))
 
-  -- a final frame's "other payload is arbitrary": with right check bits it answers 0
-  pub final-free-payload : (m : List ℕ) → length m ≡ 4197 → Bits m → x .check (octetsOf 529 (frameBits finalSync m)) .answer ≡ 0
-  final-free-payload m l h =
-      let F = octetsOf 529 (frameBits finalSync m) in
+  -- any message under its own check bits answers 0, behind either sync word: reserved bits may be any, and so may all of a final frame's payload
+  pub free-payload : (training : Bool) (m : List ℕ) → length m ≡ 4197 → Bits m → x .check (octetsOf 529 (frameBits (syncWord training) m)) .answer ≡ 0
+  free-payload t m l h =
+      let F = octetsOf 529 (frameBits (syncWord t) m) in
       one .check .first F
-      ∙ passed 1 (bitRefusals (bitsOf F)) (ap not (eq-eqb _ _ (octets-length 529 (frameBits finalSync m))))
-      ∙ ap (λ (b : List ℕ). answer (bitRefusals b)) (laid-in finalSync m final-length l final-bits h) ∙ final-free m l h .0
+      ∙ passed 1 (bitRefusals (bitsOf F)) (ap not (eq-eqb _ _ (octets-length 529 (frameBits (syncWord t) m))))
+      ∙ ap (λ (b : List ℕ). answer (bitRefusals b)) (free-laid t m l h) ∙ free t m l h .0
+
+  -- 8 is not used
+  never : {C N M : Type 0} {f : C → Outcome N M} {checks : C → List Refusal} {before : C → M} {nothing : N} → Answers f checks before nothing → NeverEight f
+  never {f = f} a c e = eight-unused-in-table (f c .answer) (a .in-table c) e
+
+  pub eight-unused : EightUnused x
+  eight-unused = record {
+    write = never (one .write);
+    check = never (one .check);
+    read = never (one .read);
+    data-write = never (one .data-write);
+    data-crc = never (one .data-crc);
+    data-check = never (one .data-check);
+    data-read = never (one .data-read);
+    scrambler-start = never (one .scrambler-start);
+    bit = λ way. never (one .bit way);
+    run = λ way. never (one .run way);
+    frame = λ way. never (one .frame way);
+    activation = never (one .activation);
+    level = never (one .level);
+    code = never (one .code);
+    encoder-start = never (one .encoder-start);
+    encode = never (one .encode);
+    encode-run = never (one .encode-run);
+    history-start = never (one .history-start);
+    precode = never (one .precode);
+    decode = never (one .decode);
+    shape = never (one .shape);
+    start = never (one .start);
+    step = never (one .step);
+    run-codes = never (one .run-codes);
+  }

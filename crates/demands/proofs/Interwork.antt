@@ -8,7 +8,7 @@ use native.Mathlib.Omega.{arith}
 use borrow.Author.Tests.{eq-eqb, eqb-true, ltb-false, le-ltb, lt-leb, not-false}
 use lib.Dec.{eqb, ltb, leb}
 use lib.IntN.{ℤ}
-use lib.ListN.{length, getD, drop}
+use lib.ListN.{length, getD, drop, replicate}
 use lib.Seq.{sets-eq, take-at, length-take-le}
 use Rattle.answer.specs.Answer.{answer}
 use Rattle.answer.proofs.Laws.{none as none-applies, passed, given as held-given}
@@ -16,10 +16,11 @@ use Rattle.octets.specs.Bits.{valueOf, bitsOf, octetsOf, part, laid}
 use Rattle.octets.proofs.Digits.{Bits, nil-bits, cons-bits, take-bits, drop-bits}
 use Rattle.octets.proofs.Laws.{bits-bits, bits-length, octets-length, laid-length, laid-bits}
 use Rattle.octets.proofs.Words.{octets-octets}
-use Rattle.layout.specs.Places.{aField, bField, vendorField, padField}
+use Rattle.layout.specs.Places.{aField, bField, vendorField, reservedField, padField}
 use Rattle.layout.specs.Frame.{used, trainingBits, finalBits, fieldOf, coefficientsOf}
 use Rattle.layout.specs.Refusals.{bitRefusals, hasSync}
-use Rattle.layout.proofs.RoundTrip.{training-laid, training-answers, a-back, b-back, used-back, vendor-back, final-laid, final-answers, final-vendor, sound}
+use Rattle.layout.proofs.RoundTrip.{training-laid, training-answers, a-back, b-back, used-back, vendor-back, reserved-back, final-laid, final-answers, final-vendor, sound}
+use Rattle.layout.proofs.Reserved.{zeros-octets}
 use Rattle.numbers.specs.Promises.{numbersOf, numberOctets}
 use Rattle.recurrence.specs.Line.{newest}
 use Rattle.scrambler.specs.Ends.{tapOf}
@@ -47,13 +48,13 @@ use Rattle.demands.proofs.Fit.{many, lengths-fit, training-fit, kind-fi
 
 -- ---- frames
 
-module _ (x y : Library) (ex : Frames x) (ey : Frames y) (c : WriteCall) (room v : List ℕ) (h : Right (writeChecks c)) (o : Octets (c .vendor))
-    (lr : length room ≡ 720) (lv : length v ≡ 16) where
+module _ (x y : Library) (ex : Frames x) (ey : Frames y) (c : WriteCall) (room v s : List ℕ) (h : Right (writeChecks c)) (o : Octets (c .vendor))
+    (lr : length room ≡ 720) (lv : length v ≡ 16) (ls : length s ≡ 9) where
   abbrev call : List ℕ → ReadCall
-  call frame = record { frame = frame; coefficients = room; vendor = v }
+  call frame = record { frame = frame; coefficients = room; vendor = v; reserved = s }
 
-  training-back : c .kind ≡ 0 → y .read (call (x .write c .memory))
-      ≡ done (record { kind = 0; a = c .a; b = c .b }) (record { coefficients = numberOctets (used (c .count) (numbersOf (c .coefficients))); vendor = c .vendor })
+  training-back : c .kind ≡ 0 → y .read (call (x .write c .memory)) ≡ done (record { kind = 0; a = c .a; b = c .b })
+      (record { coefficients = numberOctets (used (c .count) (numbersOf (c .coefficients))); vendor = c .vendor; reserved = replicate 9 0 })
   training-back e =
       let f = training-fit c h e in
       let cs = numbersOf (c .coefficients) in
@@ -62,28 +63,35 @@ module _ (x y : Library) (ex : Frames x) (ey : Frames y) (c : WriteCall) (room v
       let F = octetsOf 529 T in
       let B : bitsOf F ≡ T = training-laid (c .count) cs (c .a) (c .b) (c .vendor) (f .count) n (f .vendor) in
       let t = training-answers (c .count) cs (c .a) (c .b) (c .vendor) (f .count) n (f .vendor) in
-      let r : Right (readChecks (call F)) = read-right (call F) lr (octets-length 529 T) lv (ap (λ (b : List ℕ). answer (bitRefusals b)) B ∙ t .0) in
+      let r : Right (readChecks (call F)) = read-right (call F) lr (octets-length 529 T) lv ls (ap (λ (b : List ℕ). answer (bitRefusals b)) B ∙ t .0) in
+      let none-set : octetsOf 9 (fieldOf reservedField T) ≡ replicate 9 0 =
+      ap (octetsOf 9) (reserved-back (c .count) cs (c .a) (c .b) (c .vendor) (f .count) n (f .vendor)) ∙ zeros-octets 9 67 in
       ap (λ (m : Outcome None (List ℕ)). y .read (call (m .memory))) (ex .training c e h)
       ∙ ey .read-training (call F) r (ap (hasSync _) B ∙ t .1)
       ∙ ap (λ (b : List ℕ). done (record { kind = 0; a = valueOf (fieldOf aField b); b = valueOf (fieldOf bField b) })
-      (record { coefficients = numberOctets (coefficientsOf b); vendor = octetsOf 16 (fieldOf vendorField b) })) B
-      ∙ ap₂ (λ (p q : ℕ). done (record { kind = 0; a = p; b = q }) (record { coefficients = numberOctets (coefficientsOf T); vendor = octetsOf 16 (fieldOf vendorField T) }))
+      (record { coefficients = numberOctets (coefficientsOf b); vendor = octetsOf 16 (fieldOf vendorField b); reserved = octetsOf 9 (fieldOf reservedField b) })) B
+      ∙ ap₂ (λ (p q : ℕ). done (record { kind = 0; a = p; b = q })
+      (record { coefficients = numberOctets (coefficientsOf T); vendor = octetsOf 16 (fieldOf vendorField T); reserved = octetsOf 9 (fieldOf reservedField T) }))
       (a-back (c .count) cs (c .a) (c .b) (c .vendor) (f .count) n (f .vendor) (f .a)) (b-back (c .count) cs (c .a) (c .b) (c .vendor) (f .count) n (f .vendor) (f .b))
-      ∙ ap₂ (λ (p : List ℤ) (q : List ℕ). done (record { kind = 0; a = c .a; b = c .b }) (record { coefficients = numberOctets p; vendor = q }))
+      ∙ ap₂ (λ (p : List ℤ) (q : List ℕ). done (record { kind = 0; a = c .a; b = c .b })
+      (record { coefficients = numberOctets p; vendor = q; reserved = octetsOf 9 (fieldOf reservedField T) }))
       (used-back (c .count) cs (c .a) (c .b) (c .vendor) (f .count) n (f .vendor) (f .range)) (vendor-back (c .count) cs (c .a) (c .b) (c .vendor) (f .count) n (f .vendor) o)
+      ∙ ap (λ (q : List ℕ). done (record { kind = 0; a = c .a; b = c .b })
+      (record { coefficients = numberOctets (used (c .count) cs); vendor = c .vendor; reserved = q })) none-set
 
-  final-back : c .kind ≡ 1 → y .read (call (x .write c .memory)) ≡ done (record { kind = 1; a = 0; b = 0 }) (record { coefficients = room; vendor = c .vendor })
+  final-back : c .kind ≡ 1
+      → y .read (call (x .write c .memory)) ≡ done (record { kind = 1; a = 0; b = 0 }) (record { coefficients = room; vendor = c .vendor; reserved = s })
   final-back e =
       let l = lengths-fit c h .1 in
       let T = finalBits (c .vendor) in
       let F = octetsOf 529 T in
       let B : bitsOf F ≡ T = final-laid (c .vendor) l in
       let t = final-answers (c .vendor) l in
-      let r : Right (readChecks (call F)) = read-right (call F) lr (octets-length 529 T) lv (ap (λ (b : List ℕ). answer (bitRefusals b)) B ∙ t .0) in
+      let r : Right (readChecks (call F)) = read-right (call F) lr (octets-length 529 T) lv ls (ap (λ (b : List ℕ). answer (bitRefusals b)) B ∙ t .0) in
       ap (λ (m : Outcome None (List ℕ)). y .read (call (m .memory))) (ex .final c e h)
       ∙ ey .read-final (call F) r (ap (hasSync _) B ∙ t .1)
-      ∙ ap (λ (b : List ℕ). done (record { kind = 1; a = 0; b = 0 }) (record { coefficients = room; vendor = octetsOf 16 (fieldOf vendorField b) })) B
-      ∙ ap (λ (q : List ℕ). done (record { kind = 1; a = 0; b = 0 }) (record { coefficients = room; vendor = q })) (final-vendor (c .vendor) l o)
+      ∙ ap (λ (b : List ℕ). done (record { kind = 1; a = 0; b = 0 }) (record { coefficients = room; vendor = octetsOf 16 (fieldOf vendorField b); reserved = s })) B
+      ∙ ap (λ (q : List ℕ). done (record { kind = 1; a = 0; b = 0 }) (record { coefficients = room; vendor = q; reserved = s })) (final-vendor (c .vendor) l o)
 
 -- ---- scrambling
 
@@ -252,11 +260,11 @@ module _ (x : Library) (ex : Frames x) (c : WriteCall) (h : Right (writeChecks c
           (laid-out _ (subst Bits B (bits-bits _)) B (final-answers (c .vendor) l .0))
 
 module _ (x y : Library) (ex : Exact x) (ey : Exact y) where
-  whole-way : (c : WriteCall) (end state : ℕ) (line received coefficients vendor : List ℕ) → Right (writeChecks c) → end ≤ 1 → state < 2 ^ 23
-      → length line ≡ 529 → length received ≡ 529
-      → y .read (record { frame = overTheLine x y end state line received (x .write c .memory); coefficients = coefficients; vendor = vendor })
-      ≡ y .read (record { frame = x .write c .memory; coefficients = coefficients; vendor = vendor })
-  whole-way c end state line received coefficients vendor h he hs l m =
+  whole-way : (c : WriteCall) (end state : ℕ) (line received coefficients vendor reserved : List ℕ) → Right (writeChecks c) → end ≤ 1
+      → state < 2 ^ 23 → length line ≡ 529 → length received ≡ 529
+      → let reading : List ℕ → ReadCall = λ f. record { frame = f; coefficients = coefficients; vendor = vendor; reserved = reserved } in
+      y .read (reading (overTheLine x y end state line received (x .write c .memory))) ≡ y .read (reading (x .write c .memory))
+  whole-way c end state line received coefficients vendor reserved h he hs l m =
       let w = written-out x (ex .frames) c h in
       let call : FrameCall = record { end = end; state = state; frame = x .write c .memory; output = line } in
       let R = frameChecks call in
@@ -264,7 +272,7 @@ module _ (x y : Library) (ex : Exact x) (ey : Exact y) where
       passed 1 (drop 1 R) (ap not (eq-eqb _ _ (w .0))) ∙ passed 1 (drop 2 R) (ap not (eq-eqb _ _ l))
       ∙ passed 2 (drop 3 R) (le-ltb 1 end he) ∙ passed 4 (drop 4 R) (lt-leb (2 ^ 23) state hs)
       ∙ passed 6 [] (ap not (eq-eqb _ _ (sound (bitsOf (x .write c .memory)) (w .2) .clear))) in
-      ap (λ (o : Outcome None Line). y .read (record { frame = o .memory .output; coefficients = coefficients; vendor = vendor }))
+      ap (λ (o : Outcome None Line). y .read (record { frame = o .memory .output; coefficients = coefficients; vendor = vendor; reserved = reserved }))
       (frame-comes-back x y (ex .scrambling) (ey .scrambling) call received r (w .1) m)
 
 -- ---- the two sentences
@@ -272,8 +280,8 @@ module _ (x y : Library) (ex : Exact x) (ey : Exact y) where
 pub interwork : (x y : Library) → Exact x → Exact y → Back x y
 interwork x y ex ey =
     record {
-      training = λ c room v e h o l m. training-back x y (ex .frames) (ey .frames) c room v h o l m e;
-      final = λ c room v e h o l m. final-back x y (ex .frames) (ey .frames) c room v h o l m e;
+      training = λ c room v s e h o l m n. training-back x y (ex .frames) (ey .frames) c room v s h o l m n e;
+      final = λ c room v s e h o l m n. final-back x y (ex .frames) (ey .frames) c room v s h o l m n e;
       data-frames = data-interwork x y (ex .data-frames) (ey .data-frames);
       bit = bit-back x y (ex .scrambling) (ey .scrambling);
       run = run-back x y (ex .scrambling) (ey .scrambling);

@@ -10,6 +10,7 @@ pub mod Ours
 pub mod Refuted
 pub mod Rejected
 pub mod DataRejected
+pub mod ReservedRejected
 pub mod Follow
 pub mod Rebuilt
 pub mod WrongSteps

@@ -116,7 +116,7 @@ pub ordered : Ordered
 ordered = record {
   write = in-turn writeChecks (λ c. frame-write-order (c .kind) (c .count) (c .coefficients) (c .a) (c .b) (c .vendor) (c .frame));
   check = in-turn checkRefusals check-order;
-  read = in-turn readChecks (λ c. frame-read-order (c .frame) (c .coefficients) (c .vendor));
+  read = in-turn readChecks (λ c. frame-read-order (c .frame) (c .coefficients) (c .vendor) (c .reserved));
   data-write = λ c. data-write-order (c .form) (c .size) (c .sync) (overheadOf (c .overhead)) (c .payload) (c .frame);
   data-crc = λ c. data-crc-order (c .form) (c .size) (c .frame);
   data-check = λ c. data-check-order (c .form) (c .size) (c .sync) (c .next) (c .frame);
@@ -298,7 +298,8 @@ module _ (x : Library) (k : Keeps x) where
         let z = other (read-answer c) h in
         let m = k .read c refl .coefficients-left ∙ kept (answer (readChecks c)) _ _ z in
         let v = k .read c refl .vendor-left ∙ kept (answer (readChecks c)) _ _ z in
-        λ i. record { coefficients = m i; vendor = v i });
+        let s = k .read c refl .reserved-left ∙ kept (answer (readChecks c)) _ _ z in
+        λ i. record { coefficients = m i; vendor = v i; reserved = s i });
     data-write = data-write-is;
     data-crc = data-crc-is;
     data-check = data-answers (ordered .data-check) (λ c. k .data-check c refl .answered) (λ c h. only _) (λ c h. only _);

@@ -13,7 +13,7 @@ use Rattle.layout.specs.Refusals.{checkRefusals}
 use Rattle.numbers.specs.Promises.{numbersOf, numberOctets}
 use Rattle.writer.specs.Promises.{frameOctets}
 use Rattle.checker.proofs.Laws.{checked}
-use Rattle.reader.specs.Promises.{foundOf, vendorOctets}
+use Rattle.reader.specs.Promises.{foundOf, vendorOctets, reservedLeft}
 use Rattle.host.proofs.FrameLaws.{frame-written}
 use Rattle.scrambler.specs.Ends.{tapOf}
 use Rattle.scrambler.specs.Promises.{given, clocked, around}
@@ -71,8 +71,8 @@ ours = record {
         numbers = record { kind = f .kind; a = f .a; b = f .b };
         memory = record {
           coefficients = held n (c .coefficients) (coefficientOctets (bitsOf (c .frame)) (c .coefficients));
-          vendor = held n (c .vendor)
-              (vendorOctets (bitsOf (c .frame)));
+          vendor = held n (c .vendor) (vendorOctets (bitsOf (c .frame)));
+          reserved = held n (c .reserved) (reservedLeft (bitsOf (c .frame)) (c .reserved));
         };
       };
   data-write = writes;
@@ -172,7 +172,7 @@ unfolding ours
 ours-keep = record {
   write = λ c h. frame-written refl refl;
   check = λ f h. checked refl;
-  read = λ c h. record { found = refl; coefficients-left = refl; vendor-left = refl };
+  read = λ c h. record { found = refl; coefficients-left = refl; vendor-left = refl; reserved-left = refl };
   data-write = λ c h. writes-keep c;
   data-crc = λ c h. gives-keep c;
   data-check = λ c h. checks-keep c;

@@ -71,7 +71,8 @@ rebuilt p = record {
 -- what demand 1 asks of them
 pub record PartsAnswer (p : Parts) : Type 0 where
   pub write : Answers (p .write) writeChecks (λ c. c .frame) none
-  pub read : Answers (p .read) readChecks (λ c. record { coefficients = c .coefficients; vendor = c .vendor }) (record { kind = 0; a = 0; b = 0 })
+  pub read : Answers (p .read) readChecks (λ c. record { coefficients = c .coefficients; vendor = c .vendor; reserved = c .reserved })
+      (record { kind = 0; a = 0; b = 0 })
   pub data-write : Answers (p .data-write) dataWriteChecks (λ c. c .frame) 0
   pub data-read : Answers (p .data-read) dataReadChecks (λ c. c .payload) (overheadFor noOverhead)
   pub run : (way : Way) → Answers (p .run way) runChecks (λ c. record { state = c .state; output = c .output }) none

@@ -131,10 +131,10 @@ symbol-small (suc i) = zeros-small 3 i
 module _ (x : Library) (two : Two x) where
   -- what a final frame gives when it is read
   final-read : (v f room u : List ℕ) → length v ≡ 16 → length f ≡ 529 → Octets v → length room ≡ 720 → length u ≡ 16
-      → (x .read (record { frame = x .write (final v f) .memory; coefficients = room; vendor = u }) .answer ≡ 0)
-      × (x .read (record { frame = x .write (final v f) .memory; coefficients = room; vendor = u }) .memory .vendor ≡ v)
+      → (x .read (record { frame = x .write (final v f) .memory; coefficients = room; vendor = u; reserved = zeros 9 }) .answer ≡ 0)
+      × (x .read (record { frame = x .write (final v f) .memory; coefficients = room; vendor = u; reserved = zeros 9 }) .memory .vendor ≡ v)
   final-read v f room u l m o n k =
-      let e = two .back .final (final v f) room u refl (final-right v f l m) o n k in
+      let e = two .back .final (final v f) room u (zeros 9) refl (final-right v f l m) o n k refl in
       (ap (λ (r : Outcome Fields Rooms). r .answer) e, ap (λ (r : Outcome Fields Rooms). r .memory .vendor) e)
 
   written : (v f : List ℕ) → length v ≡ 16 → length f ≡ 529 → (x .write (final v f) .answer ≡ 0) × (x .write (final v f) .memory ≡ octetsOf 529 (finalBits v))
@@ -149,7 +149,7 @@ module _ (x : Library) (two : Two x) where
       let same = w .1 (final (zeros 16) (zeros 529)) (z .0) ∙ sym (w .1 (final one-first (zeros 529)) (u .0)) in
       differ 15
       (sym (final-read (zeros 16) (zeros 529) (zeros 720) (zeros 16) refl refl (zeros-small 16) refl refl .1)
-      ∙ ap (λ (f : List ℕ). x .read (record { frame = f; coefficients = zeros 720; vendor = zeros 16 }) .memory .vendor) same
+      ∙ ap (λ (f : List ℕ). x .read (record { frame = f; coefficients = zeros 720; vendor = zeros 16; reserved = zeros 9 }) .memory .vendor) same
       ∙ final-read one-first (zeros 529) (zeros 720) (zeros 16) refl refl one-small refl refl .1)
 
   frame-refuted : FrameUnwritten x → ⊥
@@ -165,13 +165,13 @@ module _ (x : Library) (two : Two x) where
 
   -- a training frame with A = 1 and B = 1 is read so, and its words' bits are 1 and twenty zeros
   trained : List ℕ → ReadCall
-  trained room = record { frame = x .write training .memory; coefficients = room; vendor = zeros 16 }
+  trained room = record { frame = x .write training .memory; coefficients = room; vendor = zeros 16; reserved = zeros 9 }
 
   read-trained : (room : List ℕ) → length room ≡ 720
       → x .read (trained room) ≡ done (record { kind = 0; a = 1; b = 1 })
-      (record { coefficients = numberOctets (used 128 (numbersOf (zeros 720))); vendor = zeros 16 })
+      (record { coefficients = numberOctets (used 128 (numbersOf (zeros 720))); vendor = zeros 16; reserved = zeros 9 })
   unfolding trained
-  read-trained room l = two .back .training training room (zeros 16) refl training-right (zeros-small 16) l refl
+  read-trained room l = two .back .training training room (zeros 16) (zeros 9) refl training-right (zeros-small 16) l refl refl
 
   first-octet : getD (numberOctets (used 128 (numbersOf (zeros 720)))) 0 0 ≡ 0
   unfolding numbersOf numbersIn signedOf bitsOf digitsOf valueOf numberOctets numberBits twosOf octetsOf

@@ -31,7 +31,7 @@ use Rattle.host.specs.Scrambling.{crossing, bitCrossing}
 use Rattle.host.specs.declared.frames.FrameFields.{FrameFields}
 use Rattle.host.specs.Frames.{fieldsOf, coefficientOctets}
 use Rattle.reader.specs.declared.Found.{Found}
-use Rattle.reader.specs.Promises.{foundOf, vendorOctets}
+use Rattle.reader.specs.Promises.{foundOf, vendorOctets, reservedOctets, reservedLeft}
 use Rattle.demands.specs.Handed.{Outcome, none, WriteCall, ReadCall, Fields, Rooms, BitCall, RunCall, FrameCall}
 use Rattle.demands.specs.Library.{Library}
 use Rattle.demands.specs.Contracts.{Keeps}
@@ -46,11 +46,11 @@ use Rattle.demands.proofs.Fit.{bit-fit}
 -- ---- frames
 
 -- what reading gives, by whether the frame is a training frame
-abbrev readAs : Bool → List ℕ → List ℕ → Outcome Fields Rooms
-readAs s bits old =
+abbrev readAs : Bool → List ℕ → List ℕ → List ℕ → Outcome Fields Rooms
+readAs s bits old reserved =
     let f : Found = cond s (record { answer = 0; kind = 0; a = valueOf (fieldOf aField bits); b = valueOf (fieldOf bField bits) }) (record { answer = 0; kind = 1; a = 0; b = 0 }) in
     done (record { kind = f .kind; a = f .a; b = f .b })
-    (record { coefficients = cond s (numberOctets (coefficientsOf bits)) old; vendor = vendorOctets bits })
+    (record { coefficients = cond s (numberOctets (coefficientsOf bits)) old; vendor = vendorOctets bits; reserved = cond s (reservedOctets bits) reserved })
 
 -- bits of octets
 part-of-bits : (s : List ℕ) (at n : ℕ) → Bits (part at n (bitsOf s))
@@ -86,17 +86,22 @@ module _ (x : Library) (k : Keeps x) where
 
   read-done : (c : ReadCall) → Right (readChecks c) → x .read c ≡ done
       (record { kind = foundOf 0 (bitsOf (c .frame)) .kind; a = foundOf 0 (bitsOf (c .frame)) .a; b = foundOf 0 (bitsOf (c .frame)) .b })
-      (record { coefficients = coefficientOctets (bitsOf (c .frame)) (c .coefficients); vendor = vendorOctets (bitsOf (c .frame)) })
+      (record {
+        coefficients = coefficientOctets (bitsOf (c .frame)) (c .coefficients);
+        vendor = vendorOctets (bitsOf (c .frame));
+        reserved = reservedLeft (bitsOf (c .frame)) (c .reserved);
+      })
   read-done c h =
       let e = k .read c refl .found ∙ ap (λ (n : ℕ). fieldsOf (foundOf n (bitsOf (c .frame)))) h in
       let m = k .read c refl .coefficients-left ∙ held-given _ _ _ h in
       let v = k .read c refl .vendor-left ∙ held-given _ _ _ h in
+      let s = k .read c refl .reserved-left ∙ held-given _ _ _ h in
       same (ap (λ (f : FrameFields). f .answer) e ∙ found-answer 0 (bitsOf (c .frame))) (λ i. record {
         kind =
             e i .kind;
         a = e i .a;
         b = e i .b;
-      }) (λ i. record { coefficients = m i; vendor = v i })
+      }) (λ i. record { coefficients = m i; vendor = v i; reserved = s i })
 
   pub frames : Frames x
   frames = record {
@@ -104,8 +109,8 @@ module _ (x : Library) (k : Keeps x) where
     final = write-final;
     check-bits = λ c h. k .write c refl .check-right (k .write c refl .answered ∙ h);
     checked = λ f h. same (k .check f refl .answered ∙ h) (only _) (only _);
-    read-training = λ c h t. read-done c h ∙ ap (λ (s : Bool). readAs s (bitsOf (c .frame)) (c .coefficients)) t;
-    read-final = λ c h t. read-done c h ∙ ap (λ (s : Bool). readAs s (bitsOf (c .frame)) (c .coefficients)) t;
+    read-training = λ c h t. read-done c h ∙ ap (λ (s : Bool). readAs s (bitsOf (c .frame)) (c .coefficients) (c .reserved)) t;
+    read-final = λ c h t. read-done c h ∙ ap (λ (s : Bool). readAs s (bitsOf (c .frame)) (c .coefficients) (c .reserved)) t;
   }
 
   -- ---- scrambling

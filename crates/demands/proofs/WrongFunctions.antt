@@ -1,12 +1,15 @@
 -- The libraries that have to be rejected, built: ours with one other function, which meet demand 1. Assumes nothing.
-use mathlib.Core.Path.{_≡_, refl, sym, ap, _∙_, subst}
-use mathlib.Core.Bool.{cond}
+use mathlib.Core.Path.{_≡_, refl, sym, ap, ap₂, _∙_, subst}
+use mathlib.Core.Bool.{Bool, true, false, cond, not, _&&_}
 use mathlib.Core.List.{List, [], _∷_, reverse}
 use Prim.Native.Nat.{ℕ, zero, suc, _≤_}
 use native.Mathlib.Omega.{arith}
+use borrow.Author.Tests.{eq-eqb, ne-eqb}
+use lib.Dec.{eqb}
 use lib.ListN.{length, getD, take, replicate}
 use lib.Seq.{length-take-le}
 use Rattle.answer.specs.Answer.{answer, held}
+use Rattle.answer.specs.Table.{inTable}
 use Rattle.answer.proofs.Laws.{kept, given as held-given}
 use Rattle.octets.specs.Bits.{valueOf, bitsOf, laid}
 use Rattle.octets.proofs.Digits.{Bits, take-bits}
@@ -29,7 +32,8 @@ use Rattle.demands.specs.Checks.{writeChecks, readChecks, runChecks, fra
 use Rattle.demands.specs.Frames.{Right}
 use Rattle.demands.specs.WrongLibraries.{OneFrame, FrameUnwritten, CoefficientsUnwritten, VendorUnwritten, RunUnwritten, WholeUnwritten}
 use Rattle.demands.specs.WrongLibraries.{HistoryUnwritten, CodesUnwritten, PrecodedUnwritten, DecodedUnwritten, CopiesTheRest, TurnsA, TurnsB}
-use Rattle.demands.specs.NoStrawMan.{Built, NoStrawMan}
+use Rattle.demands.specs.WrongReserved.{reservedNumber, TurnsAway, ReadsTheOthers, HandsZeros, ReservedUnwritten}
+use Rattle.demands.specs.NoStrawMan.{Built, OtherwiseAnswers, NoStrawMan}
 use Rattle.demands.proofs.One.{answers, ordered}
 use Rattle.demands.proofs.Two.{exact as exact-of}
 use Rattle.demands.proofs.Interwork.{laid-there, run-right}
@@ -105,8 +109,12 @@ withRead f = record {
   step = usual .step;
 }
 
+-- the rooms before reading
+abbrev as-it-was : ReadCall → Rooms
+as-it-was c = record { coefficients = c .coefficients; vendor = c .vendor; reserved = c .reserved }
+
 abbrev ReadAnswers : (ReadCall → Outcome Fields Rooms) → Type 0
-ReadAnswers f = Answers f readChecks (λ c. record { coefficients = c .coefficients; vendor = c .vendor }) (record { kind = 0; a = 0; b = 0 })
+ReadAnswers f = Answers f readChecks as-it-was (record { kind = 0; a = 0; b = 0 })
 
 read-one : (f : ReadCall → Outcome Fields Rooms) → ReadAnswers f → One (rebuilt (withRead f))
 read-one f a = rebuilt-one (withRead f) (record {
@@ -128,30 +136,112 @@ abbrev reading : (ReadCall → Fields) → (ReadCall → Rooms) → ReadCall →
 reading n m c = record { answer = ours .read c .answer; numbers = n c; memory = m c }
 
 reading-answers : (n : ReadCall → Fields) (m : ReadCall → Rooms) → ((c : ReadCall) → (ours .read c .answer ≡ 0 → ⊥) → n c ≡ record { kind = 0; a = 0; b = 0 })
-    → ((c : ReadCall) → (ours .read c .answer ≡ 0 → ⊥) → m c ≡ record { coefficients = c .coefficients; vendor = c .vendor }) → ReadAnswers (reading n m)
+    → ((c : ReadCall) → (ours .read c .answer ≡ 0 → ⊥) → m c ≡ as-it-was c) → ReadAnswers (reading n m)
 reading-answers n m h i = answers (ordered .read) (ours-one .read .first) h i
 
+-- a frame of kind 0 that it reads is a training frame
+training-known : (c : ReadCall) → Right (readChecks c) → ours .read c .numbers .kind ≡ 0 → hasSync trainingSync (bitsOf (c .frame)) ≡ true
+training-known c r e =
+    by-cases (hasSync trainingSync (bitsOf (c .frame))) (λ t. t)
+    (λ f. absurd (omega (arith, sym e ∙ ap (λ (o : Outcome Fields Rooms). o .numbers .kind) (exact-of ours ours-keep .frames .read-final c r f))))
+
+-- our reader with other rooms
+rooms-one : (m : ReadCall → Rooms) → ((c : ReadCall) → (ours .read c .answer ≡ 0 → ⊥) → m c ≡ as-it-was c)
+    → One (rebuilt (withRead (reading (λ c. ours .read c .numbers) m)))
+rooms-one m h =
+    read-one (reading (λ c. ours .read c .numbers) m) (reading-answers (λ c. ours .read c .numbers) m (ours-one .read .no-numbers) h)
+
 abbrev no-coefficients : ReadCall → Rooms
-no-coefficients c = record { coefficients = c .coefficients; vendor = ours .read c .memory .vendor }
+no-coefficients c = record { coefficients = c .coefficients; vendor = ours .read c .memory .vendor; reserved = ours .read c .memory .reserved }
 
 coefficients-built : Built CoefficientsUnwritten
 coefficients-built = (
   rebuilt (withRead (reading (λ c. ours .read c .numbers) no-coefficients)),
-  read-one (reading (λ c. ours .read c .numbers) no-coefficients) (reading-answers (λ c. ours .read c .numbers) no-coefficients (ours-one .read .no-numbers)
-      (λ c h. ap (λ (m : Rooms). record { coefficients = c .coefficients; vendor = m .vendor }) (ours-one .read .unchanged c h))),
+  rooms-one no-coefficients
+      (λ c h. ap (λ (m : Rooms). record { coefficients = c .coefficients; vendor = m .vendor; reserved = m .reserved }) (ours-one .read .unchanged c h)),
   λ c h. refl,
 )
 
 abbrev no-vendor : ReadCall → Rooms
-no-vendor c = record { coefficients = ours .read c .memory .coefficients; vendor = c .vendor }
+no-vendor c = record { coefficients = ours .read c .memory .coefficients; vendor = c .vendor; reserved = ours .read c .memory .reserved }
 
 vendor-built : Built VendorUnwritten
 vendor-built = (
   rebuilt (withRead (reading (λ c. ours .read c .numbers) no-vendor)),
-  read-one (reading (λ c. ours .read c .numbers) no-vendor) (reading-answers (λ c. ours .read c .numbers) no-vendor (ours-one .read .no-numbers)
-      (λ c h. ap (λ (m : Rooms). record { coefficients = m .coefficients; vendor = c .vendor }) (ours-one .read .unchanged c h))),
+  rooms-one no-vendor
+      (λ c h. ap (λ (m : Rooms). record { coefficients = m .coefficients; vendor = c .vendor; reserved = m .reserved }) (ours-one .read .unchanged c h)),
   λ c h. refl,
 )
+
+-- ---- the reader, and reserved bits
+
+abbrev no-reserved : ReadCall → Rooms
+no-reserved c = record { coefficients = ours .read c .memory .coefficients; vendor = ours .read c .memory .vendor; reserved = c .reserved }
+
+reserved-built : Built ReservedUnwritten
+reserved-built = (
+  rebuilt (withRead (reading (λ c. ours .read c .numbers) no-reserved)),
+  rooms-one no-reserved
+      (λ c h. ap (λ (m : Rooms). record { coefficients = m .coefficients; vendor = m .vendor; reserved = c .reserved }) (ours-one .read .unchanged c h)),
+  λ c h. refl,
+)
+
+-- nine zeros from a training frame, whatever its reserved bits are
+abbrev zeros-from : ReadCall → List ℕ
+zeros-from c = held (answer (readChecks c)) (c .reserved) (cond (hasSync trainingSync (bitsOf (c .frame))) (replicate 9 0) (c .reserved))
+
+abbrev hands-zeros : ReadCall → Rooms
+hands-zeros c = record { coefficients = ours .read c .memory .coefficients; vendor = ours .read c .memory .vendor; reserved = zeros-from c }
+
+hands-zeros-built : Built HandsZeros
+hands-zeros-built = (
+  rebuilt (withRead (reading (λ c. ours .read c .numbers) hands-zeros)),
+  rooms-one hands-zeros
+      (λ c h.
+      let e = ours-one .read .unchanged c h in
+      let z = kept (answer (readChecks c)) (c .reserved) _ (λ n. h (ours-one .read .first c ∙ n)) in
+      λ i. record { coefficients = e i .coefficients; vendor = e i .vendor; reserved = z i }),
+  λ c h e.
+      let r : Right (readChecks c) = sym (ours-one .read .first c) ∙ h in
+      held-given (answer (readChecks c)) (c .reserved) _ r ∙ ap (λ (t : Bool). cond t (replicate 9 0) (c .reserved)) (training-known c r e),
+)
+
+-- a training frame with a reserved bit set is refused with 7, and all else is read as ours reads it
+abbrev some-set : ReadCall → Bool
+some-set c = hasSync trainingSync (bitsOf (c .frame)) && not (eqb (reservedNumber c) 0)
+
+abbrev turned-away : ReadCall → Outcome Fields Rooms
+turned-away c = record { answer = 7; numbers = record { kind = 0; a = 0; b = 0 }; memory = as-it-was c }
+
+abbrev turns-away : ReadCall → Outcome Fields Rooms
+turns-away c = cond (some-set c) (turned-away c) (ours .read c)
+
+-- what holds of both holds of it
+either-way : (P : Outcome Fields Rooms → Type 0) (b : Bool) (f g : Outcome Fields Rooms) → P f → P g → P (cond b f g)
+either-way P true f g p q = p
+either-way P false f g p q = q
+
+none-set : (b : Bool) (n : ℕ) → n ≡ 0 → (b && not (eqb n 0)) ≡ false
+none-set true n z = ap not (eq-eqb n 0 z)
+none-set false n z = refl
+
+turns-away-built : (f : ReadCall → Outcome Fields Rooms) × TurnsAway f × ReadsTheOthers f × OtherwiseAnswers f as-it-was (record { kind = 0; a = 0; b = 0 })
+turns-away-built = (
+  turns-away,
+  λ c t n z. omega (arith, sym (ap (λ (b : Bool). cond b (turned-away c) (ours .read c) .answer) (ap₂ _&&_ t (ap not (ne-eqb (reservedNumber c) 0 n)))) ∙ z),
+  λ c r z.
+      ap (λ (b : Bool). cond b (turned-away c) (ours .read c) .answer) (none-set (hasSync trainingSync (bitsOf (c .frame))) (reservedNumber c) z)
+      ∙ ours-one .read .first c ∙ r,
+  record {
+    in-table = λ c. either-way (λ o. inTable (o .answer) ≡ true) (some-set c) (turned-away c) (ours .read c) refl (ours-one .read .in-table c);
+    no-numbers = λ c. either-way (λ o. (o .answer ≡ 0 → ⊥) → o .numbers ≡ record { kind = 0; a = 0; b = 0 }) (some-set c) (turned-away c) (ours .read c)
+        (λ h. refl) (ours-one .read .no-numbers c);
+    unchanged = λ c. either-way (λ o. (o .answer ≡ 0 → ⊥) → o .memory ≡ as-it-was c) (some-set c) (turned-away c) (ours .read c)
+        (λ h. refl) (ours-one .read .unchanged c);
+  },
+)
+
+-- ---- the reader, and A and B
 
 -- a word of a training frame, last bit first
 abbrev turned : List ℕ → ReadCall → ℕ
@@ -163,9 +253,7 @@ turned-none word c h = kept (answer (readChecks c)) 0 _ (λ e. h (ours-one .read
 turned-given : (word : List ℕ) (c : ReadCall) → ours .read c .answer ≡ 0 → ours .read c .numbers .kind ≡ 0 → turned word c ≡ valueOf (reverse word)
 turned-given word c h e =
     let r : Right (readChecks c) = sym (ours-one .read .first c) ∙ h in
-    held-given (answer (readChecks c)) 0 _ r
-    ∙ by-cases (hasSync trainingSync (bitsOf (c .frame))) (λ t. rw t)
-    (λ f. absurd (omega (arith, sym e ∙ ap (λ (o : Outcome Fields Rooms). o .numbers .kind) (exact-of ours ours-keep .frames .read-final c r f))))
+    held-given (answer (readChecks c)) 0 _ r ∙ ap (λ (t : Bool). cond t (valueOf (reverse word)) 0) (training-known c r e)
 
 abbrev turns-a : ReadCall → Fields
 turns-a c = record { kind = ours .read c .numbers .kind; a = turned (fieldOf aField (bitsOf (c .frame))) c; b = ours .read c .numbers .b }
@@ -459,6 +547,9 @@ no-straw-man = record {
   copies-the-rest = copies-built;
   turns-a = turns-a-built;
   turns-b = turns-b-built;
+  turns-away = turns-away-built;
+  hands-zeros = hands-zeros-built;
+  reserved-unwritten = reserved-built;
   one-data-frame = one-data-frame-built;
   data-frame-unwritten = data-frame-built;
   payload-unwritten = payload-built;

@@ -24,7 +24,7 @@ writeChecks c =
 
 -- of reading
 abbrev pub readChecks : ReadCall → List Refusal
-readChecks c = frameReadRefusals (c .frame) (c .coefficients) (c .vendor)
+readChecks c = frameReadRefusals (c .frame) (c .coefficients) (c .vendor) (c .reserved)
 
 -- of writing a data-mode frame
 abbrev pub dataWriteChecks : DataWriteCall → List Refusal

@@ -8,7 +8,7 @@ use lib.ListN.{getD}
 use Rattle.answer.specs.Answer.{Refusal, answer}
 use Rattle.octets.specs.Bits.{valueOf, bitsOf, octetsOf, laid}
 use Rattle.remainder.specs.Division.{Remainder, generator, polynomial}
-use Rattle.layout.specs.Places.{vendorLength, frameLength, aField, bField, vendorField, checkField}
+use Rattle.layout.specs.Places.{vendorLength, reservedLength, frameLength, aField, bField, vendorField, reservedField, checkField}
 use Rattle.layout.specs.Frame.{trainingSync, trainingBits, finalBits, fieldOf, messageOf, coefficientsOf}
 use Rattle.layout.specs.Refusals.{hasSync, checkRefusals}
 use Rattle.numbers.specs.Promises.{numbersOf, numberOctets}
@@ -43,16 +43,20 @@ pub record Frames (x : Library) : Type 0 where
   -- "Check bits: the remainder of bits 15 to 4211 as a polynomial, bit 15 highest, times D^16, divided by D^16 + D^12 + D^5 + 1"
   pub check-bits : (c : WriteCall) → Right (writeChecks c)
       → Remainder 16 generator (messageOf (bitsOf (x .write c .memory))) (polynomial (fieldOf checkField (bitsOf (x .write c .memory))))
-  -- "Reading a training frame gives 180 coefficients, A, B and vendor data."
+  -- "Reading a training frame gives 180 coefficients, A, B and vendor data", takes any reserved bits, "and hands the 67 back as nine octets"
   pub read-training : (c : ReadCall) → Right (readChecks c) → hasSync trainingSync (bitsOf (c .frame)) ≡ true
       → x .read c ≡ done (record { kind = 0; a = valueOf (fieldOf aField (bitsOf (c .frame))); b = valueOf (fieldOf bField (bitsOf (c .frame))) })
-      (record { coefficients = numberOctets (coefficientsOf (bitsOf (c .frame))); vendor = octetsOf vendorLength (fieldOf vendorField (bitsOf (c .frame))) })
+      (record {
+        coefficients = numberOctets (coefficientsOf (bitsOf (c .frame)));
+        vendor = octetsOf vendorLength (fieldOf vendorField (bitsOf (c .frame)));
+        reserved = octetsOf reservedLength (fieldOf reservedField (bitsOf (c .frame)));
+      })
   -- a frame to which no check applies is answered 0
   pub checked : (frame : List ℕ) → Right (checkRefusals frame) → x .check frame ≡ done none none
-  -- Reading a final frame "gives its kind and vendor data, and touches no coefficient buffer"
+  -- Reading a final frame "gives its kind and vendor data, and touches no coefficient buffer"; it "leaves those octets"
   pub read-final : (c : ReadCall) → Right (readChecks c) → hasSync trainingSync (bitsOf (c .frame)) ≡ false
       → x .read c ≡ done (record { kind = 1; a = 0; b = 0 })
-      (record { coefficients = c .coefficients; vendor = octetsOf vendorLength (fieldOf vendorField (bitsOf (c .frame))) })
+      (record { coefficients = c .coefficients; vendor = octetsOf vendorLength (fieldOf vendorField (bitsOf (c .frame))); reserved = c .reserved })
 
 -- SCRAMBLING (002, clause 7.1.6): what comes out stands where the input's bits stood, and "Output bits past the count stay." A state
 -- "holds the last 23 scrambled bits, newest at weight 1." Of a frame, bits 15 to 4,227 clock it; the sync bits pass, and the pad is zero

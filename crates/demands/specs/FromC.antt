@@ -73,7 +73,7 @@ abbrev pub fromC : Calls
 fromC = record {
   write = λ c. u32 (c .kind) && u32 (c .count) && buffer (c .coefficients) && u32 (c .a) && u32 (c .b) && buffer (c .vendor) && buffer (c .frame);
   check = λ frame. buffer frame;
-  read = λ c. buffer (c .frame) && buffer (c .coefficients) && buffer (c .vendor);
+  read = λ c. buffer (c .frame) && buffer (c .coefficients) && buffer (c .vendor) && buffer (c .reserved);
   data-write = λ c. u32 (c .form) && u32 (c .size) && u32 (c .sync) && overhead (c .overhead) && buffer (c .payload) && buffer (c .frame);
   data-crc = λ c. u32 (c .form) && u32 (c .size) && buffer (c .frame);
   data-check = λ c. u32 (c .form) && u32 (c .size) && u32 (c .sync) && u32 (c .next) && buffer (c .frame);

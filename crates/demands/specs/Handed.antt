@@ -24,11 +24,12 @@ pub record WriteCall : Type 0 where
   pub vendor : List ℕ
   pub frame : List ℕ
 
--- sdsl_frame_read: a frame, room for the coefficients' octets and for vendor data
+-- sdsl_frame_read: a frame, room for the coefficients' octets, for vendor data and for the reserved bits
 pub record ReadCall : Type 0 where
   pub frame : List ℕ
   pub coefficients : List ℕ
   pub vendor : List ℕ
+  pub reserved : List ℕ
 
 -- the numbers that reading gives
 pub record Fields : Type 0 where
@@ -36,10 +37,11 @@ pub record Fields : Type 0 where
   pub a : ℕ
   pub b : ℕ
 
--- the two rooms that reading fills
+-- the three rooms that reading fills
 pub record Rooms : Type 0 where
   pub coefficients : List ℕ
   pub vendor : List ℕ
+  pub reserved : List ℕ
 
 -- sdsl_scramble_bit and sdsl_descramble_bit
 pub record BitCall : Type 0 where

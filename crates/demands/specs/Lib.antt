@@ -17,6 +17,8 @@ pub mod Two
 pub mod Three
 pub mod WrongLibraries
 pub mod WrongData
+pub mod WrongReserved
 pub mod WrongSupervisors
 pub mod NoStrawMan
+pub mod Unused
 pub mod Follow

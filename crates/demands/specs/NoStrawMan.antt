@@ -3,13 +3,14 @@ use mathlib.Core.Path.{_≡_}
 use mathlib.Core.Bool.{true}
 use Rattle.answer.specs.Table.{inTable}
 use Rattle.recurrence.specs.Run.{Way}
-use Rattle.demands.specs.Handed.{Outcome}
+use Rattle.demands.specs.Handed.{Outcome, ReadCall, Fields, Rooms}
 use Rattle.demands.specs.Library.{Library}
 use Rattle.demands.specs.One.{One}
 use Rattle.demands.specs.Three.{supervisor}
 use Rattle.demands.specs.WrongLibraries.{Refuses, OneFrame, FrameUnwritten, CoefficientsUnwritten, VendorUnwritten, RunUnwritten, WholeUnwritten}
 use Rattle.demands.specs.WrongLibraries.{HistoryUnwritten, CodesUnwritten, PrecodedUnwritten, DecodedUnwritten, CopiesTheRest, TurnsA, TurnsB}
 use Rattle.demands.specs.WrongData.{OneDataFrame, DataFrameUnwritten, PayloadUnwritten, OwnSix}
+use Rattle.demands.specs.WrongReserved.{TurnsAway, ReadsTheOthers, HandsZeros, ReservedUnwritten}
 use Rattle.demands.specs.WrongSupervisors.{MovesOnce, NeverOpens, CallsException, SameTicks, CountsCodes, GivesUp, EndsTooLate}
 
 -- such a version that meets demand 1
@@ -38,6 +39,11 @@ pub record NoStrawMan : Type 1 where
   pub copies-the-rest : Built CopiesTheRest
   pub turns-a : Built TurnsA
   pub turns-b : Built TurnsB
+  -- this one too cannot meet "None is given otherwise"; it meets the rest, and reads every frame with its reserved bits zero
+  pub turns-away : (f : ReadCall → Outcome Fields Rooms) × TurnsAway f × ReadsTheOthers f
+      × OtherwiseAnswers f (λ c. record { coefficients = c .coefficients; vendor = c .vendor; reserved = c .reserved }) (record { kind = 0; a = 0; b = 0 })
+  pub hands-zeros : Built HandsZeros
+  pub reserved-unwritten : Built ReservedUnwritten
   pub one-data-frame : Built OneDataFrame
   pub data-frame-unwritten : Built DataFrameUnwritten
   pub payload-unwritten : Built PayloadUnwritten

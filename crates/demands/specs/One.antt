@@ -69,7 +69,8 @@ pub record Ordered : Type 0 where
 pub record One (x : Library) : Type 0 where
   pub write : Answers (x .write) writeChecks (λ c. c .frame) none
   pub check : Answers (x .check) checkRefusals (λ c. none) none
-  pub read : Answers (x .read) readChecks (λ c. record { coefficients = c .coefficients; vendor = c .vendor }) (record { kind = 0; a = 0; b = 0 })
+  pub read : Answers (x .read) readChecks (λ c. record { coefficients = c .coefficients; vendor = c .vendor; reserved = c .reserved })
+      (record { kind = 0; a = 0; b = 0 })
   pub data-write : Answers (x .data-write) dataWriteChecks (λ c. c .frame) 0
   pub data-crc : Answers (x .data-crc) dataCrcChecks (λ c. none) (record { carried = 0; due = 0 })
   pub data-check : Answers (x .data-check) dataCheckChecks (λ c. none) none

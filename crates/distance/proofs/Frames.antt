@@ -39,14 +39,14 @@ module _ (frame frame′ : List ℕ) (l : length frame′ ≡ 529)
   pub changed-checked : (r : ℕ) → Checked frame′ r → r ≡ 7
   changed-checked r g = g .answered ∙ passed 1 (bitRefusals (bitsOf frame′)) (ap not (eq-eqb _ _ l)) ∙ bits-answer
 
-  pub changed-read : (room room′ : List ℤ) (octets octets′ : List ℕ) (r : Found) → length room ≡ 180 → length octets ≡ 16
-      → Read frame′ room octets r room′ octets′ → r ≡ foundOf 7 (bitsOf frame′)
-  changed-read room room′ octets octets′ r lr lo g =
-      let R = readRefusals frame′ room octets in
+  pub changed-read : (room room′ : List ℤ) (octets octets′ reserved reserved′ : List ℕ) (r : Found) → length room ≡ 180 → length octets ≡ 16
+      → length reserved ≡ 9 → Read frame′ room octets reserved r room′ octets′ reserved′ → r ≡ foundOf 7 (bitsOf frame′)
+  changed-read room room′ octets octets′ reserved reserved′ r lr lo ls g =
+      let R = readRefusals frame′ room octets reserved in
       g .found
       ∙ ap (λ (n : ℕ). foundOf n (bitsOf frame′))
       (passed 1 (drop 1 R) (ap not (eq-eqb _ _ l)) ∙ passed 1 (drop 2 R) (ap not (eq-eqb _ _ lr))
-      ∙ passed 1 (drop 3 R) (ap not (eq-eqb _ _ lo)) ∙ bits-answer)
+      ∙ passed 1 (drop 3 R) (ap not (eq-eqb _ _ lo)) ∙ passed 1 (drop 4 R) (ap not (eq-eqb _ _ ls)) ∙ bits-answer)
 
 -- ---- one bit turned over
 

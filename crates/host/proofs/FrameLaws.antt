@@ -20,7 +20,7 @@ use Rattle.numbers.proofs.Laws.{put-whole}
 use Rattle.writer.specs.Promises.{frameOctets}
 use Rattle.writer.proofs.Promise.{written}
 use Rattle.reader.specs.declared.Found.{Found}
-use Rattle.reader.specs.Promises.{foundOf, coefficientsLeft, vendorOctets, Read}
+use Rattle.reader.specs.Promises.{foundOf, coefficientsLeft, vendorOctets, reservedLeft, Read}
 use Rattle.host.specs.Frames.{FrameWritten, frameReadRefusals, fieldsOf, coefficientOctets, FrameRead}
 
 -- ---- writing
@@ -62,13 +62,13 @@ found-answer : (n : ℕ) (B : List ℕ) → foundOf n B .answer ≡ n
 found-answer zero B = by-answer (hasSync trainingSync B) B
 found-answer (suc n) B = refl
 
-module _ (frame os vendor : List ℕ) (cs cs′ : List ℤ) (vendor′ : List ℕ) (f : Found) (l : length os ≡ 720) (n : length cs ≡ 180)
-    (p : Read frame cs vendor f cs′ vendor′) where
+module _ (frame os vendor reserved : List ℕ) (cs cs′ : List ℤ) (vendor′ reserved′ : List ℕ) (f : Found) (l : length os ≡ 720) (n : length cs ≡ 180)
+    (p : Read frame cs vendor reserved f cs′ vendor′ reserved′) where
   abbrev A : ℕ
-  A = answer (readRefusals frame cs vendor)
+  A = answer (readRefusals frame cs vendor reserved)
 
   abbrev H : ℕ
-  H = answer (frameReadRefusals frame os vendor)
+  H = answer (frameReadRefusals frame os vendor reserved)
 
   abbrev B : List ℕ
   B = bitsOf frame
@@ -79,16 +79,17 @@ module _ (frame os vendor : List ℕ) (cs cs′ : List ℤ) (vendor′ : List �
   answer-is : f .answer ≡ A
   answer-is = ap (λ (x : Found). x .answer) (p .found) ∙ found-answer A B
 
-  -- what is returned, and vendor data
-  out : (os′ : List ℕ) → os′ ≡ held H os (coefficientOctets B os) → FrameRead frame os vendor (fieldsOf f) os′ vendor′
+  -- what is returned, vendor data and reserved bits
+  out : (os′ : List ℕ) → os′ ≡ held H os (coefficientOctets B os) → FrameRead frame os vendor reserved (fieldsOf f) os′ vendor′ reserved′
   out os′ e =
       record {
         found = ap fieldsOf (p .found ∙ ap (λ (k : ℕ). foundOf k B) same);
         coefficients-left = e;
         vendor-left = p .vendor-left ∙ ap (λ (k : ℕ). held k vendor (vendorOctets B)) same;
+        reserved-left = p .reserved-left ∙ ap (λ (k : ℕ). held k reserved (reservedLeft B reserved)) same;
       }
 
-  pub refused-out : (f .answer ≡ 0 → ⊥) → FrameRead frame os vendor (fieldsOf f) os vendor′
+  pub refused-out : (f .answer ≡ 0 → ⊥) → FrameRead frame os vendor reserved (fieldsOf f) os vendor′ reserved′
   refused-out z = out os (sym (kept H os (coefficientOctets B os) (λ e. z (answer-is ∙ same ∙ e))))
 
   module _ (z : f .answer ≡ 0) where
@@ -102,7 +103,8 @@ module _ (frame os vendor : List ℕ) (cs cs′ : List ℤ) (vendor′ : List �
     left-is t e =
         given H os (coefficientOctets B os) (sym same ∙ zero-answer) ∙ ap (λ (k : Bool). cond k (numberOctets (coefficientsOf B)) os) e
 
-    pub training-out : (os′ : List ℕ) → f .kind ≡ 0 → NumbersPut os cs′ os′ → FrameRead frame os vendor (fieldsOf f) os′ vendor′
+    pub training-out : (os′ : List ℕ) → f .kind ≡ 0 → NumbersPut os cs′ os′
+        → FrameRead frame os vendor reserved (fieldsOf f) os′ vendor′ reserved′
     training-out os′ k e =
         let t : hasSync trainingSync B ≡ true = by-training (hasSync trainingSync B) B (sym (ap (λ (x : Found). x .kind) found-is) ∙ k) in
         let c : cs′ ≡ coefficientsOf B =
@@ -111,6 +113,6 @@ module _ (frame os vendor : List ℕ) (cs cs′ : List ℤ) (vendor′ : List �
         let filled = put-whole os l (coefficientsOf B) (numbers-length 22 180 (fieldOf coefficientsField B)) in
         out os′ (put ∙ filled ∙ sym (left-is true t))
 
-    pub final-out : (f .kind ≡ 0 → ⊥) → FrameRead frame os vendor (fieldsOf f) os vendor′
+    pub final-out : (f .kind ≡ 0 → ⊥) → FrameRead frame os vendor reserved (fieldsOf f) os vendor′ reserved′
     final-out k =
         out os (sym (left-is false (by-final (hasSync trainingSync B) B (λ e. k (ap (λ (x : Found). x .kind) found-is ∙ e)))))

@@ -43,13 +43,17 @@ module _ (kind count : ℕ) (os : List ℕ) (a b : ℕ) (vendor frame : List ℕ
   unfolding inOrder
   frame-write-order = refl
 
-module _ (frame os vendor : List ℕ) where
-  pub sdsl-frame-read-one : (r r′ : FrameFields) (d d′ v v′ : List ℕ) → FrameRead frame os vendor r d v → FrameRead frame os vendor r′ d′ v′
-      → (r ≡ r′) × (d ≡ d′) × (v ≡ v′)
-  sdsl-frame-read-one r r′ d d′ v v′ p q =
-      (p .found ∙ sym (q .found), p .coefficients-left ∙ sym (q .coefficients-left), p .vendor-left ∙ sym (q .vendor-left))
+module _ (frame os vendor reserved : List ℕ) where
+  pub sdsl-frame-read-one : (r r′ : FrameFields) (d d′ v v′ s s′ : List ℕ) → FrameRead frame os vendor reserved r d v s
+      → FrameRead frame os vendor reserved r′ d′ v′ s′ → (r ≡ r′) × (d ≡ d′) × (v ≡ v′) × (s ≡ s′)
+  sdsl-frame-read-one r r′ d d′ v v′ s s′ p q = (
+    p .found ∙ sym (q .found),
+    p .coefficients-left ∙ sym (q .coefficients-left),
+    p .vendor-left ∙ sym (q .vendor-left),
+    p .reserved-left ∙ sym (q .reserved-left),
+  )
 
-  pub frame-read-order : inOrder 1 (frameReadRefusals frame os vendor) ≡ true
+  pub frame-read-order : inOrder 1 (frameReadRefusals frame os vendor reserved) ≡ true
   unfolding inOrder
   frame-read-order = refl
 

@@ -3,7 +3,7 @@ use mathlib.Core.Path.{_≡_}
 use mathlib.Core.Bool.{cond}
 use mathlib.Core.List.{List, _∷_}
 use Prim.Native.Nat.{ℕ}
-use Rattle.layout.specs.Places.{vendorLength, frameLength}
+use Rattle.layout.specs.Places.{vendorLength, reservedLength, frameLength}
 use Rattle.answer.specs.Answer.{Refusal, wrongLength, answer, held}
 use Rattle.octets.specs.Bits.{bitsOf}
 use Rattle.layout.specs.Frame.{trainingSync, coefficientsOf}
@@ -11,7 +11,7 @@ use Rattle.layout.specs.Refusals.{hasSync, RightCheck, writeRefusals, bitRefusa
 use Rattle.numbers.specs.Promises.{coefficientsLength, numbersOf, numberOctets}
 use Rattle.writer.specs.Promises.{frameOctets}
 use Rattle.reader.specs.declared.Found.{Found}
-use Rattle.reader.specs.Promises.{foundOf, vendorOctets}
+use Rattle.reader.specs.Promises.{foundOf, vendorOctets, reservedLeft}
 use Rattle.host.specs.declared.frames.FrameFields.{FrameFields}
 
 -- sdsl_frame_write: the answer, and the frame written, or as it was; the check bits of what was written are the remainder of its message
@@ -21,9 +21,10 @@ pub record FrameWritten (kind count : ℕ) (os : List ℕ) (a b : ℕ) (vendor f
   pub check-right : r ≡ 0 → RightCheck (bitsOf exit)
 
 -- reading refuses a wrong length before anything else
-abbrev pub frameReadRefusals : List ℕ → List ℕ → List ℕ → List Refusal
-frameReadRefusals frame os vendor =
-    wrongLength os coefficientsLength ∷ wrongLength frame frameLength ∷ wrongLength vendor vendorLength ∷ bitRefusals (bitsOf frame)
+abbrev pub frameReadRefusals : List ℕ → List ℕ → List ℕ → List ℕ → List Refusal
+frameReadRefusals frame os vendor reserved =
+    wrongLength os coefficientsLength ∷ wrongLength frame frameLength ∷ wrongLength vendor vendorLength ∷ wrongLength reserved reservedLength
+    ∷ bitRefusals (bitsOf frame)
 
 -- the same four numbers, as they cross
 abbrev pub fieldsOf : Found → FrameFields
@@ -33,8 +34,9 @@ fieldsOf f = record { answer = f .answer; kind = f .kind; a = f .a; b = f .b }
 abbrev pub coefficientOctets : List ℕ → List ℕ → List ℕ
 coefficientOctets bits old = cond (hasSync trainingSync bits) (numberOctets (coefficientsOf bits)) old
 
--- sdsl_frame_read: what is returned, and what the two lent buffers hold
-pub record FrameRead (frame os vendor : List ℕ) (r : FrameFields) (os′ vendor′ : List ℕ) : Type 0 where
-  pub found : r ≡ fieldsOf (foundOf (answer (frameReadRefusals frame os vendor)) (bitsOf frame))
-  pub coefficients-left : os′ ≡ held (answer (frameReadRefusals frame os vendor)) os (coefficientOctets (bitsOf frame) os)
-  pub vendor-left : vendor′ ≡ held (answer (frameReadRefusals frame os vendor)) vendor (vendorOctets (bitsOf frame))
+-- sdsl_frame_read: what is returned, and what the three lent buffers hold
+pub record FrameRead (frame os vendor reserved : List ℕ) (r : FrameFields) (os′ vendor′ reserved′ : List ℕ) : Type 0 where
+  pub found : r ≡ fieldsOf (foundOf (answer (frameReadRefusals frame os vendor reserved)) (bitsOf frame))
+  pub coefficients-left : os′ ≡ held (answer (frameReadRefusals frame os vendor reserved)) os (coefficientOctets (bitsOf frame) os)
+  pub vendor-left : vendor′ ≡ held (answer (frameReadRefusals frame os vendor reserved)) vendor (vendorOctets (bitsOf frame))
+  pub reserved-left : reserved′ ≡ held (answer (frameReadRefusals frame os vendor reserved)) reserved (reservedLeft (bitsOf frame) reserved)

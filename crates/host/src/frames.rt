@@ -42,14 +42,16 @@ pub extern "C" fn sdsl_frame_check(frame: &[u8]) -> u32
     checker::check(frame)
 }
 
-// Reads a frame: its kind, and into lent memory vendor data and, of a training frame, the coefficients.
+// Reads a frame: its kind, and into lent memory vendor data and, of a training frame, the coefficients and the reserved bits.
 #[no_mangle]
 pub extern "C" fn sdsl_frame_read(
     frame: &[u8],
     coefficients: &mut [u8],
     vendor: &mut [u8],
+    reserved: &mut [u8],
 ) -> FrameFields
-    ensures { λ r. ⌜ FrameRead (now (frame .entry)) (now (coefficients .entry)) (now (vendor .entry)) r (now (coefficients .exit)) (now (vendor .exit)) ⌝ }
+    ensures { λ r. ⌜ FrameRead (now (frame .entry)) (now (coefficients .entry)) (now (vendor .entry)) (now (reserved .entry)) r
+        (now (coefficients .exit)) (now (vendor .exit)) (now (reserved .exit)) ⌝ }
 {
     if coefficients.len() != COEFFICIENT_OCTETS {
         return FrameFields {
@@ -60,7 +62,7 @@ pub extern "C" fn sdsl_frame_read(
         };
     }
     let mut cs = [0i32; 180];
-    let found = reader::read(frame, &mut cs, vendor);
+    let found = reader::read(frame, &mut cs, vendor, reserved);
     if found.answer == answer::DONE {
         if found.kind == layout::TRAINING {
             numbers::put_numbers(coefficients, &cs);

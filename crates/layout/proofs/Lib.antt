@@ -5,3 +5,4 @@ pub mod Order
 pub mod RoundTrip
 pub mod OneBit
 pub mod Check
+pub mod Reserved

@@ -15,6 +15,6 @@ pub check-order : (frame : List ℕ) → inOrder 1 (checkRefusals frame) ≡ tru
 unfolding inOrder
 check-order frame = refl
 
-pub read-order : (frame : List ℕ) (cs : List ℤ) (vendor : List ℕ) → inOrder 1 (readRefusals frame cs vendor) ≡ true
+pub read-order : (frame : List ℕ) (cs : List ℤ) (vendor reserved : List ℕ) → inOrder 1 (readRefusals frame cs vendor reserved) ≡ true
 unfolding inOrder
-read-order frame cs vendor = refl
+read-order frame cs vendor reserved = refl

@@ -1,7 +1,7 @@
--- What is written is read back; what is read with answer 0 is what writing its fields gives; a final frame's payload is free. All over
--- the definitions. Assumes nothing.
+-- What is written is read back; what is read with answer 0, its reserved bits zero, is what writing its fields gives; any message under its own
+-- check bits answers 0. All over the definitions. Assumes nothing.
 use mathlib.Core.Path.{_≡_, refl, sym, ap, ap₂, _∙_}
-use mathlib.Core.Bool.{Bool, true, false, not, _&&_, _||_}
+use mathlib.Core.Bool.{Bool, true, false, _||_}
 use mathlib.Core.List.{List, [], _∷_, _++_, reverse, reverse-reverse}
 use Prim.Native.Nat.{ℕ, zero, _+_, _^_, _≤_, _<_}
 use native.Mathlib.Nat.{mod-eq-of-lt}
@@ -12,12 +12,12 @@ use lib.IntN.{ℤ, pos}
 use lib.ListN.{length, getD, take, drop, replicate, length-drop, length-replicate, length-reverse}
 use lib.Seq.{take-all, length-take-le}
 use lib.Signed.{mag}
-use Rattle.answer.specs.Answer.{answer, refuse}
+use Rattle.answer.specs.Answer.{answer}
 use Rattle.answer.proofs.Laws.{none}
 use Rattle.octets.specs.Bits.{digitsOf, valueOf, bitsOf, octetsOf, part}
 use Rattle.octets.specs.Signed.{numbersIn}
 use Rattle.octets.proofs.Digits.{Bits, digits-value, value-digits, value-one, take-bits, drop-bits, zeros-bits, zeros-value, reverse-bits}
-use Rattle.octets.proofs.Laws.{Octets, bits-octets, octets-bits}
+use Rattle.octets.proofs.Laws.{Octets, bits-octets, octets-bits, octets-length}
 use Rattle.octets.proofs.Numbers.{numbers-length, numbers-back, numbers-again}
 use Rattle.places.proofs.Fields.{span-split, span-fields, span-all}
 use Rattle.remainder.specs.Division.{polynomial, checkBits, generator}
@@ -25,7 +25,7 @@ use Rattle.remainder.proofs.Division.{exists}
 use Rattle.remainder.proofs.Errors.{check-value, generator-degree}
 use Rattle.layout.specs.Places.{widths, syncField, coefficientsField, aField, bField, vendorField, reservedField, checkField, padField}
 use Rattle.layout.specs.Frame.{trainingSync, finalSync, coefficientBits, used, message, checkOf, frameBits, trainingBits, finalBits, fieldOf}
-use Rattle.layout.specs.Frame.{messageOf, coefficientsOf}
+use Rattle.layout.specs.Frame.{syncWord, messageOf, coefficientsOf}
 use Rattle.ranges.specs.Ranges.{isCoefficient, every}
 use Rattle.ranges.proofs.Laws.{mag-at}
 use Rattle.layout.specs.Refusals.{hasSync, bitRefusals}
@@ -52,9 +52,8 @@ module _ (word m : List ℕ) (s : length word ≡ 14) (l : length m ≡ 4197) (b
   unfolding valueOf
   pad-clear = ap valueOf (pad-field word m s l)
 
-  -- what is answered turns on the sync word and the reserved bits alone
-  pub answer-is : (hasSync trainingSync F || hasSync finalSync F) ≡ true
-      → answer (bitRefusals F) ≡ answer (refuse 8 (hasSync trainingSync F && not (eqb (valueOf (fieldOf reservedField F)) 0)) ∷ [])
+  -- what is answered turns on the sync word alone
+  answer-is : (hasSync trainingSync F || hasSync finalSync F) ≡ true → answer (bitRefusals F) ≡ 0
   answer-is k = simp k (simp (eq-eqb _ _ pad-clear, eq-eqb _ _ check-right))
 
 final-other : eqb (valueOf finalSync) (valueOf trainingSync) ≡ false
@@ -64,29 +63,35 @@ final-other = refl
 same : (n : ℕ) → eqb n n ≡ true
 same n = eq-eqb n n refl
 
-or-true : (t : Bool) → (t || true) ≡ true
-or-true true = refl
-or-true false = refl
+word-length : (t : Bool) → length (syncWord t) ≡ 14
+word-length true = training-length
+word-length false = final-length
 
-module _ (m : List ℕ) (l : length m ≡ 4197) (bm : Bits m) where
-  -- a final frame with arbitrary payload and right check bits answers 0, and is known as final
-  pub final-free : (answer (bitRefusals (frameBits finalSync m)) ≡ 0) × (hasSync trainingSync (frameBits finalSync m) ≡ false)
-  final-free =
-      let F = frameBits finalSync m in
-      let e = sync-field finalSync m final-length l in
-      let t : hasSync trainingSync F ≡ false = ap (λ (x : List ℕ). eqb (valueOf x) (valueOf trainingSync)) e ∙ final-other in
-      let f : hasSync finalSync F ≡ true = ap (λ (x : List ℕ). eqb (valueOf x) (valueOf finalSync)) e ∙ same (valueOf finalSync) in
-      let k : (hasSync trainingSync F || hasSync finalSync F) ≡ true = ap (λ (b : Bool). hasSync trainingSync F || b) f ∙ or-true (hasSync trainingSync F) in
-      (answer-is finalSync m final-length l final-bits bm k ∙ simp t, t)
+word-bits : (t : Bool) → Bits (syncWord t)
+word-bits true = training-bits
+word-bits false = final-bits
 
-  -- a training frame answers 0 where its reserved bits are zero
-  pub training-clear : valueOf (fieldOf reservedField (frameBits trainingSync m)) ≡ 0
-      → (answer (bitRefusals (frameBits trainingSync m)) ≡ 0) × (hasSync trainingSync (frameBits trainingSync m) ≡ true)
-  training-clear z =
-      let F = frameBits trainingSync m in
-      let t : hasSync trainingSync F ≡ true =
-      ap (λ (x : List ℕ). eqb (valueOf x) (valueOf trainingSync)) (sync-field trainingSync m training-length l) ∙ same (valueOf trainingSync) in
-      (answer-is trainingSync m training-length l training-bits bm (ap (λ (b : Bool). b || hasSync finalSync F) t) ∙ simp (t, eq-eqb _ _ z), t)
+-- the word tells the kind, and is one of the two
+word-known : (t : Bool) → (eqb (valueOf (syncWord t)) (valueOf trainingSync) ≡ t)
+    × ((eqb (valueOf (syncWord t)) (valueOf trainingSync) || eqb (valueOf (syncWord t)) (valueOf finalSync)) ≡ true)
+word-known true = (same (valueOf trainingSync), ap (λ (b : Bool). b || eqb (valueOf trainingSync) (valueOf finalSync)) (same (valueOf trainingSync)))
+word-known false = (final-other, ap₂ _||_ final-other (same (valueOf finalSync)))
+
+-- ANY MESSAGE under its own check bits answers 0, behind either sync word, and is known by that word: reserved bits may be any, and so may
+-- all of a final frame's payload
+module _ (t : Bool) (m : List ℕ) (l : length m ≡ 4197) (bm : Bits m) where
+  pub free : (answer (bitRefusals (frameBits (syncWord t) m)) ≡ 0) × (hasSync trainingSync (frameBits (syncWord t) m) ≡ t)
+  free =
+      let e = ap valueOf (sync-field (syncWord t) m (word-length t) l) in
+      let k = word-known t in (
+        answer-is (syncWord t) m (word-length t) l (word-bits t) bm
+            (ap (λ (v : ℕ). eqb v (valueOf trainingSync) || eqb v (valueOf finalSync)) e ∙ k .1),
+        ap (λ (v : ℕ). eqb v (valueOf trainingSync)) e ∙ k .0,
+      )
+
+  -- in octets too
+  pub free-laid : bitsOf (octetsOf 529 (frameBits (syncWord t) m)) ≡ frameBits (syncWord t) m
+  free-laid = laid-in (syncWord t) m (word-length t) l (word-bits t) bm
 
 -- ---- coefficients there and back
 
@@ -120,9 +125,7 @@ module _ (count : ℕ) (cs : List ℤ) (a b : ℕ) (v : List ℕ) (n : count ≤
 
   pub training-answers : (answer (bitRefusals T) ≡ 0) × (hasSync trainingSync T ≡ true)
   unfolding trainingBits
-  training-answers =
-      training-clear M M-length M-bits
-      (ap valueOf (reserved-field U a b v (replicate 67 0) U-length lv refl trainingSync training-length) ∙ zeros-value 67)
+  training-answers = free true M M-length M-bits
 
   -- a field that holds a word's digits gives the word back
   word-back : (k w : ℕ) → fieldOf k T ≡ digitsOf 21 w → w ≤ 2097151 → valueOf (fieldOf k T) ≡ w
@@ -141,6 +144,10 @@ module _ (count : ℕ) (cs : List ℤ) (a b : ℕ) (v : List ℕ) (n : count ≤
   vendor-back h =
       ap (octetsOf 16) (vendor-field U a b v (replicate 67 0) U-length lv refl trainingSync training-length)
       ∙ ap (λ (k : ℕ). octetsOf k (bitsOf v)) (sym lv) ∙ octets-bits v h
+
+  pub reserved-back : fieldOf reservedField T ≡ replicate 67 0
+  unfolding trainingBits
+  reserved-back = reserved-field U a b v (replicate 67 0) U-length lv refl trainingSync training-length
 
   pub used-back : every isCoefficient (take count cs) ≡ true → coefficientsOf T ≡ U
   unfolding trainingBits
@@ -169,7 +176,7 @@ module _ (v : List ℕ) (lv : length v ≡ 16) where
 
   pub final-answers : (answer (bitRefusals (finalBits v)) ≡ 0) × (hasSync trainingSync (finalBits v) ≡ false)
   unfolding finalBits
-  final-answers = final-free N N-length N-bits
+  final-answers = free false N N-length N-bits
 
   pub final-vendor : Octets v → octetsOf 16 (fieldOf vendorField (finalBits v)) ≡ v
   unfolding finalBits
@@ -184,20 +191,13 @@ pub record Sound (B : List ℕ) : Type 0 where
   pub known : (hasSync trainingSync B || hasSync finalSync B) ≡ true
   pub clear : valueOf (fieldOf padField B) ≡ 0
   pub checked : polynomial (fieldOf checkField B) ≡ checkOf (messageOf B)
-  pub unreserved : hasSync trainingSync B ≡ true → valueOf (fieldOf reservedField B) ≡ 0
 
 pub sound : (B : List ℕ) → answer (bitRefusals B) ≡ 0 → Sound B
 sound B e =
     let five = none 4 _ (drop 1 (bitRefusals B)) e in
     let six = none 5 _ (drop 2 (bitRefusals B)) (five .1) in
     let seven = none 6 _ (drop 3 (bitRefusals B)) (six .1) in
-    let eight = none 7 _ (drop 4 (bitRefusals B)) (seven .1) in
-    record {
-      known = not-false _ (five .0);
-      clear = eqb-true _ _ (not-false _ (six .0));
-      checked = eqb-true _ _ (not-false _ (seven .0));
-      unreserved = λ t. eqb-true _ _ (not-false _ (sym (ap (λ (b : Bool). b && not (eqb (valueOf (fieldOf reservedField B)) 0)) t) ∙ eight .0));
-    }
+    record { known = not-false _ (five .0); clear = eqb-true _ _ (not-false _ (six .0)); checked = eqb-true _ _ (not-false _ (seven .0)) }
 
 module _ (B : List ℕ) (l : length B ≡ 4232) (h : Bits B) where
   pub field-length : (at n : ℕ) → at + n ≤ 4232 → length (part at n B) ≡ n
@@ -258,11 +258,14 @@ module _ (B : List ℕ) (l : length B ≡ 4232) (h : Bits B) where
   pub final-sync : hasSync finalSync B ≡ true → fieldOf syncField B ≡ finalSync
   final-sync t = value-one (fieldOf syncField B) finalSync (field-bits 0 14) final-bits (field-length 0 14 (lit≤ tt) ∙ sym final-length) (eqb-true _ _ t)
 
-  -- a training frame that answers 0 is what writing its fields with count 180 gives
-  pub training-again : Sound B → hasSync trainingSync B ≡ true
-      → B ≡ trainingBits 180 (coefficientsOf B) (valueOf (fieldOf aField B)) (valueOf (fieldOf bField B)) (octetsOf 16 (fieldOf vendorField B))
+  -- what writing the frame's own fields with count 180 gives
+  abbrev again : List ℕ
+  again = trainingBits 180 (coefficientsOf B) (valueOf (fieldOf aField B)) (valueOf (fieldOf bField B)) (octetsOf 16 (fieldOf vendorField B))
+
+  -- a training frame that answers 0 is that, where its reserved bits are zero
+  pub training-again : Sound B → hasSync trainingSync B ≡ true → valueOf (fieldOf reservedField B) ≡ 0 → B ≡ again
   unfolding trainingBits
-  training-again s t =
+  training-again s t z =
       let cs = coefficientsOf B in
       let all : used 180 cs ≡ cs = mathlib.Core.List.append-nil (take 180 cs)
       ∙ take-all 180 cs (omega (arith, numbers-length 22 180 (fieldOf coefficientsField B))) in
@@ -270,4 +273,12 @@ module _ (B : List ℕ) (l : length B ≡ 4232) (h : Bits B) where
       ∙ ap₂ frameBits (training-sync t)
       (message-is
       ∙ ap₂ (λ (c : List ℤ) (r : List ℕ). message c (valueOf (fieldOf aField B)) (valueOf (fieldOf bField B)) (octetsOf 16 (fieldOf vendorField B)) r) (sym all)
-      (zeros-are 4144 67 (lit≤ tt) (s .unreserved t)))
+      (zeros-are 4144 67 (lit≤ tt) z))
+
+  -- and where one is set it is not
+  pub only-clear-again : B ≡ again → valueOf (fieldOf reservedField B) ≡ 0
+  only-clear-again e =
+      ap (λ (x : List ℕ). valueOf (fieldOf reservedField x)) e
+      ∙ ap valueOf (reserved-back 180 (coefficientsOf B) (valueOf (fieldOf aField B)) (valueOf (fieldOf bField B)) (octetsOf 16 (fieldOf vendorField B)) (lit≤ tt)
+      (numbers-length 22 180 (fieldOf coefficientsField B)) (octets-length 16 (fieldOf vendorField B)))
+      ∙ zeros-value 67

@@ -1,4 +1,5 @@
 -- The activation frame as bits (SCOPE, "The activation frame"; 000, clause 4.1.3).
+use mathlib.Core.Bool.{Bool, cond}
 use mathlib.Core.List.{List, [], _∷_, _++_}
 use Prim.Native.Nat.{ℕ, _-_}
 use lib.IntN.{ℤ, pos}
@@ -18,6 +19,10 @@ trainingSync = 1 ∷ 1 ∷ 1 ∷ 1 ∷ 1 ∷ 0 ∷ 0 ∷ 1 ∷ 1 ∷ 0 ∷ 1 ∷
 -- and 11010110011111 in a final frame
 unfoldable pub finalSync : List ℕ
 finalSync = 1 ∷ 1 ∷ 0 ∷ 1 ∷ 0 ∷ 1 ∷ 1 ∷ 0 ∷ 0 ∷ 1 ∷ 1 ∷ 1 ∷ 1 ∷ 1 ∷ []
+
+-- the sync word of a training frame, or of a final one
+abbrev pub syncWord : Bool → List ℕ
+syncWord training = cond training trainingSync finalSync
 
 -- coefficients one after the other, each in two's complement, least bit first
 abbrev pub coefficientBits : List ℤ → List ℕ

@@ -1,6 +1,6 @@
 -- Where the fields of an activation frame stand (000, clause 4.1.3): each behind those before it, as crate `places` has it for any widths.
 use mathlib.Core.List.{List, [], _∷_}
-use Prim.Native.Nat.{ℕ, _*_, _/_}
+use Prim.Native.Nat.{ℕ, _+_, _*_, _/_}
 use Rattle.places.specs.Places.{total, placeIn}
 use Rattle.ranges.specs.Ranges.{coefficientCount, coefficientWidth, wordWidth}
 
@@ -11,6 +11,10 @@ syncWidth = 14
 -- the reserved bits
 abbrev pub reservedWidth : ℕ
 reservedWidth = 67
+
+-- the octets that those bits take: 9
+abbrev pub reservedLength : ℕ
+reservedLength = (reservedWidth + 7) / 8
 
 -- the check bits
 abbrev pub checkWidth : ℕ

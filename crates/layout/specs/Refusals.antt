@@ -9,7 +9,7 @@ use Rattle.answer.specs.Answer.{Refusal, refuse, wrongLength}
 use Rattle.octets.specs.Bits.{valueOf, bitsOf}
 use Rattle.remainder.specs.Division.{polynomial, Remainder, generator}
 use Rattle.ranges.specs.Ranges.{coefficientCount, isCoefficient, isWord, every}
-use Rattle.layout.specs.Places.{checkWidth, vendorLength, frameLength, syncField, reservedField, checkField, padField}
+use Rattle.layout.specs.Places.{reservedLength, checkWidth, vendorLength, frameLength, syncField, checkField, padField}
 use Rattle.layout.specs.Frame.{trainingSync, finalSync, fieldOf, messageOf, checkOf}
 
 -- at least 128 coefficients are in use
@@ -33,19 +33,19 @@ hasSync word bits = eqb (valueOf (fieldOf syncField bits)) (valueOf word)
 abbrev pub RightCheck : List ℕ → Type 0
 RightCheck bits = Remainder checkWidth generator (messageOf bits) (polynomial (fieldOf checkField bits))
 
--- what is wrong with a frame's bits: sync, pad, check bits, and of a training frame the reserved bits
+-- what is wrong with a frame's bits: sync, pad, check bits. Reserved bits may be any, under the check bits
 abbrev pub bitRefusals : List ℕ → List Refusal
 bitRefusals bits =
     refuse 5 (not (hasSync trainingSync bits || hasSync finalSync bits))
     ∷ refuse 6 (not (eqb (valueOf (fieldOf padField bits)) 0))
-    ∷ refuse 7 (not (eqb (polynomial (fieldOf checkField bits)) (checkOf (messageOf bits))))
-    ∷ refuse 8 (hasSync trainingSync bits && not (eqb (valueOf (fieldOf reservedField bits)) 0)) ∷ []
+    ∷ refuse 7 (not (eqb (polynomial (fieldOf checkField bits)) (checkOf (messageOf bits)))) ∷ []
 
 -- checking a frame
 abbrev pub checkRefusals : List ℕ → List Refusal
 checkRefusals frame = wrongLength frame frameLength ∷ bitRefusals (bitsOf frame)
 
 -- reading one: a wrong length is answered before anything else
-abbrev pub readRefusals : List ℕ → List ℤ → List ℕ → List Refusal
-readRefusals frame cs vendor =
-    wrongLength frame frameLength ∷ wrongLength cs coefficientCount ∷ wrongLength vendor vendorLength ∷ bitRefusals (bitsOf frame)
+abbrev pub readRefusals : List ℕ → List ℤ → List ℕ → List ℕ → List Refusal
+readRefusals frame cs vendor reserved =
+    wrongLength frame frameLength ∷ wrongLength cs coefficientCount ∷ wrongLength vendor vendorLength ∷ wrongLength reserved reservedLength
+    ∷ bitRefusals (bitsOf frame)

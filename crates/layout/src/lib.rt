@@ -24,8 +24,10 @@ pub const CHECK_BITS: u32 = 16;
 
 pub const PAD_BITS: u32 = 5;
 
-// Vendor data's octets.
+// Vendor data's octets, and those that the reserved bits take.
 pub const VENDOR_OCTETS: usize = 16;
+
+pub const RESERVED_OCTETS: usize = (RESERVED_BITS as usize + 7) / 8;
 
 // The fields' places, from 0.
 pub const COEFFICIENTS_AT: usize = SYNC_BITS as usize;

@@ -111,7 +111,7 @@ fits octets = go (answer (checkRefusals octets)) (answer-within 1 (checkRefusals
         (value-part 21 (drop 3974 B) (from 3974)) (value-part 21 (drop 3995 B) (from 3995)) (octets-length 16 (fieldOf vendorField B))
     text-length false = final-length (vendorOctets B) (polynomial (fieldOf checkField B)) (octets-length 16 (fieldOf vendorField B))
 
-    go : (n : ℕ) → n ≤ 8 → length (listed n B) ≤ 4096
+    go : (n : ℕ) → n ≤ 7 → length (listed n B) ≤ 4096
     go zero h = text-length (hasSync trainingSync B)
     go (suc n) h = omega (arith, number-length "refused " 0 (suc n) (omega arith))
 

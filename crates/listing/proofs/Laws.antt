@@ -18,6 +18,7 @@ use Rattle.layout.specs.Places.{aField, bField, checkField}
 use Rattle.layout.specs.Frame.{trainingSync, fieldOf, coefficientsOf}
 use Rattle.layout.specs.Refusals.{hasSync, checkRefusals}
 use Rattle.reader.specs.declared.Found.{Found}
+use Rattle.reader.proofs.Laws.{Rooms}
 use Rattle.reader.proofs.Given.{found, none-applies, coefficients-are, vendor-is, found-is}
 use Rattle.reader.specs.Promises.{foundOf, vendorOctets, Read}
 use Rattle.ascii.specs.Text.{text, decimal}
@@ -67,7 +68,8 @@ check-small c t e = omega (arith, turned-lt 16 c)
 
 -- ---- the listing, of what reading gives
 
-module _ (f : List ℕ) (cs : List ℤ) (v : List ℕ) (lc : length cs ≡ 180) (lv : length v ≡ 16) (r : Found) (cs′ : List ℤ) (v′ : List ℕ) (d : Read f cs v r cs′ v′) where
+module _ (f : List ℕ) (cs : List ℤ) (v s : List ℕ) (rooms : Rooms cs v s) (r : Found) (cs′ : List ℤ) (v′ s′ : List ℕ)
+    (d : Read f cs v s r cs′ v′ s′) where
   abbrev B : List ℕ
   B = bitsOf f
 
@@ -81,7 +83,7 @@ module _ (f : List ℕ) (cs : List ℤ) (v : List ℕ) (lc : length cs ≡ 180) 
   -- a refusal
   pub refused-text : (r .answer ≡ 0 → ⊥) → numberLine "refused " (r .answer) ≡ listing f
   unfolding listing listed
-  refused-text h = go (answer (checkRefusals f)) (found f cs v lc lv r cs′ v′ d)
+  refused-text h = go (answer (checkRefusals f)) (found f cs v s rooms r cs′ v′ s′ d)
     where
       done : (t : Bool) → cond {A = Found} t T F .answer ≡ 0
       done true = refl
@@ -95,7 +97,7 @@ module _ (f : List ℕ) (cs : List ℤ) (v : List ℕ) (lc : length cs ≡ 180) 
     -- what is printed where nothing is wrong
     listing-is : listed 0 B ≡ listing f
     unfolding listing
-    listing-is = ap (λ (n : ℕ). listed n B) (sym (none-applies f cs v lc lv r cs′ v′ d z))
+    listing-is = ap (λ (n : ℕ). listed n B) (sym (none-applies f cs v s rooms r cs′ v′ s′ d z))
 
     module _ (c : ℕ) (e : c ≡ polynomial (fieldOf checkField B)) where
       abbrev training : List ℕ
@@ -110,14 +112,14 @@ module _ (f : List ℕ) (cs : List ℤ) (v : List ℕ) (lc : length cs ≡ 180) 
 
       pub read-text : kindLines r cs′ ++ (vendorLine v′ ++ checkLine c) ≡ listing f
       unfolding listed trainingText finalText
-      read-text = go (hasSync trainingSync B) (found-is f cs v lc lv r cs′ v′ d z) (coefficients-are f cs v lc lv r cs′ v′ d z) ∙ listing-is
+      read-text = go (hasSync trainingSync B) (found-is f cs v s rooms r cs′ v′ s′ d z) (coefficients-are f cs v s rooms r cs′ v′ s′ d z) ∙ listing-is
         where
           go : (t : Bool) → r ≡ cond t T F → cs′ ≡ cond t (coefficientsOf B) cs → kindLines r cs′ ++ (vendorLine v′ ++ checkLine c) ≡ cond t training final
           go true p q =
               ap₂ (λ (x : Found) (l : List ℤ). kindLines x l ++ (vendorLine v′ ++ checkLine c)) p q
               ∙ sym (append-assoc (trainingLines (coefficientsOf B) (T .a) (T .b)) (vendorLine v′) (checkLine c))
-              ∙ ap₂ (trainingText (coefficientsOf B) (T .a) (T .b)) (vendor-is f cs v lc lv r cs′ v′ d z) e
+              ∙ ap₂ (trainingText (coefficientsOf B) (T .a) (T .b)) (vendor-is f cs v s rooms r cs′ v′ s′ d z) e
           go false p q =
               ap (λ (x : Found). kindLines x cs′ ++ (vendorLine v′ ++ checkLine c)) p
               ∙ sym (append-assoc (text "kind final\n") (vendorLine v′) (checkLine c))
-              ∙ ap₂ finalText (vendor-is f cs v lc lv r cs′ v′ d z) e
+              ∙ ap₂ finalText (vendor-is f cs v s rooms r cs′ v′ s′ d z) e

@@ -15,6 +15,7 @@ use Rattle.layout.specs.Frame.{trainingSync}
 use Rattle.layout.specs.Refusals.{hasSync, checkRefusals}
 use Rattle.reader.specs.declared.Found.{Found}
 use Rattle.reader.specs.Promises.{foundOf, Read}
+use Rattle.reader.proofs.Laws.{Rooms}
 use Rattle.reader.proofs.Given.{found, none-applies, vendor-is}
 use Rattle.ascii.specs.Text.{text, decimal}
 use Rattle.ascii.specs.Plain.{textLength}
@@ -33,13 +34,12 @@ reasons =
     ++ text "the sync word is neither of the two: this is no descrambled frame, or its octets hold the first bit highest; capture it again\n"
     ++ text "a pad bit is not zero: the last octet holds more than the end of a frame; capture it again\n"
     ++ text "the check bits differ: the frame is damaged; capture it again\n"
-    ++ text "a reserved bit is not zero: the card sets bits that a training frame leaves zero; do not ship it, ask its maker\n"
 
 abbrev lengthRow : ℕ → ℕ
 lengthRow octets = cond (ltb frameLength octets) 1 (cond (eqb octets 1) 2 3)
 
 abbrev reasonRow : ℕ → ℕ
-reasonRow n = cond (ltb n 5) 0 (cond (ltb 8 n) 0 n)
+reasonRow n = cond (ltb n 5) 0 (cond (ltb 7 n) 0 n)
 
 abbrev pub whyRow : ℕ → ℕ → ℕ
 whyRow n octets = cond (eqb n 1) (lengthRow octets) (reasonRow n)
@@ -47,13 +47,13 @@ whyRow n octets = cond (eqb n 1) (lengthRow octets) (reasonRow n)
 reason-told : (n : ℕ) → rowOf reasons (reasonRow n) ≡ reasonWords n
 unfolding rowOf rowBy reasonWords
 reason-told =
-    each (λ (n : ℕ). rowOf reasons (reasonRow n) ≡ reasonWords n) 9
-    (refl, (refl, (refl, (refl, (refl, (refl, (refl, (refl, (refl, tt)))))))))
-    (λ n h. simp (le-ltb n 5 (omega arith), lt-ltb 8 n h, ne-eqb n 5 (λ e. omega arith), ne-eqb n 6 (λ e. omega arith), ne-eqb n 7 (λ e. omega arith), ne-eqb n 8 (λ e. omega arith)))
+    each (λ (n : ℕ). rowOf reasons (reasonRow n) ≡ reasonWords n) 8
+    (refl, (refl, (refl, (refl, (refl, (refl, (refl, (refl, tt))))))))
+    (λ n h. simp (le-ltb n 5 (omega arith), lt-ltb 7 n h, ne-eqb n 5 (λ e. omega arith), ne-eqb n 6 (λ e. omega arith), ne-eqb n 7 (λ e. omega arith)))
 
 -- a file with fewer octets than a frame, but not one
 fewer-means : (n octets : ℕ) → whyRow n octets ≡ 3 → (eqb n 1 ≡ true) × (ltb frameLength octets ≡ false) × (eqb octets 1 ≡ false)
-fewer-means n octets = pick (eqb n 1) (ltb frameLength octets) (eqb octets 1) (ltb n 5) refl (ltb 8 n)
+fewer-means n octets = pick (eqb n 1) (ltb frameLength octets) (eqb octets 1) (ltb n 5) refl (ltb 7 n)
   where
     pick : (a b d p : Bool) → ltb n 5 ≡ p → (q : Bool) → cond a (cond b 1 (cond d 2 3)) (cond p 0 (cond q 0 n)) ≡ 3
         → (a ≡ true) × (b ≡ false) × (d ≡ false)
@@ -97,11 +97,11 @@ vendor-some v n e h =
 
 -- ---- of what reading gives
 
-module _ (f : List ℕ) (cs : List ℤ) (v : List ℕ) (lc : length cs ≡ 180) (lv : length v ≡ 16) (r : Found) (cs′ : List ℤ) (v′ : List ℕ)
-    (d : Read f cs v r cs′ v′) where
+module _ (f : List ℕ) (cs : List ℤ) (v s : List ℕ) (rooms : Rooms cs v s) (r : Found) (cs′ : List ℤ) (v′ s′ : List ℕ)
+    (d : Read f cs v s r cs′ v′ s′) where
   pub refused-words : (r .answer ≡ 0 → ⊥) → refusalWords (r .answer) (length f) ≡ wordsOf f
   unfolding wordsOf worded
-  refused-words h = go (answer (checkRefusals f)) (found f cs v lc lv r cs′ v′ d)
+  refused-words h = go (answer (checkRefusals f)) (found f cs v s rooms r cs′ v′ s′ d)
     where
       done : (t : Bool) (x y : Found) → x .answer ≡ 0 → y .answer ≡ 0 → cond {A = Found} t x y .answer ≡ 0
       done true x y p q = p
@@ -114,4 +114,4 @@ module _ (f : List ℕ) (cs : List ℤ) (v : List ℕ) (lc : length cs ≡ 180) 
   pub vendor-words : r .answer ≡ 0 → vendorWords v′ ≡ wordsOf f
   unfolding wordsOf worded
   vendor-words z =
-      ap vendorWords (vendor-is f cs v lc lv r cs′ v′ d z) ∙ ap (λ (n : ℕ). worded n f) (sym (none-applies f cs v lc lv r cs′ v′ d z))
+      ap vendorWords (vendor-is f cs v s rooms r cs′ v′ s′ d z) ∙ ap (λ (n : ℕ). worded n f) (sym (none-applies f cs v s rooms r cs′ v′ s′ d z))

@@ -44,7 +44,7 @@ unfolding reasonWords
 reason-words n =
     either-length (eqb n 5) _ _ 200 (lit≤ tt)
     (either-length (eqb n 6) _ _ 200 (lit≤ tt)
-    (either-length (eqb n 7) _ _ 200 (lit≤ tt) (either-length (eqb n 8) _ [] 200 (lit≤ tt) (lit≤ tt))))
+    (either-length (eqb n 7) _ [] 200 (lit≤ tt) (lit≤ tt)))
 
 refusal-words : (n octets : ℕ) → length (refusalWords n octets) ≤ 256
 unfolding refusalWords

@@ -27,9 +27,7 @@ reasonWords n =
     cond (eqb n 5)
     (text "the sync word is neither of the two: this is no descrambled frame, or its octets hold the first bit highest; capture it again")
     (cond (eqb n 6) (text "a pad bit is not zero: the last octet holds more than the end of a frame; capture it again")
-    (cond (eqb n 7) (text "the check bits differ: the frame is damaged; capture it again")
-    (cond (eqb n 8) (text "a reserved bit is not zero: the card sets bits that a training frame leaves zero; do not ship it, ask its maker")
-    [])))
+    (cond (eqb n 7) (text "the check bits differ: the frame is damaged; capture it again") []))
 
 -- the line for a refusal with n of so many octets
 unfoldable pub refusalWords : ℕ → ℕ → List ℕ

@@ -107,7 +107,8 @@ pub fn list(frame: &[u8], room: &mut [u8]) -> usize
 {
     let mut cs = [0i32; layout::COEFFICIENTS];
     let mut vendor = [0u8; layout::VENDOR_OCTETS];
-    let found = reader::read(frame, &mut cs, &mut vendor);
+    let mut reserved = [0u8; layout::RESERVED_OCTETS];
+    let found = reader::read(frame, &mut cs, &mut vendor, &mut reserved);
     if found.answer != answer::DONE {
         return put_refused(room, found.answer);
     }
@@ -134,17 +135,17 @@ fn length_row(octets: usize) -> u32
 
 // The row of a refusal: its number, 0 where it has no words.
 fn reason_row(n: u32) -> u32
-    ensures { λ r. ⌜ r ≡ cond (ltb n 5) 0 (cond (ltb 8 n) 0 n) ⌝ }
+    ensures { λ r. ⌜ r ≡ cond (ltb n 5) 0 (cond (ltb 7 n) 0 n) ⌝ }
 {
     if n < answer::SYNC {
         return 0;
     }
-    if answer::RESERVED < n { 0 } else { n }
+    if answer::CHECK < n { 0 } else { n }
 }
 
 // The row of a refusal with n of so many octets.
 fn why_row(n: u32, octets: usize) -> u32
-    ensures { λ r. ⌜ r ≡ cond (eqb n 1) (cond (ltb frameLength octets) 1 (cond (eqb octets 1) 2 3)) (cond (ltb n 5) 0 (cond (ltb 8 n) 0 n)) ⌝ }
+    ensures { λ r. ⌜ r ≡ cond (eqb n 1) (cond (ltb frameLength octets) 1 (cond (eqb octets 1) 2 3)) (cond (ltb n 5) 0 (cond (ltb 7 n) 0 n)) ⌝ }
 {
     if n == answer::LENGTH {
         length_row(octets)
@@ -175,8 +176,7 @@ fn put_why(room: &mut [u8], at: usize, n: u32, octets: usize) -> usize
           \n\n\
           the sync word is neither of the two: this is no descrambled frame, or its octets hold the first bit highest; capture it again\n\
           a pad bit is not zero: the last octet holds more than the end of a frame; capture it again\n\
-          the check bits differ: the frame is damaged; capture it again\n\
-          a reserved bit is not zero: the card sets bits that a training frame leaves zero; do not ship it, ask its maker\n",
+          the check bits differ: the frame is damaged; capture it again\n",
         row,
     )
 }
@@ -209,7 +209,8 @@ pub fn words(frame: &[u8], room: &mut [u8]) -> usize
 {
     let mut cs = [0i32; layout::COEFFICIENTS];
     let mut vendor = [0u8; layout::VENDOR_OCTETS];
-    let found = reader::read(frame, &mut cs, &mut vendor);
+    let mut reserved = [0u8; layout::RESERVED_OCTETS];
+    let found = reader::read(frame, &mut cs, &mut vendor, &mut reserved);
     if found.answer == answer::DONE {
         put_vendor(room, &vendor)
     } else {

@@ -1,19 +1,22 @@
 -- Laws of reading a frame. Assumes nothing.
 use mathlib.Core.Path.{_≡_, refl, sym, ap, ap₂, _∙_}
-use mathlib.Core.Bool.{Bool, true, false, cond, not}
-use mathlib.Core.List.{List, _∷_}
-use Prim.Native.Nat.{ℕ, zero, suc}
+use mathlib.Core.Bool.{Bool, true, false, cond, not, _&&_, true≢false}
+use mathlib.Core.List.{List, _∷_, _++_, append-assoc}
+use Prim.Native.Nat.{ℕ, zero, suc, _+_, _*_, _^_, min}
 use native.Mathlib.Omega.{arith}
-use borrow.Author.Tests.{eq-eqb, ne-eqb}
+use borrow.Author.Tests.{eq-eqb, eqb-true}
 use lib.Dec.{eqb, lit≤}
 use lib.IntN.{ℤ}
-use lib.ListN.{length, drop, length-drop}
+use lib.ListN.{length, drop, replicate, length-append, length-drop, length-replicate}
 use lib.Seq.{length-take-le}
-use Rattle.answer.specs.Answer.{Refusal, refuse, wrongLength, answer}
-use Rattle.answer.proofs.Laws.{refused, kept, given}
-use Rattle.octets.specs.Bits.{valueOf, bitsOf, octetsOf, part, laid}
-use Rattle.octets.specs.Promises.{Copied}
-use Rattle.octets.proofs.Laws.{bits-length, laid-end}
+use Rattle.answer.specs.Answer.{refuse, answer}
+use Rattle.answer.proofs.Laws.{kept, given}
+use Rattle.answer.proofs.Order.{both}
+use Rattle.octets.specs.Bits.{digitsOf, valueOf, bitsOf, octetsOf, part, laid}
+use Rattle.octets.specs.Promises.{WordRead, WordPut, BitsRead, FrontPut, Copied}
+use Rattle.octets.proofs.Digits.{zeros-digits}
+use Rattle.octets.proofs.Laws.{bits-length, bits-part, part-lt, laid-next, laid-end}
+use Rattle.octets.proofs.Words.{digits-join, field-digits, part-more}
 use Rattle.bitfields.specs.Promises.{behindOf}
 use Rattle.walk.specs.declared.TakenPair.{TakenPair}
 use Rattle.walk.specs.Promises.{PairTaken, SignedFilled, signedFrom, behindAll}
@@ -21,8 +24,9 @@ use Rattle.walk.proofs.Laws.{behind-all-is, signed-from}
 use Rattle.layout.specs.Places.{aField, bField}
 use Rattle.layout.specs.Frame.{trainingSync, fieldOf, coefficientsOf}
 use Rattle.layout.specs.Refusals.{hasSync, bitRefusals, checkRefusals, readRefusals}
+use Rattle.layout.proofs.Reserved.{octets-zeros}
 use Rattle.reader.specs.declared.Found.{Found}
-use Rattle.reader.specs.Promises.{foundOf, coefficientsLeft, vendorOctets, Read}
+use Rattle.reader.specs.Promises.{foundOf, coefficientsLeft, vendorOctets, reservedOctets, reservedLeft, Read}
 
 -- ---- the walk of a training frame: coefficients from behind sync on, A and B behind those
 
@@ -52,42 +56,93 @@ vendor-read f v v′ l lv e h k =
     let full : length D ≡ 128 = length-take-le 128 (drop 4016 (bitsOf f)) (omega (arith, length-drop 4016 (bitsOf f), bits-length f)) in
     e ∙ ap₂ (λ (i j : ℕ). laid v 0 (part i j (bitsOf f))) h k ∙ laid-end v 0 D (omega arith) ∙ ap (λ (j : ℕ). octetsOf j D) lv
 
+-- ---- the reserved bits, 64 and 3 of them, and zeros behind them to the room's end
+
+module _ (f : List ℕ) (l : length f ≡ 529) where
+  abbrev first : List ℕ
+  first = part 4144 64 (bitsOf f)
+
+  abbrev last : List ℕ
+  last = part 4208 3 (bitsOf f)
+
+  first-digits : digitsOf 64 (valueOf first) ≡ first
+  first-digits = field-digits f 4144 64 (omega arith)
+
+  -- a number of three bits in an octet
+  last-digits : digitsOf 8 (valueOf last) ≡ last ++ replicate 5 0
+  last-digits =
+      let v = valueOf last in
+      let e : v ≡ 0 * 2 ^ 3 + v = omega arith in
+      ap (digitsOf 8) e ∙ digits-join 3 5 8 0 v refl (part-lt f 4208 3) ∙ ap₂ _++_ (field-digits f 4208 3 (omega arith)) (zeros-digits 5)
+
+  first-length : length first ≡ 64
+  first-length = length-take-le 64 (drop 4144 (bitsOf f)) (omega (arith, length-drop 4144 (bitsOf f), bits-length f))
+
+  last-length : length last ≡ 3
+  last-length = length-take-le 3 (drop 4208 (bitsOf f)) (omega (arith, length-drop 4208 (bitsOf f), bits-length f))
+
+  pub reserved-read : (s t u : List ℕ) {i at k n j p q lo hi : ℕ} → length s ≡ 9 → WordRead f i lo → BitsRead f at k n hi → WordPut s j lo t
+      → FrontPut t p q hi u → i ≡ 518 → at ≡ 4144 → k ≡ 64 → n ≡ 3 → j ≡ 0 → p ≡ 8 → q ≡ 8 → u ≡ reservedOctets (bitsOf f)
+  reserved-read s t u {k = k} {q = q} ls a b c d ei ea ek en ej ep eq =
+      let B = bitsOf f in
+      let z : List ℕ = replicate 5 0 in
+      let low = a ∙ ap (λ (x : ℕ). valueOf (part (8 * x) 64 B)) ei in
+      let high = b ∙ ap₂ (λ (x y : ℕ). valueOf (part (x + k) (min y 56) B)) ea en ∙ ap (λ (x : ℕ). valueOf (part (4144 + x) 3 B)) ek in
+      let put : t ≡ laid s 0 first = c ∙ ap₂ (λ (x y : ℕ). laid s (8 * x) (digitsOf 64 y)) ej low ∙ ap (laid s 0) first-digits in
+      let put-last : u ≡ laid t 64 (last ++ z) = d ∙ ap₂ (λ (x y : ℕ). laid t (8 * x) (digitsOf (min q 64) y)) ep high
+      ∙ ap (λ (x : ℕ). laid t 64 (digitsOf (min x 64) (valueOf last))) eq ∙ ap (laid t 64) last-digits in
+      laid-next s 0 first (last ++ z) 64 (bits-part f 4144 64) (omega (arith, first-length)) put put-last
+      ∙ laid-end s 0 (first ++ (last ++ z))
+      (omega (arith, ls, length-append first (last ++ z), length-append last z, first-length, last-length, length-replicate 5 zero))
+      ∙ ap₂ octetsOf ls (sym (append-assoc first last z) ∙ ap (λ (x : List ℕ). x ++ z) (part-more B 4144 64 3 67 refl))
+      ∙ octets-zeros 9 (part 4144 67 B) 5
+
 -- ---- what reading promises, by cases
 
--- a room of the wrong length is refused, whether or not another room before it is
-room-refused : (s : Bool) {t : Bool} (ts : List Refusal) → t ≡ true → 1 ≡ answer (refuse 1 s ∷ refuse 1 t ∷ ts)
-room-refused true ts e = refl
-room-refused false ts e = sym (refused 1 ts e)
+-- rooms of which one has the wrong length are refused, whatever the frame is
+pub rooms-refused : (f : List ℕ) (cs : List ℤ) (v s : List ℕ) → (eqb (length cs) 180 && (eqb (length v) 16 && eqb (length s) 9)) ≡ false
+    → 1 ≡ answer (readRefusals f cs v s)
+rooms-refused f cs v s = go (eqb (length f) 529) (eqb (length cs) 180) (eqb (length v) 16) (eqb (length s) 9)
+  where
+    go : (p q r t : Bool) → (q && (r && t)) ≡ false
+        → 1 ≡ answer (refuse 1 (not p) ∷ refuse 1 (not q) ∷ refuse 1 (not r) ∷ refuse 1 (not t) ∷ bitRefusals (bitsOf f))
+    go false q r t e = refl
+    go true false r t e = refl
+    go true true false t e = refl
+    go true true true false e = refl
+    go true true true true e = absurd (true≢false e)
 
-module _ (f : List ℕ) (cs : List ℤ) (v : List ℕ) where
-  pub coefficients-refused : (length cs ≡ 180 → ⊥) → 1 ≡ answer (readRefusals f cs v)
-  coefficients-refused h = room-refused (not (eqb (length f) 529)) (wrongLength v 16 ∷ bitRefusals (bitsOf f)) (ap not (ne-eqb (length cs) 180 h))
+-- the lengths of the three rooms
+pub record Rooms (cs : List ℤ) (v s : List ℕ) : Type 0 where
+  pub coefficients : length cs ≡ 180
+  pub vendor : length v ≡ 16
+  pub reserved : length s ≡ 9
 
-  pub vendor-refused : (length v ≡ 16 → ⊥) → 1 ≡ answer (readRefusals f cs v)
-  vendor-refused h = go (not (eqb (length f) 529))
-    where
-      go : (s : Bool) → 1 ≡ answer (refuse 1 s ∷ wrongLength cs 180 ∷ wrongLength v 16 ∷ bitRefusals (bitsOf f))
-      go true = refl
-      go false = room-refused (not (eqb (length cs) 180)) (bitRefusals (bitsOf f)) (ap not (ne-eqb (length v) 16 h))
+pub rooms-are : (cs : List ℤ) (v s : List ℕ) → (eqb (length cs) 180 && (eqb (length v) 16 && eqb (length s) 9)) ≡ true → Rooms cs v s
+rooms-are cs v s e =
+    let a = both (eqb (length cs) 180) (eqb (length v) 16 && eqb (length s) 9) e in
+    let b = both (eqb (length v) 16) (eqb (length s) 9) (a .1) in
+    record { coefficients = eqb-true _ _ (a .0); vendor = eqb-true _ _ (b .0); reserved = eqb-true _ _ (b .1) }
 
 -- where the rooms have their lengths, reading refuses what checking does
-pub as-checked : (f : List ℕ) (cs : List ℤ) (v : List ℕ) → length cs ≡ 180 → length v ≡ 16 → answer (checkRefusals f) ≡ answer (readRefusals f cs v)
-as-checked f cs v m n = simp (eq-eqb _ _ m, eq-eqb _ _ n)
+pub as-checked : (f : List ℕ) (cs : List ℤ) (v s : List ℕ) → Rooms cs v s → answer (checkRefusals f) ≡ answer (readRefusals f cs v s)
+as-checked f cs v s m = simp (eq-eqb _ _ (m .coefficients), eq-eqb _ _ (m .vendor), eq-eqb _ _ (m .reserved))
 
-module _ (f : List ℕ) (cs : List ℤ) (v : List ℕ) where
+module _ (f : List ℕ) (cs : List ℤ) (v s : List ℕ) where
   abbrev A : ℕ
-  A = answer (readRefusals f cs v)
+  A = answer (readRefusals f cs v s)
 
   abbrev B : List ℕ
   B = bitsOf f
 
   -- a refusal
-  pub refusing : (n : ℕ) (r : Found) → n ≡ A → (n ≡ 0 → ⊥) → r ≡ record { answer = n; kind = 0; a = 0; b = 0 } → Read f cs v r cs v
+  pub refusing : (n : ℕ) (r : Found) → n ≡ A → (n ≡ 0 → ⊥) → r ≡ record { answer = n; kind = 0; a = 0; b = 0 } → Read f cs v s r cs v s
   refusing n r e z g =
       record {
         found = g ∙ same n z ∙ ap (λ (k : ℕ). foundOf k B) e;
         coefficients-left = sym (kept A cs (coefficientsLeft B cs) y);
         vendor-left = sym (kept A v (vendorOctets B) y);
+        reserved-left = sym (kept A s (reservedLeft B s) y);
       }
     where
       same : (n : ℕ) → (n ≡ 0 → ⊥) → record { answer = n; kind = 0; a = 0; b = 0 } ≡ foundOf n B
@@ -99,10 +154,10 @@ module _ (f : List ℕ) (cs : List ℤ) (v : List ℕ) where
 
   module _ (z : A ≡ 0) where
     -- a training frame
-    pub training-read : (r : Found) (cs′ : List ℤ) (v′ : List ℕ) → hasSync trainingSync B ≡ true
+    pub training-read : (r : Found) (cs′ : List ℤ) (v′ s′ : List ℕ) → hasSync trainingSync B ≡ true
         → r ≡ record { answer = 0; kind = 0; a = valueOf (fieldOf aField B); b = valueOf (fieldOf bField B) } → cs′ ≡ coefficientsOf B → v′ ≡ vendorOctets B
-        → Read f cs v r cs′ v′
-    training-read r cs′ v′ t e g h =
+        → s′ ≡ reservedOctets B → Read f cs v s r cs′ v′ s′
+    training-read r cs′ v′ s′ t e g h k =
         record {
           found =
               e
@@ -111,10 +166,12 @@ module _ (f : List ℕ) (cs : List ℤ) (v : List ℕ) where
               ∙ ap (λ (k : ℕ). foundOf k B) (sym z);
           coefficients-left = g ∙ ap (λ (k : Bool). cond k (coefficientsOf B) cs) (sym t) ∙ sym (given A cs (coefficientsLeft B cs) z);
           vendor-left = h ∙ sym (given A v (vendorOctets B) z);
+          reserved-left = k ∙ ap (λ (k : Bool). cond k (reservedOctets B) s) (sym t) ∙ sym (given A s (reservedLeft B s) z);
         }
 
     -- a final frame
-    pub final-read : (v′ : List ℕ) → hasSync trainingSync B ≡ false → v′ ≡ vendorOctets B → Read f cs v (record { answer = 0; kind = 1; a = 0; b = 0 }) cs v′
+    pub final-read : (v′ : List ℕ) → hasSync trainingSync B ≡ false → v′ ≡ vendorOctets B
+        → Read f cs v s (record { answer = 0; kind = 1; a = 0; b = 0 }) cs v′ s
     final-read v′ t h =
         record {
           found =
@@ -123,4 +180,5 @@ module _ (f : List ℕ) (cs : List ℤ) (v : List ℕ) where
               ∙ ap (λ (k : ℕ). foundOf k B) (sym z);
           coefficients-left = ap (λ (k : Bool). cond k (coefficientsOf B) cs) (sym t) ∙ sym (given A cs (coefficientsLeft B cs) z);
           vendor-left = h ∙ sym (given A v (vendorOctets B) z);
+          reserved-left = ap (λ (k : Bool). cond k (reservedOctets B) s) (sym t) ∙ sym (given A s (reservedLeft B s) z);
         }

@@ -6,7 +6,11 @@ use lib.IntN.{ℤ}
 use Rattle.reader.specs.declared.Found.{Found}
 use Rattle.reader.specs.Promises.{Read}
 
-pub read-one : (frame : List ℕ) (cs : List ℤ) (vendor : List ℕ) (r r′ : Found) (d d′ : List ℤ) (v v′ : List ℕ)
-    → Read frame cs vendor r d v → Read frame cs vendor r′ d′ v′ → (r ≡ r′) × (d ≡ d′) × (v ≡ v′)
-read-one frame cs vendor r r′ d d′ v v′ p q =
-    (p .found ∙ sym (q .found), p .coefficients-left ∙ sym (q .coefficients-left), p .vendor-left ∙ sym (q .vendor-left))
+pub read-one : (frame : List ℕ) (cs : List ℤ) (vendor reserved : List ℕ) (r r′ : Found) (d d′ : List ℤ) (v v′ s s′ : List ℕ)
+    → Read frame cs vendor reserved r d v s → Read frame cs vendor reserved r′ d′ v′ s′ → (r ≡ r′) × (d ≡ d′) × (v ≡ v′) × (s ≡ s′)
+read-one frame cs vendor reserved r r′ d d′ v v′ s s′ p q = (
+  p .found ∙ sym (q .found),
+  p .coefficients-left ∙ sym (q .coefficients-left),
+  p .vendor-left ∙ sym (q .vendor-left),
+  p .reserved-left ∙ sym (q .reserved-left),
+)

@@ -6,7 +6,7 @@ use Prim.Native.Nat.{ℕ, zero, suc}
 use lib.IntN.{ℤ}
 use Rattle.answer.specs.Answer.{answer, held}
 use Rattle.octets.specs.Bits.{valueOf, bitsOf, octetsOf}
-use Rattle.layout.specs.Places.{vendorLength, aField, bField, vendorField}
+use Rattle.layout.specs.Places.{vendorLength, reservedLength, aField, bField, vendorField, reservedField}
 use Rattle.layout.specs.Frame.{trainingSync, fieldOf, coefficientsOf}
 use Rattle.layout.specs.Refusals.{hasSync, readRefusals}
 use Rattle.reader.specs.declared.Found.{Found}
@@ -27,8 +27,17 @@ coefficientsLeft bits old = cond (hasSync trainingSync bits) (coefficientsOf bit
 abbrev pub vendorOctets : List ℕ → List ℕ
 vendorOctets bits = octetsOf vendorLength (fieldOf vendorField bits)
 
--- read: what is returned, and what the two lent rooms hold
-pub record Read (frame : List ℕ) (cs : List ℤ) (vendor : List ℕ) (r : Found) (cs′ : List ℤ) (vendor′ : List ℕ) : Type 0 where
-  pub found : r ≡ foundOf (answer (readRefusals frame cs vendor)) (bitsOf frame)
-  pub coefficients-left : cs′ ≡ held (answer (readRefusals frame cs vendor)) cs (coefficientsLeft (bitsOf frame) cs)
-  pub vendor-left : vendor′ ≡ held (answer (readRefusals frame cs vendor)) vendor (vendorOctets (bitsOf frame))
+-- the 67 reserved bits as nine octets, laid as in a frame; the top bits that they leave unused are zero (theorem `reserved-bits`)
+abbrev pub reservedOctets : List ℕ → List ℕ
+reservedOctets bits = octetsOf reservedLength (fieldOf reservedField bits)
+
+-- their room after reading: those octets from a training frame, untouched by a final one
+abbrev pub reservedLeft : List ℕ → List ℕ → List ℕ
+reservedLeft bits old = cond (hasSync trainingSync bits) (reservedOctets bits) old
+
+-- read: what is returned, and what the three lent rooms hold
+pub record Read (frame : List ℕ) (cs : List ℤ) (vendor reserved : List ℕ) (r : Found) (cs′ : List ℤ) (vendor′ reserved′ : List ℕ) : Type 0 where
+  pub found : r ≡ foundOf (answer (readRefusals frame cs vendor reserved)) (bitsOf frame)
+  pub coefficients-left : cs′ ≡ held (answer (readRefusals frame cs vendor reserved)) cs (coefficientsLeft (bitsOf frame) cs)
+  pub vendor-left : vendor′ ≡ held (answer (readRefusals frame cs vendor reserved)) vendor (vendorOctets (bitsOf frame))
+  pub reserved-left : reserved′ ≡ held (answer (readRefusals frame cs vendor reserved)) reserved (reservedLeft (bitsOf frame) reserved)

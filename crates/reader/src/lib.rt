@@ -1,10 +1,13 @@
 // Reading an activation frame (SCOPE, "The activation frame").
 ghost use mathlib.Core.Path.{_≡_};
+ghost use mathlib.Core.Bool.{_&&_};
+ghost use lib.Dec.{eqb};
 ghost use lib.ListN.{length};
 ghost use Rattle.octets.specs.Bits.{valueOf, bitsOf};
-ghost use Rattle.layout.specs.Places.{frameLength, vendorLength, placeOf, aField, bField};
+ghost use Rattle.ranges.specs.Ranges.{coefficientCount};
+ghost use Rattle.layout.specs.Places.{frameLength, vendorLength, reservedLength, placeOf, aField, bField};
 ghost use Rattle.layout.specs.Frame.{fieldOf};
-ghost use Rattle.reader.specs.Promises.{vendorOctets, Read};
+ghost use Rattle.reader.specs.Promises.{vendorOctets, reservedOctets, Read};
 
 // What reading gives: the answer, the kind, and of a training frame A and B.
 pub struct Found {
@@ -53,14 +56,41 @@ fn words(frame: &[u8], at: usize, vendor: &mut [u8]) -> Found
     training(found.first, found.second)
 }
 
-// A frame's kind and vendor data, and of a training frame its coefficients, A and B.
-pub fn read(frame: &[u8], coefficients: &mut [i32], vendor: &mut [u8]) -> Found
-    ensures { λ r. ⌜ Read (now (frame .entry)) (now (coefficients .entry)) (now (vendor .entry)) r (now (coefficients .exit)) (now (vendor .exit)) ⌝ }
+// The octet at which the reserved bits begin, and how many of them are behind the first 64.
+const RESERVED_OCTET: usize = layout::RESERVED_AT / 8;
+
+const BEHIND_64: u32 = layout::RESERVED_BITS - 64;
+
+// The reserved bits of a frame: 64 of them, and the others as a whole octet, so that its top bits become zero, whatever stood in the room.
+fn put_reserved(frame: &[u8], reserved: &mut [u8])
+    requires { ⌜ (length (now frame) ≡ frameLength) × (length (now reserved) ≡ reservedLength) ⌝ }
+    ensures { λ r. ⌜ now (reserved .exit) ≡ reservedOctets (bitsOf (now (frame .entry))) ⌝ }
 {
-    if coefficients.len() != layout::COEFFICIENTS {
-        return refused(answer::LENGTH);
+    let first = octets::word(frame, RESERVED_OCTET);
+    let last = octets::bits(frame, layout::RESERVED_AT, 64, BEHIND_64);
+    octets::put_word(reserved, 0, first);
+    octets::put_front(reserved, 8, 8, last);
+}
+
+// Whether the three rooms that reading fills have their lengths.
+fn rooms_right(coefficients: usize, vendor: usize, reserved: usize) -> bool
+    ensures { λ r. ⌜ r ≡ (eqb coefficients coefficientCount && (eqb vendor vendorLength && eqb reserved reservedLength)) ⌝ }
+{
+    if coefficients != layout::COEFFICIENTS {
+        return false;
     }
-    if vendor.len() != layout::VENDOR_OCTETS {
+    if vendor != layout::VENDOR_OCTETS {
+        return false;
+    }
+    reserved == layout::RESERVED_OCTETS
+}
+
+// A frame's kind and vendor data, and of a training frame its coefficients, A, B and its reserved bits.
+pub fn read(frame: &[u8], coefficients: &mut [i32], vendor: &mut [u8], reserved: &mut [u8]) -> Found
+    ensures { λ r. ⌜ Read (now (frame .entry)) (now (coefficients .entry)) (now (vendor .entry)) (now (reserved .entry)) r
+        (now (coefficients .exit)) (now (vendor .exit)) (now (reserved .exit)) ⌝ }
+{
+    if !rooms_right(coefficients.len(), vendor.len(), reserved.len()) {
         return refused(answer::LENGTH);
     }
     let checked = checker::kind_of(frame);
@@ -74,6 +104,7 @@ pub fn read(frame: &[u8], coefficients: &mut [i32], vendor: &mut [u8]) -> Found
             layout::COEFFICIENT_BITS,
             coefficients,
         );
+        put_reserved(frame, reserved);
         return words(frame, at, vendor);
     }
     octets::copy(vendor, 0, frame, layout::VENDOR_AT, layout::VENDOR_BITS);

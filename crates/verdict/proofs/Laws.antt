@@ -15,6 +15,7 @@ use Rattle.layout.specs.Refusals.{hasSync, checkRefusals}
 use Rattle.reader.specs.declared.Found.{Found}
 use Rattle.reader.specs.Promises.{foundOf, Read}
 use Rattle.highest.specs.Highest.{highest}
+use Rattle.reader.proofs.Laws.{Rooms}
 use Rattle.reader.proofs.Given.{found, found-is, none-applies, coefficients-are, vendor-is}
 use Rattle.verdict.specs.declared.Customer.{Customer}
 use Rattle.card.specs.declared.Verdict.{Verdict}
@@ -39,8 +40,8 @@ like-other given x y g n m = simp (g, ne-eqb x y n, ne-eqb x (lastFirst y) m)
 
 -- ---- the verdict, of what reading gives
 
-module _ (f : List ℕ) (cs : List ℤ) (v : List ℕ) (lc : length cs ≡ 180) (lv : length v ≡ 16) (r : Found) (cs′ : List ℤ) (v′ : List ℕ)
-    (d : Read f cs v r cs′ v′) (k : Customer) where
+module _ (f : List ℕ) (cs : List ℤ) (v s : List ℕ) (rooms : Rooms cs v s) (r : Found) (cs′ : List ℤ) (v′ s′ : List ℕ)
+    (d : Read f cs v s r cs′ v′ s′) (k : Customer) where
   abbrev B : List ℕ
   B = bitsOf f
 
@@ -54,7 +55,7 @@ module _ (f : List ℕ) (cs : List ℤ) (v : List ℕ) (lc : length cs ≡ 180) 
   pub refused-is : (r .answer ≡ 0 → ⊥) → (o : ℕ) → o ≡ octetsOf f → refusedVerdict (r .answer) o k ≡ verdictOf f k
   unfolding verdictOf judged
   refused-is h o eo =
-      go (answer (checkRefusals f)) (found f cs v lc lv r cs′ v′ d) ∙ ap (λ (x : ℕ). judged (answer (checkRefusals f)) x B k) eo
+      go (answer (checkRefusals f)) (found f cs v s rooms r cs′ v′ s′ d) ∙ ap (λ (x : ℕ). judged (answer (checkRefusals f)) x B k) eo
     where
       done : (t : Bool) → cond {A = Found} t T F .answer ≡ 0
       done true = refl
@@ -67,19 +68,19 @@ module _ (f : List ℕ) (cs : List ℤ) (v : List ℕ) (lc : length cs ≡ 180) 
   module _ (z : r .answer ≡ 0) (o : ℕ) (eo : o ≡ octetsOf f) where
     judged-is : judged 0 o B k ≡ verdictOf f k
     unfolding verdictOf
-    judged-is = ap₂ (λ (n x : ℕ). judged n x B k) (sym (none-applies f cs v lc lv r cs′ v′ d z)) eo
+    judged-is = ap₂ (λ (n x : ℕ). judged n x B k) (sym (none-applies f cs v s rooms r cs′ v′ s′ d z)) eo
 
     training-is : r .kind ≡ 0 → trainingBy o (highest cs′) (r .a) (r .b) v′ k ≡ verdictOf f k
     unfolding judged
     training-is e =
-        go (hasSync trainingSync B) (found-is f cs v lc lv r cs′ v′ d z) (coefficients-are f cs v lc lv r cs′ v′ d z) ∙ judged-is
+        go (hasSync trainingSync B) (found-is f cs v s rooms r cs′ v′ s′ d z) (coefficients-are f cs v s rooms r cs′ v′ s′ d z) ∙ judged-is
       where
         go : (t : Bool) → r ≡ cond t T F → cs′ ≡ cond t (coefficientsOf B) cs
             → trainingBy o (highest cs′) (r .a) (r .b) v′ k ≡ cond t (trainingVerdict o B k) (finalVerdict o B k)
         go true p q =
             ap (λ (x : List ℤ). trainingBy o (highest x) (r .a) (r .b) v′ k) q
             ∙ ap (λ (x : Found). trainingBy o (highest (coefficientsOf B)) (x .a) (x .b) v′ k) p
-            ∙ ap (λ (x : List ℕ). trainingBy o (highest (coefficientsOf B)) (T .a) (T .b) x k) (vendor-is f cs v lc lv r cs′ v′ d z)
+            ∙ ap (λ (x : List ℕ). trainingBy o (highest (coefficientsOf B)) (T .a) (T .b) x k) (vendor-is f cs v s rooms r cs′ v′ s′ d z)
         go false p q =
             let kind-is : _≡_ {A = ℕ} 0 1 = sym e ∙ ap (λ (x : Found). x .kind) p in
             absurd (omega arith)
@@ -92,11 +93,11 @@ module _ (f : List ℕ) (cs : List ℤ) (v : List ℕ) (lc : length cs ≡ 180) 
 
     final-is : (r .kind ≡ 0 → ⊥) → finalBy o v′ k ≡ verdictOf f k
     unfolding judged
-    final-is n = go (hasSync trainingSync B) (found-is f cs v lc lv r cs′ v′ d z) ∙ judged-is
+    final-is n = go (hasSync trainingSync B) (found-is f cs v s rooms r cs′ v′ s′ d z) ∙ judged-is
       where
         go : (t : Bool) → r ≡ cond t T F → finalBy o v′ k ≡ cond t (trainingVerdict o B k) (finalVerdict o B k)
         go true p = absurd (n (ap (λ (x : Found). x .kind) p))
-        go false p = ap (λ (x : List ℕ). finalBy o x k) (vendor-is f cs v lc lv r cs′ v′ d z)
+        go false p = ap (λ (x : List ℕ). finalBy o x k) (vendor-is f cs v s rooms r cs′ v′ s′ d z)
 
     pub final-made : (w l m : ℕ) → w ≡ finalRank (k .given) → l ≡ absent (k .given) → m ≡ absent (k .given) → (r .kind ≡ 0 → ⊥)
         → record { rank = w; octets = o; answer = 0; kind = 1; used = 0; a = 0; b = 0; alike = l; blike = m; vendor = v′ } ≡ verdictOf f k

@@ -64,7 +64,7 @@ small (t ∷ ts) h = either (t .applies) (t .number) (answer ts) lastRefusal (h 
 
 pub refused-is-answer : (frame : List ℕ) (k : Customer) → (answer (checkRefusals frame) ≡ 0 → ⊥) → verdictOf frame k .rank ≡ answer (checkRefusals frame)
 unfolding verdictOf judged
-refused-is-answer frame k h = go (answer (checkRefusals frame)) h (small (checkRefusals frame) (lit≤ tt, (lit≤ tt, (lit≤ tt, (lit≤ tt, (lit≤ tt, tt))))))
+refused-is-answer frame k h = go (answer (checkRefusals frame)) h (small (checkRefusals frame) (lit≤ tt, (lit≤ tt, (lit≤ tt, (lit≤ tt, tt)))))
   where
     keep : (n : ℕ) → n ≤ lastRefusal → (b : Bool) → ltb lastRefusal n ≡ b → cond b 0 n ≡ n
     keep n l true e = absurd (omega (arith, ltb-true lastRefusal n e))

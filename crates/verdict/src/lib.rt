@@ -119,7 +119,8 @@ pub fn judge(frame: &[u8], customer: Customer) -> Verdict
 {
     let mut cs = [0i32; layout::COEFFICIENTS];
     let mut vendor = [0u8; layout::VENDOR_OCTETS];
-    let found = reader::read(frame, &mut cs, &mut vendor);
+    let mut reserved = [0u8; layout::RESERVED_OCTETS];
+    let found = reader::read(frame, &mut cs, &mut vendor, &mut reserved);
     let octets = counted(frame.len());
     if found.answer != answer::DONE {
         return refused(found.answer, octets, customer);

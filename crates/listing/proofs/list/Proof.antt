@@ -15,6 +15,9 @@ slice-aggregate-read c = search needs
 slice-aggregate-read-2 : tie.Need-slice-aggregate-read-2
 slice-aggregate-read-2 c = search needs
 
+slice-aggregate-read-3 : tie.Need-slice-aggregate-read-3
+slice-aggregate-read-3 c = search needs
+
 read-requires : tie.Need-read-requires
 read-requires c κs = search needs
 
@@ -27,11 +30,11 @@ same-length c = search needs
 returns : tie.Need-returns
 returns c =
     let b4 = c .before .before .before .before in
-    let b8 = b4 .before .before .before .before in
-    let b13 = b8 .before .before .before .before .before in
-    told (listing (b13 .args .frame .now)) (b13 .args .room .now) _ _
+    let b9 = b4 .before .before .before .before .before in
+    let b15 = b9 .before .before .before .before .before .before in
+    told (listing (b15 .args .frame .now)) (b15 .args .room .now) _ _
     (put-as (c .before .before .put-refused .ensures)
-    (refused-text (b13 .args .frame .now) _ _ refl refl (b8 .read .result) (b8 .read .last .1 .0) (b8 .read .last .1 .1 .0) (b8 .read .ensures)
+    (refused-text (b15 .args .frame .now) _ _ _ (record { coefficients = refl; vendor = refl; reserved = refl }) (b9 .read .result) (b9 .read .last .1 .0) (b9 .read .last .1 .1 .0) (b9 .read .last .1 .1 .1 .0) (b9 .read .ensures)
     (b4 .if1 .taken)))
 
 slice-aggregate-put-kind : tie.Need-slice-aggregate-put-kind
@@ -57,14 +60,14 @@ returns-2 c =
     let b3 = c .before .before .before in
     let b8 = b3 .before .before .before .before .before in
     let b11 = b8 .before .before .before in
-    let b15 = b11 .before .before .before .before in
-    let a = b15 .before .before .before .before .before .args in
-    let d = b15 .read in
+    let b16 = b11 .before .before .before .before .before in
+    let a = b16 .before .before .before .before .before .before .args in
+    let d = b16 .read in
     let f = a .frame .now in
     told (listing f) (a .room .now) _ _
     (put-as (put-more _ (vendorLine (d .last .1 .1 .0) ++ checkLine (b3 .check-of .result)) (b8 .put-kind .ensures) (c .before .before .put-tail .ensures))
-    (read-text f _ _ refl refl (d .result) (d .last .1 .0) (d .last .1 .1 .0) (d .ensures) (b11 .if1 .left) (b3 .check-of .result)
-    (b3 .check-of .ensures .1 (read-length f _ _ refl refl (d .result) (d .last .1 .0) (d .last .1 .1 .0) (d .ensures) (b11 .if1 .left)))))
+    (read-text f _ _ _ (record { coefficients = refl; vendor = refl; reserved = refl }) (d .result) (d .last .1 .0) (d .last .1 .1 .0) (d .last .1 .1 .1 .0) (d .ensures) (b11 .if1 .left) (b3 .check-of .result)
+    (b3 .check-of .ensures .1 (read-length f _ _ _ (record { coefficients = refl; vendor = refl; reserved = refl }) (d .result) (d .last .1 .0) (d .last .1 .1 .0) (d .last .1 .1 .1 .0) (d .ensures) (b11 .if1 .left)))))
 
 pub list-spec : {M : Type 1} → statement M
 list-spec =
@@ -72,6 +75,7 @@ list-spec =
     (tie.spec
     slice-aggregate-read
     slice-aggregate-read-2
+    slice-aggregate-read-3
     read-requires
     put-refused-requires
     same-length

@@ -13,6 +13,9 @@ slice-aggregate-read c = search needs
 slice-aggregate-read-2 : tie.Need-slice-aggregate-read-2
 slice-aggregate-read-2 c = search needs
 
+slice-aggregate-read-3 : tie.Need-slice-aggregate-read-3
+slice-aggregate-read-3 c = search needs
+
 read-requires : tie.Need-read-requires
 read-requires c κs = search needs
 
@@ -24,10 +27,10 @@ refused-requires c κs = search needs
 
 returns : tie.Need-returns
 returns c =
-    let a = c .before .before .before .before .before .before .before .before .before .before .args in
-    let r = c .before .before .before .before .before .before .read in
+    let a = c .before .before .before .before .before .before .before .before .before .before .before .before .args in
+    let r = c .before .before .before .before .before .before .before .read in
     c .refused .ensures
-    ∙ refused-is (a .frame .now) _ _ refl refl (r .result) (r .last .1 .0) (r .last .1 .1 .0) (r .ensures) (a .customer)
+    ∙ refused-is (a .frame .now) _ _ _ (record { coefficients = refl; vendor = refl; reserved = refl }) (r .result) (r .last .1 .0) (r .last .1 .1 .0) (r .last .1 .1 .1 .0) (r .ensures) (a .customer)
     (c .before .if1 .taken) _ (c .before .before .before .counted .ensures)
 
 like-requires : tie.Need-like-requires
@@ -45,10 +48,10 @@ slice-aggregate-highest c = search needs
 highest-requires : tie.Need-highest-requires
 highest-requires c κs = search needs
 
-cast-t19 : tie.Need-cast-t19
-cast-t19 c =
-    let p12 = c .before .before .before .before .before .before .before .before .before .before .before .before in
-    let r = p12 .read in omega (arith, c .highest .ensures, highest-within (r .last .1 .0), r .kept .1 .0)
+cast-t22 : tie.Need-cast-t22
+cast-t22 c =
+    let p13 = c .before .before .before .before .before .before .before .before .before .before .before .before .before in
+    let r = p13 .read in omega (arith, c .highest .ensures, highest-within (r .last .1 .0), r .kept .1 .0)
 
 returns-2 : tie.Need-returns-2
 returns-2 c =
@@ -57,11 +60,11 @@ returns-2 c =
     let p5 = p4 .before in
     let p7 = p5 .before .before in
     let p9 = p7 .before .before in
-    let p12 = p9 .before .before .before in
-    let p16 = p12 .before .before .before .before in
-    let a = p16 .args in
-    let r = p12 .read in
-    training-made (a .frame .now) _ _ refl refl (r .result) (r .last .1 .0) (r .last .1 .1 .0) (r .ensures) (a .customer)
+    let p13 = p9 .before .before .before .before in
+    let p18 = p13 .before .before .before .before .before in
+    let a = p18 .args in
+    let r = p13 .read in
+    training-made (a .frame .now) _ _ _ (record { coefficients = refl; vendor = refl; reserved = refl }) (r .result) (r .last .1 .0) (r .last .1 .1 .0) (r .last .1 .1 .1 .0) (r .ensures) (a .customer)
     (p7 .if1 .left) _ (p9 .counted .ensures) _ _ _ _ (c .highest .ensures)
     (p4 .like .ensures) (p3 .like2 .ensures) (c .before .before .training-rank .ensures) (p5 .if2 .taken)
 
@@ -79,11 +82,11 @@ returns-3 c =
     let p3 = c .before .before .before in
     let p5 = p3 .before .before in
     let p7 = p5 .before .before in
-    let p10 = p7 .before .before .before in
-    let p14 = p10 .before .before .before .before in
-    let a = p14 .args in
-    let r = p10 .read in
-    final-made (a .frame .now) _ _ refl refl (r .result) (r .last .1 .0) (r .last .1 .1 .0) (r .ensures) (a .customer)
+    let p11 = p7 .before .before .before .before in
+    let p16 = p11 .before .before .before .before .before in
+    let a = p16 .args in
+    let r = p11 .read in
+    final-made (a .frame .now) _ _ _ (record { coefficients = refl; vendor = refl; reserved = refl }) (r .result) (r .last .1 .0) (r .last .1 .1 .0) (r .last .1 .1 .1 .0) (r .ensures) (a .customer)
     (p5 .if1 .left) _ (p7 .counted .ensures) _ _ _ (c .before .before .final-rank .ensures)
     (c .before .no-word .ensures) (c .no-word2 .ensures) (p3 .if2 .left)
 
@@ -93,6 +96,7 @@ judge-spec =
     (tie.spec
     slice-aggregate-read
     slice-aggregate-read-2
+    slice-aggregate-read-3
     read-requires
     counted-requires
     refused-requires
@@ -102,7 +106,7 @@ judge-spec =
     training-rank-requires
     slice-aggregate-highest
     highest-requires
-    cast-t19
+    cast-t22
     returns-2
     final-rank-requires
     no-word-requires

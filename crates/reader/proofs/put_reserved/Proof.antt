@@ -1,0 +1,33 @@
+-- `reader::put_reserved` meets its contract.
+use borrow.Author.Needs.{needs}
+use mathlib.Core.Path.{refl}
+use Rattle.reader.proofs.Laws.{reserved-read}
+use Rattle.reader.proofs.put_reserved.Statement.{statement}
+use Rattle.reader.proofs.put_reserved.Tie as tie
+
+word-requires : tie.Need-word-requires
+word-requires c κs = search needs
+
+bits-requires : tie.Need-bits-requires
+bits-requires c κs = search needs
+
+put-word-requires : tie.Need-put-word-requires
+put-word-requires c κs = search needs
+
+put-front-requires : tie.Need-put-front-requires
+put-front-requires c κs = search needs
+
+same-length : tie.Need-same-length
+same-length c = search needs
+
+returns : tie.Need-returns
+returns c =
+    let y = c .before .before .put-front in
+    let x = c .before .before .before .before .before .before .put-word in
+    let b = c .before .before .before .before .before .before .before .before in
+    let a = b .before .before .before .before in
+    reserved-read (a .args .frame .now) (a .pre .0) (a .args .reserved .now) (x .last .0) (y .last .0) (a .pre .1) (b .before .word .ensures) (b .bits .ensures)
+    (x .ensures) (y .ensures) refl refl refl refl refl refl refl
+
+pub put-reserved-spec : {M : Type 1} → statement M
+put-reserved-spec = tie.close (tie.spec word-requires bits-requires put-word-requires put-front-requires same-length returns)
