@@ -93,8 +93,8 @@ void make_dear_inputs(void);
 
 /* Inputs, made once from one seed. */
 bool make_inputs(void); /* false where one could not be made */
-extern uint8_t batch[BATCH][SDSL_FRAME_OCTETS]; /* frames with good sync, pad and reserved bits; three with bad check bits */
-extern uint8_t cards[CARDS][SDSL_FRAME_OCTETS]; /* training and final frames, 36 of them refused with 5 to 8 */
+extern uint8_t batch[BATCH][SDSL_FRAME_OCTETS]; /* frames with good sync and pad; three with bad check bits */
+extern uint8_t cards[CARDS][SDSL_FRAME_OCTETS]; /* training and final frames, 40 of them refused with 5 to 7 */
 
 extern uint8_t training[BATCH][SDSL_FRAME_OCTETS];
 extern uint8_t line[2][BATCH][SDSL_FRAME_OCTETS]; /* `training`, scrambled by each end from its start, one after the other */

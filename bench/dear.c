@@ -33,13 +33,13 @@ static void make_frames(void)
                             sizeof full_vendor, dear_frames[kind][c], SDSL_FRAME_OCTETS);
         }
         flip_bit(dear_frames[kind][LAST_CHECK], SDSL_CHECK_BIT + 15);
-    }
-    for (size_t n = SDSL_COEFFICIENT_BIT; n < SDSL_CHECK_BIT; n++) {
-        if (!get_bit(dear_frames[SDSL_FINAL][ALL_ONES], n)) {
-            flip_bit(dear_frames[SDSL_FINAL][ALL_ONES], n);
+        for (size_t n = SDSL_COEFFICIENT_BIT; n < SDSL_CHECK_BIT; n++) {
+            if (!get_bit(dear_frames[kind][ALL_ONES], n)) {
+                flip_bit(dear_frames[kind][ALL_ONES], n);
+            }
         }
+        ref_put_check_bits(dear_frames[kind][ALL_ONES]);
     }
-    ref_put_check_bits(dear_frames[SDSL_FINAL][ALL_ONES]);
 }
 
 static void frame_name(size_t which, char *text, size_t room)

@@ -195,9 +195,9 @@ struct sdsl_frame_fields {
  *   reserved      9 octets, the 67 reserved bits, from a training frame only: bit 4145 has weight 1 in the first octet, bit 4211 weight
  *                 4 in the last, whose top five bits become zero
  * A final frame leaves `coefficients` and `reserved` as they were, but their lengths must still be right.
- * Reserved bits are not judged: a card of another make may set some. (Part 1 has the number of wire pairs, or of this pair, less one,
- * in bits 4145 and 4146.) They are under the check bits, and sdsl_frame_write puts zeros: what is read comes out the same when it is
- * written again with a count of 180 exactly where all nine octets are zero.
+ * Reserved bits are not judged: a card of another make may set some. (In part 1, bits 4145 and 4146 hold the number of wire pairs less
+ * one, or the number of this pair less one.) They are under the check bits. sdsl_frame_write writes them as zero, so a training frame
+ * that is read and written again with a count of 180 comes out the same exactly where all nine octets are zero.
  * A frame does not say how many coefficients are in use: unused ones are zero. Look at `answer` first: after a refusal kind is 0, which
  * is also SDSL_TRAINING.
  * Answers 0, 1, 5, 6, 7.
@@ -205,8 +205,8 @@ struct sdsl_frame_fields {
  * Example:
  *     uint8_t coefficients[SDSL_COEFFICIENT_OCTETS], vendor[SDSL_VENDOR_OCTETS], reserved[SDSL_RESERVED_OCTETS];
  *     uint8_t frame[SDSL_FRAME_OCTETS] = {0x9F, 0x35};
- *     frame[(SDSL_RESERVED_BIT - 1) / 8] = 0x03; // another maker's card sets two of them
- *     frame[526] = 0xD0, frame[527] = 0x8A;           // and these are the check bits of such a frame
+ *     frame[(SDSL_RESERVED_BIT - 1) / 8] = 0x03; // another maker's card sets two of them,
+ *     frame[526] = 0xD0, frame[527] = 0x8A;      // and these are the check bits of such a frame
  *     struct sdsl_frame_fields got = sdsl_frame_read(frame, sizeof frame, coefficients, sizeof coefficients, vendor, sizeof vendor,
  *                                                    reserved, sizeof reserved);
  *     assert(got.answer == SDSL_DONE && got.kind == SDSL_TRAINING && got.a == 0 && got.b == 0);

@@ -31,8 +31,8 @@ static unsigned send_ones(struct card *card, struct symbol *out, unsigned room)
 }
 
 /*
- * What a card of another make sends: bits 4145 and 4146 set, and the check bits of the frame that comes of it (clause 4.1.3.6, bit by
- * bit). The library writes no reserved bit.
+ * What a card of another make sends: bits 4145 and 4146 set, and the check bits that such a frame needs (clause 4.1.3.6, bit by bit).
+ * The library itself writes zeros there.
  */
 static void make_newer(uint8_t frame[SDSL_FRAME_OCTETS])
 {

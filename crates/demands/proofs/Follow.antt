@@ -38,11 +38,11 @@ use Rattle.demands.specs.Handed.{Outcome, None, WriteCall, ReadCall, Fie
 use Rattle.demands.specs.Library.{Library}
 use Rattle.demands.specs.One.{Answers, One}
 use Rattle.demands.specs.Checks.{writeChecks}
-use Rattle.demands.specs.Frames.{Right, Octets}
+use Rattle.demands.specs.Frames.{Right, Octets, Trains}
 use Rattle.demands.specs.Two.{Two}
 use Rattle.demands.specs.Unused.{NeverEight, EightUnused}
-use Rattle.demands.specs.Follow.{SameFields, writtenAgain, WrittenAgain, Trains, HandsReserved}
-use Rattle.demands.proofs.Fit.{many, training-fit, read-fit}
+use Rattle.demands.specs.Follow.{SameFields, writtenAgain, WrittenAgain, HandsReserved}
+use Rattle.demands.proofs.Fit.{many, training-fit, read-fit, read-right}
 
 module _ (x : Library) (two : Two x) where
   -- the bits of a training frame that was written
@@ -194,6 +194,15 @@ module _ (x : Library) (one : One x) where
       one .check .first F
       ∙ passed 1 (bitRefusals (bitsOf F)) (ap not (eq-eqb _ _ (octets-length 529 (frameBits (syncWord t) m))))
       ∙ ap (λ (b : List ℕ). answer (bitRefusals b)) (free-laid t m l h) ∙ free t m l h .0
+
+  -- and is read
+  pub free-read : (training : Bool) (m cs v s : List ℕ) → length m ≡ 4197 → Bits m → length cs ≡ 720 → length v ≡ 16 → length s ≡ 9
+      → x .read (record { frame = octetsOf 529 (frameBits (syncWord training) m); coefficients = cs; vendor = v; reserved = s }) .answer ≡ 0
+  free-read t m cs v s l h lc lv ls =
+      let c : ReadCall = record { frame = octetsOf 529 (frameBits (syncWord t) m); coefficients = cs; vendor = v; reserved = s } in
+      one .read .first c
+      ∙ read-right c lc (octets-length 529 (frameBits (syncWord t) m)) lv ls
+      (ap (λ (b : List ℕ). answer (bitRefusals b)) (free-laid t m l h) ∙ free t m l h .0)
 
   -- 8 is not used
   never : {C N M : Type 0} {f : C → Outcome N M} {checks : C → List Refusal} {before : C → M} {nothing : N} → Answers f checks before nothing → NeverEight f

@@ -23,7 +23,7 @@ use Rattle.demands.specs.Library.{Library}
 use Rattle.demands.specs.Checks.{readChecks}
 use Rattle.demands.specs.Frames.{Right}
 use Rattle.demands.specs.Two.{Two}
-use Rattle.demands.specs.WrongReserved.{TurnsAway, HandsZeros, ReservedUnwritten, RejectedReserved}
+use Rattle.demands.specs.WrongReserved.{reservedNumber, RejectedReserved}
 use Rattle.demands.proofs.Fit.{read-right}
 use Rattle.demands.proofs.Rejected.{zeros}
 
@@ -50,15 +50,15 @@ newer = octetsOf 529 (frameBits trainingSync m)
 newer-bits : bitsOf newer ≡ frameBits trainingSync m
 newer-bits = free-laid true m m-length m-bits
 
-abbrev call : ReadCall
+abbrev pub call : ReadCall
 call = record { frame = newer; coefficients = zeros 720; vendor = zeros 16; reserved = zeros 9 }
 
-call-right : Right (readChecks call)
+pub call-right : Right (readChecks call)
 call-right =
     read-right call refl (octets-length 529 (frameBits trainingSync m)) refl refl
     (ap (λ (b : List ℕ). answer (bitRefusals b)) newer-bits ∙ free true m m-length m-bits .0)
 
-trains : hasSync trainingSync (bitsOf newer) ≡ true
+pub trains : hasSync trainingSync (bitsOf newer) ≡ true
 trains = ap (hasSync trainingSync) newer-bits ∙ free true m m-length m-bits .1
 
 field-is : fieldOf reservedField (bitsOf newer) ≡ one-set
@@ -73,6 +73,9 @@ number-is = omega (arith, zeros-value 66)
 first-octet : getD (octetsOf 9 one-set) 0 0 ≡ 1
 unfolding octetsOf valueOf
 first-octet = refl
+
+pub some-set : reservedNumber call ≡ 0 → ⊥
+some-set z = omega (arith, sym (ap valueOf field-is ∙ number-is) ∙ z)
 
 module _ (x : Library) (two : Two x) where
   read-newer : (x .read call .answer ≡ 0) × (x .read call .numbers .kind ≡ 0) × (getD (x .read call .memory .reserved) 0 0 ≡ 1)
@@ -89,7 +92,9 @@ module _ (x : Library) (two : Two x) where
 
   pub reserved-rejected : RejectedReserved x
   reserved-rejected = record {
-    turns-away = λ w. w call trains (λ z. omega (arith, sym (ap valueOf field-is ∙ number-is) ∙ z)) (read-newer .0);
+    turns-away = λ w.
+        let t = w .1 in
+        w .3 (ap (λ (r : Outcome Fields Rooms). r .answer) (two .exact .frames .read-training (w .0) (t .0) (t .1)));
     hands-zeros = λ w. not-zeros (w call (read-newer .0) (read-newer .1));
     reserved-unwritten = λ w. not-zeros (w call (read-newer .0));
   }

@@ -4,7 +4,7 @@ use mathlib.Core.Bool.{Bool, true, false, cond, not, _&&_}
 use mathlib.Core.List.{List, [], _∷_, reverse}
 use Prim.Native.Nat.{ℕ, zero, suc, _≤_}
 use native.Mathlib.Omega.{arith}
-use borrow.Author.Tests.{eq-eqb, ne-eqb}
+use borrow.Author.Tests.{eq-eqb, ne-eqb, eqb-true}
 use lib.Dec.{eqb}
 use lib.ListN.{length, getD, take, replicate}
 use lib.Seq.{length-take-le}
@@ -29,16 +29,17 @@ use Rattle.demands.specs.Handed.{Outcome, None, none, WriteCall, ReadCal
 use Rattle.demands.specs.Handed.{Signal}
 use Rattle.demands.specs.One.{Answers, One}
 use Rattle.demands.specs.Checks.{writeChecks, readChecks, runChecks, frameChecks, encodeRunChecks, precodeChecks}
-use Rattle.demands.specs.Frames.{Right}
+use Rattle.demands.specs.Frames.{Right, Trains}
 use Rattle.demands.specs.WrongLibraries.{OneFrame, FrameUnwritten, CoefficientsUnwritten, VendorUnwritten, RunUnwritten, WholeUnwritten}
 use Rattle.demands.specs.WrongLibraries.{HistoryUnwritten, CodesUnwritten, PrecodedUnwritten, DecodedUnwritten, CopiesTheRest, TurnsA, TurnsB}
-use Rattle.demands.specs.WrongReserved.{reservedNumber, TurnsAway, ReadsTheOthers, HandsZeros, ReservedUnwritten}
+use Rattle.demands.specs.WrongReserved.{reservedNumber, TurnsAway, ElseAsDue, HandsZeros, ReservedUnwritten}
 use Rattle.demands.specs.NoStrawMan.{Built, OtherwiseAnswers, NoStrawMan}
 use Rattle.demands.proofs.One.{answers, ordered}
 use Rattle.demands.proofs.Two.{exact as exact-of}
 use Rattle.demands.proofs.Interwork.{laid-there, run-right}
 use Rattle.demands.proofs.Ours.{ours, ours-keep}
 use Rattle.demands.proofs.Rebuilt.{ours-one, Parts, rebuilt, rebuilt-one, usual, usual-answer}
+use Rattle.demands.proofs.ReservedRejected.{call, call-right, trains, some-set}
 use Rattle.demands.proofs.DataWrong.{one-data-frame-built, data-frame-built, payload-built, own-six-built}
 use Rattle.demands.proofs.WrongSteps.{moves-once-built, never-opens-built, calls-exception-built, same-ticks-built, counts-codes-built, gives-up-built, ends-too-late-built}
 
@@ -206,37 +207,50 @@ hands-zeros-built = (
       held-given (answer (readChecks c)) (c .reserved) _ r ∙ ap (λ (t : Bool). cond t (replicate 9 0) (c .reserved)) (training-known c r e),
 )
 
--- a training frame with a reserved bit set is refused with 7, and all else is read as ours reads it
-abbrev some-set : ReadCall → Bool
-some-set c = hasSync trainingSync (bitsOf (c .frame)) && not (eqb (reservedNumber c) 0)
-
+-- a training frame with a reserved bit set is refused with 7, and all else is as ours
 abbrev turned-away : ReadCall → Outcome Fields Rooms
 turned-away c = record { answer = 7; numbers = record { kind = 0; a = 0; b = 0 }; memory = as-it-was c }
 
+abbrev is-set : ReadCall → Bool
+is-set c = (eqb (answer (readChecks c)) 0 && hasSync trainingSync (bitsOf (c .frame))) && not (eqb (reservedNumber c) 0)
+
 abbrev turns-away : ReadCall → Outcome Fields Rooms
-turns-away c = cond (some-set c) (turned-away c) (ours .read c)
+turns-away c = cond (is-set c) (turned-away c) (ours .read c)
 
 -- what holds of both holds of it
 either-way : (P : Outcome Fields Rooms → Type 0) (b : Bool) (f g : Outcome Fields Rooms) → P f → P g → P (cond b f g)
 either-way P true f g p q = p
 either-way P false f g p q = q
 
-none-set : (b : Bool) (n : ℕ) → n ≡ 0 → (b && not (eqb n 0)) ≡ false
-none-set true n z = ap not (eq-eqb n 0 z)
-none-set false n z = refl
+-- one that is not to be turned away is not
+not-set : (c : ReadCall) → (Trains c → reservedNumber c ≡ 0) → is-set c ≡ false
+not-set c h = go (eqb (answer (readChecks c)) 0) refl (hasSync trainingSync (bitsOf (c .frame))) refl
+  where
+    go : (p : Bool) → eqb (answer (readChecks c)) 0 ≡ p → (q : Bool) → hasSync trainingSync (bitsOf (c .frame)) ≡ q
+        → ((p && q) && not (eqb (reservedNumber c) 0)) ≡ false
+    go true e true f = ap not (eq-eqb (reservedNumber c) 0 (h (eqb-true _ _ e, f)))
+    go true e false f = refl
+    go false e q f = refl
 
-turns-away-built : (f : ReadCall → Outcome Fields Rooms) × TurnsAway f × ReadsTheOthers f × OtherwiseAnswers f as-it-was (record { kind = 0; a = 0; b = 0 })
+turns-away-built : (f : ReadCall → Outcome Fields Rooms) × TurnsAway f × ElseAsDue f × OtherwiseAnswers f as-it-was (record { kind = 0; a = 0; b = 0 })
 turns-away-built = (
   turns-away,
-  λ c t n z. omega (arith, sym (ap (λ (b : Bool). cond b (turned-away c) (ours .read c) .answer) (ap₂ _&&_ t (ap not (ne-eqb (reservedNumber c) 0 n)))) ∙ z),
-  λ c r z.
-      ap (λ (b : Bool). cond b (turned-away c) (ours .read c) .answer) (none-set (hasSync trainingSync (bitsOf (c .frame))) (reservedNumber c) z)
-      ∙ ours-one .read .first c ∙ r,
+  (
+    call,
+    (call-right, trains),
+    some-set,
+    λ z. omega (
+      arith,
+      sym (ap (λ (b : Bool). cond b (turned-away call) (ours .read call) .answer)
+          (ap₂ _&&_ (ap₂ _&&_ (eq-eqb _ 0 call-right) trains) (ap not (ne-eqb (reservedNumber call) 0 some-set)))) ∙ z,
+    ),
+  ),
+  λ c h. ap (λ (b : Bool). cond b (turned-away c) (ours .read c) .answer) (not-set c h) ∙ ours-one .read .first c,
   record {
-    in-table = λ c. either-way (λ o. inTable (o .answer) ≡ true) (some-set c) (turned-away c) (ours .read c) refl (ours-one .read .in-table c);
-    no-numbers = λ c. either-way (λ o. (o .answer ≡ 0 → ⊥) → o .numbers ≡ record { kind = 0; a = 0; b = 0 }) (some-set c) (turned-away c) (ours .read c)
+    in-table = λ c. either-way (λ o. inTable (o .answer) ≡ true) (is-set c) (turned-away c) (ours .read c) refl (ours-one .read .in-table c);
+    no-numbers = λ c. either-way (λ o. (o .answer ≡ 0 → ⊥) → o .numbers ≡ record { kind = 0; a = 0; b = 0 }) (is-set c) (turned-away c) (ours .read c)
         (λ h. refl) (ours-one .read .no-numbers c);
-    unchanged = λ c. either-way (λ o. (o .answer ≡ 0 → ⊥) → o .memory ≡ as-it-was c) (some-set c) (turned-away c) (ours .read c)
+    unchanged = λ c. either-way (λ o. (o .answer ≡ 0 → ⊥) → o .memory ≡ as-it-was c) (is-set c) (turned-away c) (ours .read c)
         (λ h. refl) (ours-one .read .unchanged c);
   },
 )

@@ -2,7 +2,7 @@
 use mathlib.Core.Path.{_≡_}
 use mathlib.Core.List.{List}
 use Prim.Native.Nat.{ℕ, _≤_, _<_, _^_}
-use lib.ListN.{length, replicate}
+use lib.ListN.{length}
 use Rattle.octets.specs.Bits.{laid}
 use Rattle.layout.specs.Places.{vendorLength, reservedLength, frameLength}
 use Rattle.layout.specs.Frame.{used}
@@ -12,7 +12,7 @@ use Rattle.recurrence.specs.Run.{scramble, descramble}
 use Rattle.demands.specs.Handed.{none, WriteCall, ReadCall, BitCall, RunCall, FrameCall, PrecodeCall}
 use Rattle.demands.specs.Library.{Library}
 use Rattle.demands.specs.Checks.{writeChecks, bitChecks, runChecks, frameChecks, precodeChecks}
-use Rattle.demands.specs.Frames.{Right, Octets, done}
+use Rattle.demands.specs.Frames.{Right, Octets, done, noneSet}
 use Rattle.demands.specs.DataBack.{DataBack}
 
 -- a frame that one card scrambles into room on the line, and the other descrambles into room of its own
@@ -31,7 +31,7 @@ pub record Back (x y : Library) : Type 0 where
       (record {
         coefficients = numberOctets (used (c .count) (numbersOf (c .coefficients)));
         vendor = c .vendor;
-        reserved = replicate reservedLength 0;
+        reserved = noneSet;
       })
   -- a final frame: its kind and vendor data; the other rooms are as they were
   pub final : (c : WriteCall) (room vendor reserved : List ℕ) → c .kind ≡ 1 → Right (writeChecks c) → Octets (c .vendor)

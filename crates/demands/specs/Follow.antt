@@ -1,18 +1,16 @@
 -- For what follows from the demands.
 use mathlib.Core.Path.{_≡_}
-use mathlib.Core.Bool.{true}
 use mathlib.Core.List.{List, _++_}
 use Prim.Native.Nat.{ℕ, _-_, _*_}
 use lib.ListN.{replicate}
 use Rattle.octets.specs.Bits.{bitsOf}
-use Rattle.layout.specs.Places.{reservedWidth, reservedLength, reservedField}
-use Rattle.layout.specs.Frame.{trainingSync, used, fieldOf}
-use Rattle.layout.specs.Refusals.{hasSync}
+use Rattle.layout.specs.Places.{reservedWidth, reservedLength}
+use Rattle.layout.specs.Frame.{used}
+use Rattle.ranges.specs.Ranges.{coefficientCount}
 use Rattle.numbers.specs.Promises.{numbersOf}
 use Rattle.demands.specs.Handed.{WriteCall, ReadCall}
 use Rattle.demands.specs.Library.{Library}
-use Rattle.demands.specs.Checks.{readChecks}
-use Rattle.demands.specs.Frames.{Right}
+use Rattle.demands.specs.Frames.{reservedIn, noneSet, Trains}
 
 -- the fields of two training frames are the same: A, B, the coefficients in use, vendor data
 pub record SameFields (c d : WriteCall) : Type 0 where
@@ -21,21 +19,13 @@ pub record SameFields (c d : WriteCall) : Type 0 where
   pub same-coefficients : used (c .count) (numbersOf (c .coefficients)) ≡ used (d .count) (numbersOf (d .coefficients))
   pub same-vendor : c .vendor ≡ d .vendor
 
--- the reserved bits of a frame
-abbrev pub reservedIn : List ℕ → List ℕ
-reservedIn frame = fieldOf reservedField (bitsOf frame)
-
--- nine octets of zeros
-abbrev pub noneSet : List ℕ
-noneSet = replicate reservedLength 0
-
 -- what reading a training frame and writing what it gives with a count of 180 leaves in a room for a frame
 abbrev pub writtenAgain : Library → ReadCall → List ℕ → List ℕ
 writtenAgain x c room =
     let r = x .read c in
     let again : WriteCall = record {
       kind = 0;
-      count = 180;
+      count = coefficientCount;
       coefficients = r .memory .coefficients;
       a = r .numbers .a;
       b = r .numbers .b;
@@ -49,11 +39,7 @@ pub record WrittenAgain (x : Library) (c : ReadCall) (room : List ℕ) : Type 0 
   pub same : x .read c .memory .reserved ≡ noneSet → writtenAgain x c room ≡ c .frame
   pub only : writtenAgain x c room ≡ c .frame → x .read c .memory .reserved ≡ noneSet
 
--- a training frame that reads with 0
-abbrev pub Trains : ReadCall → Type 0
-Trains c = Right (readChecks c) × (hasSync trainingSync (bitsOf (c .frame)) ≡ true)
-
--- the nine octets that reading it hands back are its reserved bits and five zeros; so they tell which bits these were
+-- the nine octets that reading a training frame hands back are its reserved bits and five zeros; so they tell which bits these were
 pub record HandsReserved (x : Library) : Type 0 where
   pub bits : (c : ReadCall) → Trains c
       → bitsOf (x .read c .memory .reserved) ≡ reservedIn (c .frame) ++ replicate (8 * reservedLength - reservedWidth) 0

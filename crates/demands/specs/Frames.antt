@@ -4,7 +4,7 @@ use mathlib.Core.Path.{_≡_}
 use mathlib.Core.Bool.{true, false}
 use mathlib.Core.List.{List, [], _∷_}
 use Prim.Native.Nat.{ℕ, _<_}
-use lib.ListN.{getD}
+use lib.ListN.{getD, replicate}
 use Rattle.answer.specs.Answer.{Refusal, answer}
 use Rattle.octets.specs.Bits.{valueOf, bitsOf, octetsOf, laid}
 use Rattle.remainder.specs.Division.{Remainder, generator, polynomial}
@@ -32,6 +32,18 @@ Octets s = (i : ℕ) → getD s i 0 < 256
 abbrev pub done : {N M : Type 0} → N → M → Outcome N M
 done n m = record { answer = 0; numbers = n; memory = m }
 
+-- the reserved bits of a frame
+abbrev pub reservedIn : List ℕ → List ℕ
+reservedIn frame = fieldOf reservedField (bitsOf frame)
+
+-- nine octets of zeros
+abbrev pub noneSet : List ℕ
+noneSet = replicate reservedLength 0
+
+-- a training frame that is read, where no check applies
+abbrev pub Trains : ReadCall → Type 0
+Trains c = Right (readChecks c) × (hasSync trainingSync (bitsOf (c .frame)) ≡ true)
+
 -- FRAMES (000, clause 4.1.3)
 pub record Frames (x : Library) : Type 0 where
   -- "Writing a training frame takes a count of 128 to 180, room for 180 coefficients of which only the first count are looked at
@@ -49,7 +61,7 @@ pub record Frames (x : Library) : Type 0 where
       (record {
         coefficients = numberOctets (coefficientsOf (bitsOf (c .frame)));
         vendor = octetsOf vendorLength (fieldOf vendorField (bitsOf (c .frame)));
-        reserved = octetsOf reservedLength (fieldOf reservedField (bitsOf (c .frame)));
+        reserved = octetsOf reservedLength (reservedIn (c .frame));
       })
   -- a frame to which no check applies is answered 0
   pub checked : (frame : List ℕ) → Right (checkRefusals frame) → x .check frame ≡ done none none

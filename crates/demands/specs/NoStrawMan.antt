@@ -1,4 +1,5 @@
--- NO STRAW MAN: each version that has to be rejected can be built so that it meets demand 1 (theorem `no-straw-man`: ours with one function changed).
+-- NO STRAW MAN: each version that has to be rejected can be built so that it meets demand 1 (theorem `no-straw-man`: ours with one function changed);
+-- refusing everything, or a frame for its reserved bits, cannot meet "None is given otherwise", and is built to meet the rest.
 use mathlib.Core.Path.{_≡_}
 use mathlib.Core.Bool.{true}
 use Rattle.answer.specs.Table.{inTable}
@@ -10,7 +11,7 @@ use Rattle.demands.specs.Three.{supervisor}
 use Rattle.demands.specs.WrongLibraries.{Refuses, OneFrame, FrameUnwritten, CoefficientsUnwritten, VendorUnwritten, RunUnwritten, WholeUnwritten}
 use Rattle.demands.specs.WrongLibraries.{HistoryUnwritten, CodesUnwritten, PrecodedUnwritten, DecodedUnwritten, CopiesTheRest, TurnsA, TurnsB}
 use Rattle.demands.specs.WrongData.{OneDataFrame, DataFrameUnwritten, PayloadUnwritten, OwnSix}
-use Rattle.demands.specs.WrongReserved.{TurnsAway, ReadsTheOthers, HandsZeros, ReservedUnwritten}
+use Rattle.demands.specs.WrongReserved.{TurnsAway, ElseAsDue, HandsZeros, ReservedUnwritten}
 use Rattle.demands.specs.WrongSupervisors.{MovesOnce, NeverOpens, CallsException, SameTicks, CountsCodes, GivesUp, EndsTooLate}
 
 -- such a version that meets demand 1
@@ -39,8 +40,8 @@ pub record NoStrawMan : Type 1 where
   pub copies-the-rest : Built CopiesTheRest
   pub turns-a : Built TurnsA
   pub turns-b : Built TurnsB
-  -- this one too cannot meet "None is given otherwise"; it meets the rest, and reads every frame with its reserved bits zero
-  pub turns-away : (f : ReadCall → Outcome Fields Rooms) × TurnsAway f × ReadsTheOthers f
+  -- this one too cannot meet "None is given otherwise", but only where a reserved bit is set
+  pub turns-away : (f : ReadCall → Outcome Fields Rooms) × TurnsAway f × ElseAsDue f
       × OtherwiseAnswers f (λ c. record { coefficients = c .coefficients; vendor = c .vendor; reserved = c .reserved }) (record { kind = 0; a = 0; b = 0 })
   pub hands-zeros : Built HandsZeros
   pub reserved-unwritten : Built ReservedUnwritten

@@ -1,6 +1,5 @@
 -- "8 is never given again and its number stays unused": by no function, for no call.
 use mathlib.Core.Path.{_≡_}
-use Prim.Native.Nat.{ℕ}
 use Rattle.recurrence.specs.Run.{Way}
 use Rattle.demands.specs.Handed.{Outcome}
 use Rattle.demands.specs.Library.{Library}

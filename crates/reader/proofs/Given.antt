@@ -20,7 +20,7 @@ use Rattle.layout.proofs.RoundTrip.{zeros-are}
 use Rattle.layout.proofs.Reserved.{bits-and-zeros, octets-tell, zeros-octets}
 use Rattle.checker.proofs.Laws.{right-length}
 use Rattle.reader.specs.declared.Found.{Found}
-use Rattle.reader.specs.Promises.{foundOf, coefficientsLeft, vendorOctets, reservedOctets, reservedLeft, Read}
+use Rattle.reader.specs.Promises.{foundOf, coefficientsLeft, vendorOctets, reservedOctets, Read}
 use Rattle.reader.proofs.Laws.{Rooms, as-checked}
 
 module _ (f : List ℕ) (cs : List ℤ) (v s : List ℕ) (rooms : Rooms cs v s) (r : Found) (cs′ : List ℤ) (v′ s′ : List ℕ)
@@ -49,9 +49,6 @@ module _ (f : List ℕ) (cs : List ℤ) (v s : List ℕ) (rooms : Rooms cs v s) 
 
     pub vendor-is : v′ ≡ vendorOctets (bitsOf f)
     vendor-is = d .vendor-left ∙ given _ v (vendorOctets (bitsOf f)) (same ∙ none-applies)
-
-    pub reserved-is : s′ ≡ reservedLeft (bitsOf f) s
-    reserved-is = d .reserved-left ∙ given _ s (reservedLeft (bitsOf f) s) (same ∙ none-applies)
 
     pub found-is : r ≡ foundOf 0 (bitsOf f)
     found-is = found ∙ ap (λ (n : ℕ). foundOf n (bitsOf f)) none-applies

@@ -6,7 +6,6 @@ use Prim.Native.Nat.{ℕ, zero, suc}
 use native.Mathlib.Omega.{arith}
 use borrow.Author.Tests.{eq-eqb, ne-eqb}
 use lib.IntN.{ℤ}
-use lib.ListN.{length}
 use Rattle.answer.specs.Answer.{answer}
 use Rattle.octets.specs.Bits.{valueOf, bitsOf}
 use Rattle.layout.specs.Places.{aField, bField}
