@@ -29,7 +29,7 @@ use Rattle.checker.proofs.Laws.{checked}
 use Rattle.layout.proofs.RoundTrip.{training-laid, a-back, b-back, used-back, vendor-back, sound, field-bits, free, free-laid, training-again, only-clear-again}
 use Rattle.layout.proofs.OneBit.{one-bit}
 use Rattle.reader.specs.Promises.{reservedOctets}
-use Rattle.reader.proofs.Given.{reserved-bits, reserved-tell, clear-octets, octets-clear}
+use Rattle.layout.proofs.Reserved.{reserved-bits, reserved-tell, clear-octets, octets-clear}
 use Rattle.distance.specs.Errors.{Few, Burst}
 use Rattle.distance.proofs.Frames.{changed-checked}
 use Rattle.numbers.specs.Promises.{numbersOf, numberOctets}

@@ -1,14 +1,20 @@
--- Bits in whole octets that they do not fill, as 67 in nine: the bits and zeros behind them, and nothing else. Over any number of them.
--- Assumes nothing.
+-- Bits in whole octets that they do not fill: the bits and zeros behind them, and nothing else, over any number of them; so are the reserved bits of a
+-- frame, 67 in nine octets. Assumes nothing.
 use mathlib.Core.Path.{_≡_, refl, sym, ap, ap₂, _∙_}
-use mathlib.Core.List.{List, [], _∷_, _++_}
-use Prim.Native.Nat.{ℕ, zero, suc, _+_, _*_}
+use mathlib.Core.List.{List, [], _∷_, _++_, append-assoc}
+use Prim.Native.Nat.{ℕ, zero, suc, _+_, _*_, _^_, min}
 use native.Mathlib.Omega.{arith}
-use lib.ListN.{length, take, drop, replicate, length-append, length-replicate}
-use lib.Seq.{take-at, take-nil, drop-nil}
-use Rattle.octets.specs.Bits.{valueOf, bitsOf, octetsOf}
-use Rattle.octets.proofs.Digits.{Bits, append-bits, zeros-bits, no-value}
-use Rattle.octets.proofs.Laws.{bits-octets}
+use lib.Dec.{lit≤}
+use lib.ListN.{length, take, drop, replicate, length-append, length-drop, length-replicate}
+use lib.Seq.{take-at, take-nil, drop-nil, length-take-le}
+use Rattle.octets.specs.Bits.{digitsOf, valueOf, bitsOf, octetsOf, part, laid}
+use Rattle.octets.specs.Promises.{WordRead, WordPut, BitsRead, FrontPut}
+use Rattle.octets.proofs.Digits.{Bits, append-bits, zeros-bits, no-value, zeros-value, zeros-digits}
+use Rattle.octets.proofs.Laws.{bits-octets, bits-length, bits-bits, bits-part, part-lt, laid-next, laid-end}
+use Rattle.octets.proofs.Words.{digits-join, field-digits, part-more}
+use Rattle.layout.specs.Places.{reservedField}
+use Rattle.layout.specs.Frame.{fieldOf}
+use Rattle.layout.proofs.RoundTrip.{zeros-are}
 
 -- ---- zeros behind bits change none of their octets
 
@@ -58,3 +64,73 @@ no-bits (suc n) = ap₂ (λ (v : ℕ) (os : List ℕ). v ∷ os) no-value (no-bi
 
 pub zeros-octets : (n k : ℕ) → octetsOf n (replicate k 0) ≡ replicate n 0
 zeros-octets n k = octets-zeros n [] k ∙ no-bits n
+
+-- ---- the nine octets of reserved bits
+
+abbrev nine : List ℕ → List ℕ
+nine bits = octetsOf 9 (fieldOf reservedField bits)
+
+module _ (f : List ℕ) (l : length f ≡ 529) where
+  reserved-length : length (fieldOf reservedField (bitsOf f)) ≡ 67
+  reserved-length = length-take-le 67 (drop 4144 (bitsOf f)) (omega (arith, length-drop 4144 (bitsOf f), bits-length f))
+
+  -- their bits are the field and five zeros
+  pub reserved-bits : bitsOf (nine (bitsOf f)) ≡ fieldOf reservedField (bitsOf f) ++ replicate 5 0
+  reserved-bits = bits-and-zeros 9 5 (fieldOf reservedField (bitsOf f)) (omega (arith, reserved-length)) (bits-part f 4144 67)
+
+  -- so frames with different reserved bits give different octets
+  pub reserved-tell : (g : List ℕ) → length g ≡ 529 → nine (bitsOf f) ≡ nine (bitsOf g)
+      → fieldOf reservedField (bitsOf f) ≡ fieldOf reservedField (bitsOf g)
+  reserved-tell g m e =
+      octets-tell 9 5 (fieldOf reservedField (bitsOf f)) (omega (arith, reserved-length)) (bits-part f 4144 67) (fieldOf reservedField (bitsOf g))
+      (length-take-le 67 (drop 4144 (bitsOf g)) (omega (arith, length-drop 4144 (bitsOf g), bits-length g)) ∙ sym reserved-length) e (bits-part g 4144 67)
+
+  -- they are zero exactly where the reserved bits are
+  pub clear-octets : valueOf (fieldOf reservedField (bitsOf f)) ≡ 0 → nine (bitsOf f) ≡ replicate 9 0
+  clear-octets z = ap (octetsOf 9) (zeros-are (bitsOf f) (bits-length f ∙ ap (λ (n : ℕ). 8 * n) l) (bits-bits f) 4144 67 (lit≤ tt) z) ∙ zeros-octets 9 67
+
+  pub octets-clear : nine (bitsOf f) ≡ replicate 9 0 → valueOf (fieldOf reservedField (bitsOf f)) ≡ 0
+  octets-clear e =
+      ap valueOf (octets-tell 9 5 (fieldOf reservedField (bitsOf f)) (omega (arith, reserved-length)) (bits-part f 4144 67) (replicate 67 0)
+      (length-replicate 67 zero ∙ sym reserved-length) (e ∙ sym (zeros-octets 9 67)) (zeros-bits 67)) ∙ zeros-value 67
+
+-- ---- as they are taken: 64 and 3 of them, and zeros behind them to the room's end
+
+module _ (f : List ℕ) (l : length f ≡ 529) where
+  abbrev first : List ℕ
+  first = part 4144 64 (bitsOf f)
+
+  abbrev last : List ℕ
+  last = part 4208 3 (bitsOf f)
+
+  first-digits : digitsOf 64 (valueOf first) ≡ first
+  first-digits = field-digits f 4144 64 (omega arith)
+
+  -- a number of three bits in an octet
+  last-digits : digitsOf 8 (valueOf last) ≡ last ++ replicate 5 0
+  last-digits =
+      let v = valueOf last in
+      let e : v ≡ 0 * 2 ^ 3 + v = omega arith in
+      ap (digitsOf 8) e ∙ digits-join 3 5 8 0 v refl (part-lt f 4208 3) ∙ ap₂ _++_ (field-digits f 4208 3 (omega arith)) (zeros-digits 5)
+
+  first-length : length first ≡ 64
+  first-length = length-take-le 64 (drop 4144 (bitsOf f)) (omega (arith, length-drop 4144 (bitsOf f), bits-length f))
+
+  last-length : length last ≡ 3
+  last-length = length-take-le 3 (drop 4208 (bitsOf f)) (omega (arith, length-drop 4208 (bitsOf f), bits-length f))
+
+  pub reserved-taken : (s t u : List ℕ) {i at k n j p q lo hi : ℕ} → length s ≡ 9 → WordRead f i lo → BitsRead f at k n hi → WordPut s j lo t
+      → FrontPut t p q hi u → i ≡ 518 → at ≡ 4144 → k ≡ 64 → n ≡ 3 → j ≡ 0 → p ≡ 8 → q ≡ 8 → u ≡ nine (bitsOf f)
+  reserved-taken s t u {k = k} {q = q} ls a b c d ei ea ek en ej ep eq =
+      let B = bitsOf f in
+      let z : List ℕ = replicate 5 0 in
+      let low = a ∙ ap (λ (x : ℕ). valueOf (part (8 * x) 64 B)) ei in
+      let high = b ∙ ap₂ (λ (x y : ℕ). valueOf (part (x + k) (min y 56) B)) ea en ∙ ap (λ (x : ℕ). valueOf (part (4144 + x) 3 B)) ek in
+      let put : t ≡ laid s 0 first = c ∙ ap₂ (λ (x y : ℕ). laid s (8 * x) (digitsOf 64 y)) ej low ∙ ap (laid s 0) first-digits in
+      let put-last : u ≡ laid t 64 (last ++ z) = d ∙ ap₂ (λ (x y : ℕ). laid t (8 * x) (digitsOf (min q 64) y)) ep high
+      ∙ ap (λ (x : ℕ). laid t 64 (digitsOf (min x 64) (valueOf last))) eq ∙ ap (laid t 64) last-digits in
+      laid-next s 0 first (last ++ z) 64 (bits-part f 4144 64) (omega (arith, first-length)) put put-last
+      ∙ laid-end s 0 (first ++ (last ++ z))
+      (omega (arith, ls, length-append first (last ++ z), length-append last z, first-length, last-length, length-replicate 5 zero))
+      ∙ ap₂ octetsOf ls (sym (append-assoc first last z) ∙ ap (λ (x : List ℕ). x ++ z) (part-more B 4144 64 3 67 refl))
+      ∙ octets-zeros 9 (part 4144 67 B) 5

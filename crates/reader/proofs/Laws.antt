@@ -1,22 +1,20 @@
 -- Laws of reading a frame. Assumes nothing.
 use mathlib.Core.Path.{_≡_, refl, sym, ap, ap₂, _∙_}
 use mathlib.Core.Bool.{Bool, true, false, cond, not, _&&_, true≢false}
-use mathlib.Core.List.{List, _∷_, _++_, append-assoc}
-use Prim.Native.Nat.{ℕ, zero, suc, _+_, _*_, _^_, min}
+use mathlib.Core.List.{List, _∷_}
+use Prim.Native.Nat.{ℕ, zero, suc}
 use native.Mathlib.Omega.{arith}
 use borrow.Author.Tests.{eq-eqb, eqb-true}
 use lib.Dec.{eqb, lit≤}
 use lib.IntN.{ℤ}
-use lib.ListN.{length, drop, replicate, length-append, length-drop, length-replicate}
+use lib.ListN.{length, drop, length-drop}
 use lib.Seq.{length-take-le}
 use Rattle.answer.specs.Answer.{refuse, answer}
 use Rattle.answer.proofs.Laws.{kept, given}
 use Rattle.answer.proofs.Order.{both}
-use Rattle.octets.specs.Bits.{digitsOf, valueOf, bitsOf, octetsOf, part, laid}
-use Rattle.octets.specs.Promises.{WordRead, WordPut, BitsRead, FrontPut, Copied}
-use Rattle.octets.proofs.Digits.{zeros-digits}
-use Rattle.octets.proofs.Laws.{bits-length, bits-part, part-lt, laid-next, laid-end}
-use Rattle.octets.proofs.Words.{digits-join, field-digits, part-more}
+use Rattle.octets.specs.Bits.{valueOf, bitsOf, octetsOf, part, laid}
+use Rattle.octets.specs.Promises.{Copied}
+use Rattle.octets.proofs.Laws.{bits-length, laid-end}
 use Rattle.bitfields.specs.Promises.{behindOf}
 use Rattle.walk.specs.declared.TakenPair.{TakenPair}
 use Rattle.walk.specs.Promises.{PairTaken, SignedFilled, signedFrom, behindAll}
@@ -24,7 +22,6 @@ use Rattle.walk.proofs.Laws.{behind-all-is, signed-from}
 use Rattle.layout.specs.Places.{aField, bField}
 use Rattle.layout.specs.Frame.{trainingSync, fieldOf, coefficientsOf}
 use Rattle.layout.specs.Refusals.{hasSync, bitRefusals, checkRefusals, readRefusals}
-use Rattle.layout.proofs.Reserved.{octets-zeros}
 use Rattle.reader.specs.declared.Found.{Found}
 use Rattle.reader.specs.Promises.{foundOf, coefficientsLeft, vendorOctets, reservedOctets, reservedLeft, Read}
 
@@ -55,47 +52,6 @@ vendor-read f v v′ l lv e h k =
     let D = part 4016 128 (bitsOf f) in
     let full : length D ≡ 128 = length-take-le 128 (drop 4016 (bitsOf f)) (omega (arith, length-drop 4016 (bitsOf f), bits-length f)) in
     e ∙ ap₂ (λ (i j : ℕ). laid v 0 (part i j (bitsOf f))) h k ∙ laid-end v 0 D (omega arith) ∙ ap (λ (j : ℕ). octetsOf j D) lv
-
--- ---- the reserved bits, 64 and 3 of them, and zeros behind them to the room's end
-
-module _ (f : List ℕ) (l : length f ≡ 529) where
-  abbrev first : List ℕ
-  first = part 4144 64 (bitsOf f)
-
-  abbrev last : List ℕ
-  last = part 4208 3 (bitsOf f)
-
-  first-digits : digitsOf 64 (valueOf first) ≡ first
-  first-digits = field-digits f 4144 64 (omega arith)
-
-  -- a number of three bits in an octet
-  last-digits : digitsOf 8 (valueOf last) ≡ last ++ replicate 5 0
-  last-digits =
-      let v = valueOf last in
-      let e : v ≡ 0 * 2 ^ 3 + v = omega arith in
-      ap (digitsOf 8) e ∙ digits-join 3 5 8 0 v refl (part-lt f 4208 3) ∙ ap₂ _++_ (field-digits f 4208 3 (omega arith)) (zeros-digits 5)
-
-  first-length : length first ≡ 64
-  first-length = length-take-le 64 (drop 4144 (bitsOf f)) (omega (arith, length-drop 4144 (bitsOf f), bits-length f))
-
-  last-length : length last ≡ 3
-  last-length = length-take-le 3 (drop 4208 (bitsOf f)) (omega (arith, length-drop 4208 (bitsOf f), bits-length f))
-
-  pub reserved-read : (s t u : List ℕ) {i at k n j p q lo hi : ℕ} → length s ≡ 9 → WordRead f i lo → BitsRead f at k n hi → WordPut s j lo t
-      → FrontPut t p q hi u → i ≡ 518 → at ≡ 4144 → k ≡ 64 → n ≡ 3 → j ≡ 0 → p ≡ 8 → q ≡ 8 → u ≡ reservedOctets (bitsOf f)
-  reserved-read s t u {k = k} {q = q} ls a b c d ei ea ek en ej ep eq =
-      let B = bitsOf f in
-      let z : List ℕ = replicate 5 0 in
-      let low = a ∙ ap (λ (x : ℕ). valueOf (part (8 * x) 64 B)) ei in
-      let high = b ∙ ap₂ (λ (x y : ℕ). valueOf (part (x + k) (min y 56) B)) ea en ∙ ap (λ (x : ℕ). valueOf (part (4144 + x) 3 B)) ek in
-      let put : t ≡ laid s 0 first = c ∙ ap₂ (λ (x y : ℕ). laid s (8 * x) (digitsOf 64 y)) ej low ∙ ap (laid s 0) first-digits in
-      let put-last : u ≡ laid t 64 (last ++ z) = d ∙ ap₂ (λ (x y : ℕ). laid t (8 * x) (digitsOf (min q 64) y)) ep high
-      ∙ ap (λ (x : ℕ). laid t 64 (digitsOf (min x 64) (valueOf last))) eq ∙ ap (laid t 64) last-digits in
-      laid-next s 0 first (last ++ z) 64 (bits-part f 4144 64) (omega (arith, first-length)) put put-last
-      ∙ laid-end s 0 (first ++ (last ++ z))
-      (omega (arith, ls, length-append first (last ++ z), length-append last z, first-length, last-length, length-replicate 5 zero))
-      ∙ ap₂ octetsOf ls (sym (append-assoc first last z) ∙ ap (λ (x : List ℕ). x ++ z) (part-more B 4144 64 3 67 refl))
-      ∙ octets-zeros 9 (part 4144 67 B) 5
 
 -- ---- what reading promises, by cases
 

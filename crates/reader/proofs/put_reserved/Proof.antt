@@ -1,7 +1,7 @@
 -- `reader::put_reserved` meets its contract.
 use borrow.Author.Needs.{needs}
 use mathlib.Core.Path.{refl}
-use Rattle.reader.proofs.Laws.{reserved-read}
+use Rattle.layout.proofs.Reserved.{reserved-taken}
 use Rattle.reader.proofs.put_reserved.Statement.{statement}
 use Rattle.reader.proofs.put_reserved.Tie as tie
 
@@ -26,7 +26,7 @@ returns c =
     let x = c .before .before .before .before .before .before .put-word in
     let b = c .before .before .before .before .before .before .before .before in
     let a = b .before .before .before .before in
-    reserved-read (a .args .frame .now) (a .pre .0) (a .args .reserved .now) (x .last .0) (y .last .0) (a .pre .1) (b .before .word .ensures) (b .bits .ensures)
+    reserved-taken (a .args .frame .now) (a .pre .0) (a .args .reserved .now) (x .last .0) (y .last .0) (a .pre .1) (b .before .word .ensures) (b .bits .ensures)
     (x .ensures) (y .ensures) refl refl refl refl refl refl refl
 
 pub put-reserved-spec : {M : Type 1} → statement M
