@@ -4,7 +4,7 @@ use mathlib.Core.Bool.{Bool, true, false, cond, not, _&&_, true≢false}
 use mathlib.Core.List.{List, _∷_}
 use Prim.Native.Nat.{ℕ, zero, suc}
 use native.Mathlib.Omega.{arith}
-use borrow.Author.Tests.{eq-eqb, eqb-true}
+use borrow.Author.Tests.{eq-eqb, eqb-true, not-true, not-false}
 use lib.Dec.{eqb, lit≤}
 use lib.IntN.{ℤ}
 use lib.ListN.{length, drop, length-drop}
@@ -55,10 +55,13 @@ vendor-read f v v′ l lv e h k =
 
 -- ---- what reading promises, by cases
 
+-- whether the three rooms have their lengths, as the code asks it
+abbrev Asked : List ℤ → List ℕ → List ℕ → Bool → Type 0
+Asked cs v s r = r ≡ (eqb (length cs) 180 && (eqb (length v) 16 && eqb (length s) 9))
+
 -- rooms of which one has the wrong length are refused, whatever the frame is
-pub rooms-refused : (f : List ℕ) (cs : List ℤ) (v s : List ℕ) → (eqb (length cs) 180 && (eqb (length v) 16 && eqb (length s) 9)) ≡ false
-    → 1 ≡ answer (readRefusals f cs v s)
-rooms-refused f cs v s = go (eqb (length f) 529) (eqb (length cs) 180) (eqb (length v) 16) (eqb (length s) 9)
+pub rooms-refused : (f : List ℕ) (cs : List ℤ) (v s : List ℕ) {r : Bool} → Asked cs v s r → not r ≡ true → 1 ≡ answer (readRefusals f cs v s)
+rooms-refused f cs v s e n = go (eqb (length f) 529) (eqb (length cs) 180) (eqb (length v) 16) (eqb (length s) 9) (sym e ∙ not-true _ n)
   where
     go : (p q r t : Bool) → (q && (r && t)) ≡ false
         → 1 ≡ answer (refuse 1 (not p) ∷ refuse 1 (not q) ∷ refuse 1 (not r) ∷ refuse 1 (not t) ∷ bitRefusals (bitsOf f))
@@ -74,9 +77,9 @@ pub record Rooms (cs : List ℤ) (v s : List ℕ) : Type 0 where
   pub vendor : length v ≡ 16
   pub reserved : length s ≡ 9
 
-pub rooms-are : (cs : List ℤ) (v s : List ℕ) → (eqb (length cs) 180 && (eqb (length v) 16 && eqb (length s) 9)) ≡ true → Rooms cs v s
-rooms-are cs v s e =
-    let a = both (eqb (length cs) 180) (eqb (length v) 16 && eqb (length s) 9) e in
+pub rooms-are : (cs : List ℤ) (v s : List ℕ) {r : Bool} → Asked cs v s r → not r ≡ false → Rooms cs v s
+rooms-are cs v s e n =
+    let a = both (eqb (length cs) 180) (eqb (length v) 16 && eqb (length s) 9) (sym e ∙ not-false _ n) in
     let b = both (eqb (length v) 16) (eqb (length s) 9) (a .1) in
     record { coefficients = eqb-true _ _ (a .0); vendor = eqb-true _ _ (b .0); reserved = eqb-true _ _ (b .1) }
 

@@ -1,6 +1,5 @@
 -- `reader::read` meets its contract.
 use borrow.Author.Needs.{needs}
-use borrow.Author.Tests.{not-true, not-false}
 use mathlib.Core.Path.{refl, sym, _∙_}
 use native.Mathlib.Omega.{arith}
 use Rattle.checker.proofs.Laws.{right-length, kind-training, kind-final}
@@ -20,7 +19,7 @@ returns c =
     let r = c .before .before .rooms-right in
     let a = c .before .before .before .before .before .before .args in
     refusing (a .frame .now) (a .coefficients .now) (a .vendor .now) (a .reserved .now) 1 (c .refused .result)
-    (rooms-refused (a .frame .now) (a .coefficients .now) (a .vendor .now) (a .reserved .now) (sym (r .ensures) ∙ not-true _ (c .before .if1 .taken)))
+    (rooms-refused (a .frame .now) (a .coefficients .now) (a .vendor .now) (a .reserved .now) (r .ensures) (c .before .if1 .taken))
     (λ e. omega arith) (c .refused .ensures)
 
 kind-of-requires : tie.Need-kind-of-requires
@@ -33,8 +32,7 @@ returns-2 : tie.Need-returns-2
 returns-2 c =
     let k = c .before .before .before in
     let a = k .before .before .before .before .before .before .args in
-    let m = rooms-are (a .coefficients .now) (a .vendor .now) (a .reserved .now)
-    (sym (k .before .before .rooms-right .ensures) ∙ not-false _ (k .before .if1 .left)) in
+    let m = rooms-are (a .coefficients .now) (a .vendor .now) (a .reserved .now) (k .before .before .rooms-right .ensures) (k .before .if1 .left) in
     refusing (a .frame .now) (a .coefficients .now) (a .vendor .now) (a .reserved .now) (k .kind-of .result .answer) (c .refused2 .result)
     (k .kind-of .ensures .checked .answered ∙ as-checked (a .frame .now) (a .coefficients .now) (a .vendor .now) (a .reserved .now) m)
     (c .before .if2 .taken) (c .refused2 .ensures)
@@ -47,8 +45,7 @@ put-reserved-requires c κs =
     let z = c .before .before .before .before .before .before in
     let k = z .before .before in
     let a = k .before .before .before .before .before .before .args in
-    let m = rooms-are (a .coefficients .now) (a .vendor .now) (a .reserved .now)
-    (sym (k .before .before .rooms-right .ensures) ∙ not-false _ (k .before .if1 .left)) in
+    let m = rooms-are (a .coefficients .now) (a .vendor .now) (a .reserved .now) (k .before .before .rooms-right .ensures) (k .before .if1 .left) in
     (right-length (a .frame .now) (sym (k .kind-of .ensures .checked .answered) ∙ z .if2 .left), m .reserved)
 
 words-requires : tie.Need-words-requires
@@ -57,8 +54,7 @@ words-requires c κs =
     let z = w .before .before .before .before in
     let k = z .before .before in
     let a = k .before .before .before .before .before .before .args in
-    let m = rooms-are (a .coefficients .now) (a .vendor .now) (a .reserved .now)
-    (sym (k .before .before .rooms-right .ensures) ∙ not-false _ (k .before .if1 .left)) in (
+    let m = rooms-are (a .coefficients .now) (a .vendor .now) (a .reserved .now) (k .before .before .rooms-right .ensures) (k .before .if1 .left) in (
       right-length (a .frame .now) (sym (k .kind-of .ensures .checked .answered) ∙ z .if2 .left),
       words-at (a .frame .now) (a .coefficients .now) (w .fill-signed .last .1 .1 .1 .0) (w .fill-signed .result) (m .coefficients) (w .fill-signed .ensures),
       m .vendor,
@@ -82,8 +78,7 @@ returns-3 c =
     let k = t .before .before .before .before in
     let a = k .before .before .before .before .before .before .args in
     let z = sym (k .kind-of .ensures .checked .answered) ∙ t .before .before .if2 .left in
-    let m = rooms-are (a .coefficients .now) (a .vendor .now) (a .reserved .now)
-    (sym (k .before .before .rooms-right .ensures) ∙ not-false _ (k .before .if1 .left)) in
+    let m = rooms-are (a .coefficients .now) (a .vendor .now) (a .reserved .now) (k .before .before .rooms-right .ensures) (k .before .if1 .left) in
     training-read (a .frame .now) (a .coefficients .now) (a .vendor .now) (a .reserved .now)
     (sym (as-checked (a .frame .now) (a .coefficients .now) (a .vendor .now) (a .reserved .now) m) ∙ z) (w .result) (s .fill-signed .last .1 .1 .1 .0)
     (w .last .1 .1 .0) (p .last .1 .0) (kind-training (a .frame .now) (k .kind-of .result) (k .kind-of .ensures) z (t .if3 .taken)) (w .ensures .1)
@@ -103,8 +98,7 @@ returns-4 c =
     let k = t .before .before .before .before in
     let a = k .before .before .before .before .before .before .args in
     let z = sym (k .kind-of .ensures .checked .answered) ∙ t .before .before .if2 .left in
-    let m = rooms-are (a .coefficients .now) (a .vendor .now) (a .reserved .now)
-    (sym (k .before .before .rooms-right .ensures) ∙ not-false _ (k .before .if1 .left)) in
+    let m = rooms-are (a .coefficients .now) (a .vendor .now) (a .reserved .now) (k .before .before .rooms-right .ensures) (k .before .if1 .left) in
     final-read (a .frame .now) (a .coefficients .now) (a .vendor .now) (a .reserved .now)
     (sym (as-checked (a .frame .now) (a .coefficients .now) (a .vendor .now) (a .reserved .now) m) ∙ z) (y .last .0)
     (kind-final (a .frame .now) (k .kind-of .result) (k .kind-of .ensures) z (t .if3 .left))
