@@ -111,6 +111,13 @@ module _ (f : List ℕ) (cs : List ℤ) (v s : List ℕ) where
       y : A ≡ 0 → ⊥
       y h = z (e ∙ h)
 
+  -- the room for the reserved bits after a training frame, and after a final one
+  handed : hasSync trainingSync B ≡ true → reservedLeft B s ≡ reservedOctets B
+  handed t = simp (t)
+
+  left-alone : hasSync trainingSync B ≡ false → reservedLeft B s ≡ s
+  left-alone t = simp (t)
+
   module _ (z : A ≡ 0) where
     -- a training frame
     pub training-read : (r : Found) (cs′ : List ℤ) (v′ s′ : List ℕ) → hasSync trainingSync B ≡ true
@@ -125,7 +132,7 @@ module _ (f : List ℕ) (cs : List ℤ) (v s : List ℕ) where
               ∙ ap (λ (k : ℕ). foundOf k B) (sym z);
           coefficients-left = g ∙ ap (λ (k : Bool). cond k (coefficientsOf B) cs) (sym t) ∙ sym (given A cs (coefficientsLeft B cs) z);
           vendor-left = h ∙ sym (given A v (vendorOctets B) z);
-          reserved-left = k ∙ ap (λ (k : Bool). cond k (reservedOctets B) s) (sym t) ∙ sym (given A s (reservedLeft B s) z);
+          reserved-left = k ∙ sym (handed t) ∙ sym (given A s (reservedLeft B s) z);
         }
 
     -- a final frame
@@ -139,5 +146,5 @@ module _ (f : List ℕ) (cs : List ℤ) (v s : List ℕ) where
               ∙ ap (λ (k : ℕ). foundOf k B) (sym z);
           coefficients-left = ap (λ (k : Bool). cond k (coefficientsOf B) cs) (sym t) ∙ sym (given A cs (coefficientsLeft B cs) z);
           vendor-left = h ∙ sym (given A v (vendorOctets B) z);
-          reserved-left = ap (λ (k : Bool). cond k (reservedOctets B) s) (sym t) ∙ sym (given A s (reservedLeft B s) z);
+          reserved-left = sym (left-alone t) ∙ sym (given A s (reservedLeft B s) z);
         }
