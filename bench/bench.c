@@ -269,7 +269,7 @@ static void print_other(const struct side *side, double own)
     if (side->passes == 0) {
         printf(" not here | |\n");
     } else {
-        printf(" %.0f | %.2f |\n", side->best, side->best / own);
+        printf(" %.*f | %.2f |\n", own < 100 ? 1 : 0, side->best, side->best / own);
     }
 }
 

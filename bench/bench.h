@@ -4,6 +4,7 @@
  *   bench.c     rounds, the clock, the table
  *   rows.c      what is measured: inputs, and a pass over them for each operation
  *   data.c      inputs and operations of the data-mode frame
+ *   narrow.c    the precoder in plain C with narrow products
  *   dear.c      the inputs that are dearest by construction
  *   others.c    other ways: a bit-serial register in plain C, and where they were found libosmocore, libcrcutil and GNU Radio
  *   crcutil.cpp libcrcutil
@@ -125,6 +126,10 @@ extern const struct other check_others[], six_24_others[], six_289_others[];
 extern const struct other scramble_ltu_others[], scramble_ntu_others[], descramble_ltu_others[], descramble_ntu_others[];
 void prepare_others(void);
 extern const char others_found[]; /* which libraries the program was compiled with */
+
+/* The precoder and its inverse in plain C with narrow products, without checks. */
+__typeof__(sdsl_precode) narrow_precode;
+__typeof__(sdsl_unprecode) narrow_unprecode;
 
 /* What is measured of data-mode frames, in the order of the rows: PASS(name, operation, set). */
 #define DATA_PASSES(PASS) \

@@ -230,19 +230,42 @@ static void encode_each(const struct library *library)
     }
 }
 
-static void precode(const struct library *library)
+static void precode_by(__typeof__(sdsl_precode) *precode)
 {
     uint8_t *past = results.octets + sizeof xs;
     memcpy(past, history, sizeof history);
-    results.numbers[0] = library->precode(taps, sizeof taps, past, sizeof history, xs, sizeof xs, results.octets, sizeof xs);
+    results.numbers[0] = precode(taps, sizeof taps, past, sizeof history, xs, sizeof xs, results.octets, sizeof xs);
+}
+
+static void unprecode_by(__typeof__(sdsl_unprecode) *unprecode)
+{
+    uint8_t *past = results.octets + sizeof ys;
+    memcpy(past, history, sizeof history);
+    results.numbers[0] = unprecode(taps, sizeof taps, past, sizeof history, ys, sizeof ys, results.octets, sizeof ys);
+}
+
+static void precode(const struct library *library)
+{
+    precode_by(library->precode);
 }
 
 static void unprecode(const struct library *library)
 {
-    uint8_t *past = results.octets + sizeof ys;
-    memcpy(past, history, sizeof history);
-    results.numbers[0] = library->unprecode(taps, sizeof taps, past, sizeof history, ys, sizeof ys, results.octets, sizeof ys);
+    unprecode_by(library->unprecode);
 }
+
+static void precode_narrow(void)
+{
+    precode_by(narrow_precode);
+}
+
+static void unprecode_narrow(void)
+{
+    unprecode_by(narrow_unprecode);
+}
+
+static const struct other precode_others[] = {{"C, narrow products", precode_narrow}, {NULL, NULL}};
+static const struct other unprecode_others[] = {{"C, narrow products", unprecode_narrow}, {NULL, NULL}};
 
 static void step(const struct library *library)
 {
@@ -290,8 +313,8 @@ const struct row rows[] = {
     {"descramble a frame, NTU", "frame", BATCH, 25, 40, descramble_ntu, descramble_ntu_others},
     {"encoder, in a run", "symbol", RUN, 1, 1, encode_run, NULL},
     {"encoder, a call each", "symbol", RUN, 1, 1, encode_each, NULL},
-    {"precoder, in a run", "symbol", RUN, 1, 1, precode, NULL},
-    {"precoder's inverse, in a run", "symbol", RUN, 1, 1, unprecode, NULL},
+    {"precoder, in a run", "symbol", RUN, 1, 1, precode, precode_others},
+    {"precoder's inverse, in a run", "symbol", RUN, 1, 1, unprecode, unprecode_others},
     {"supervisor, a call each", "step", CODES, 1, 1, step, NULL},
     {"supervisor, in a run", "step", CODES, 1, 1, run_codes, NULL},
     {"sorter's heart: read 340 frames", "340", 1, 1, 1, read_cards, NULL},

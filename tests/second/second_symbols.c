@@ -332,6 +332,85 @@ static void make_input(struct input *in, size_t samples)
     }
 }
 
+#define BORDERS 8192 /* more than there are */
+
+/*
+ * The borders of a number that is kept in two parts, the low one so wide: its multiples, the powers of two, and both ends of the range,
+ * each with its neighbours. Gives how many there are.
+ */
+static size_t make_borders(int32_t *borders, int32_t width, int32_t highest)
+{
+    size_t count = 0;
+    for (int32_t at = -highest - 1; at <= highest + 1; at += width) {
+        for (int32_t beside = -1; beside <= 1; beside++) {
+            borders[count++] = at + beside;
+        }
+    }
+    for (int32_t power = 1; power <= highest; power *= 2) {
+        for (int32_t beside = -1; beside <= 1; beside++) {
+            borders[count++] = power + beside;
+            borders[count++] = -power + beside;
+        }
+    }
+    size_t kept = 0;
+    for (size_t i = 0; i < count; i++) {
+        if (borders[i] >= -highest - 1 && borders[i] <= highest) {
+            borders[kept++] = borders[i];
+        }
+    }
+    return kept;
+}
+
+/*
+ * One product alone, but for a coefficient of 1 at another place whose past output brings the sum to a half, and then to just below it:
+ * so the sum shows to its last bit, and not only in what rounding leaves of it.
+ */
+static void try_product(int32_t coefficient, int32_t output, size_t place)
+{
+    struct input in;
+    int64_t product = (int64_t)coefficient * output;
+    for (int64_t wanted = 65535; wanted <= 65536; wanted++) {
+        make_zero(&in, 1);
+        set_number(in.coefficients, place, coefficient);
+        set_number(in.history, place, output);
+        set_number(in.coefficients, (place + 90) % 180, 1);
+        set_number(in.history, (place + 90) % 180, (int32_t)((wanted - product) % 131072));
+        try_both(&in, "a border of two parts");
+    }
+}
+
+/*
+ * A library may build a product from narrower ones, so that a coefficient or an output is kept in two parts. At every border of such
+ * parts, of either sign: each coefficient with outputs of both signs, each output with coefficients of both signs, and 180 at once.
+ */
+static void product_borders(void)
+{
+    static int32_t coefficients[BORDERS], outputs[BORDERS];
+    size_t all_coefficients = make_borders(coefficients, 2048, 2097151);
+    size_t all_outputs = make_borders(outputs, 512, 131071);
+    for (size_t c = 0; c < all_coefficients; c++) {
+        try_product(coefficients[c], outputs[(7 * c) % all_outputs], c % 180);
+        try_product(coefficients[c], -1 - outputs[(7 * c) % all_outputs], c % 180);
+    }
+    for (size_t p = 0; p < all_outputs; p++) {
+        try_product(coefficients[(11 * p) % all_coefficients], outputs[p], p % 180);
+        try_product(-1 - coefficients[(11 * p) % all_coefficients], outputs[p], p % 180);
+    }
+    for (size_t first = 0; first < all_coefficients; first += 20) {
+        for (unsigned signs = 0; signs < 4; signs++) {
+            struct input in;
+            make_zero(&in, 2);
+            for (size_t k = 0; k < SDSL_COEFFICIENTS; k++) {
+                int32_t coefficient = coefficients[(first + k) % all_coefficients];
+                int32_t output = outputs[(first + 5 * k) % all_outputs];
+                set_number(in.coefficients, k, (signs & 1) == (coefficient < 0) ? coefficient : -1 - coefficient);
+                set_number(in.history, k, signs / 2 == (output < 0) ? output : -1 - output);
+            }
+            try_both(&in, "borders of two parts, 180 at once");
+        }
+    }
+}
+
 /* One coefficient and one past value, with samples around zero and at both ends: halves, and the fold at the ends. */
 static void precoder_edges(void)
 {
@@ -372,6 +451,7 @@ static void precoder_edges(void)
         make_input(&in, 0);
         try_both(&in, "no samples");
     }
+    product_borders();
 }
 
 /* A full sum whose last part is chosen so that it ends exactly on a half, or just beside one. */

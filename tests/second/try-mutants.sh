@@ -215,6 +215,14 @@ mutant "a scrambler that starts with a one" -e '/^struct sdsl_scrambled ref_scra
 mutant "a bit of 2 taken" -e '/^static struct sdsl_scrambled_bit run_bit/,/^}/s/bit > 1/bit > 2/'
 mutant "descrambling keeps a plain bit in the state" -e '/^static uint32_t descramble_bits/,/^}/s/state_after(s, count)/state_after(s, count) ^ (count > 0 ? out[count] ^ s[22 + count] : 0)/'
 
+# in_parts NAME EXPRESSION: the product of C and Y put together wrongly from parts of them
+in_parts() {
+    local e=${2//C/c[k]}
+    e=${e//Y/y[m - k]}
+    e=${e//&/"\\&"}
+    mutant "$1" -e "s|^            sum += c\[k\] \* y\[m - k\];|            sum += $e;|"
+}
+
 group symbols
 mutant "codes 8 to 15 rising in order" -e 's/^    9, 11, 13, 15,  .*/    1, 3, 5, 7, 9, 11, 13, 15,/'
 mutant "A and B exchanged" -e 's/2 \* (left_by_a % 2) + left_by_b % 2/2 * (left_by_b % 2) + left_by_a % 2/'
@@ -227,6 +235,20 @@ mutant "y allowed to be +131,072" -e 's/^    while (u > 131071) {/    while (u >
 mutant "u = x + v" -e 's/brought_into_range(number - v)/brought_into_range(number + v)/'
 mutant "history not moved on" -e 's/put_number(history, k - 1, y\[180 + count - k\])/put_number(history, k - 1, y[180 - k])/'
 mutant "the 180th coefficient left out" -e '/^        int64_t sum = 0;/,/^        }/s/k <= 180/k < 180/'
+in_parts "the high part of a coefficient lost" "(C & 2047) * Y"
+in_parts "the low part of a coefficient lost" "(C - (C & 2047)) * Y"
+in_parts "one of two cross products left out" "C * Y - (C & 2047) * (Y - (Y & 511))"
+in_parts "one cross product twice, the other not" "C * Y + (C >> 11) * (Y & 511) * 512 - (C & 2047) * (Y >> 9) * 512"
+in_parts "a cross product put where the other belongs" "C * Y - (C >> 11) * (Y & 511) * 1536"
+in_parts "a low part with the number's sign" "(C - (C & 2047) + C % 2048) * Y"
+in_parts "an output's low part with its sign" "C * (Y - (Y & 511) + Y % 512)"
+in_parts "-1 taken for 4,194,303" "(C & 4194303) * Y"
+in_parts "split at 10 bits, put together as at 11" "((C >> 10) * 2048 + (C & 1023)) * Y"
+in_parts "-131,072 taken for +131,072" "C * (Y == -131072 ? 131072 : Y)"
+in_parts "-2,097,152 taken for +2,097,152" "(C == -2097152 ? 2097152 : C) * Y"
+in_parts "the product of the low parts cut to 16 bits" "C * Y - (C & 2047) * (Y & 511) / 65536 * 65536"
+in_parts "a low part of 2,047 taken for -1" "(C % 2048 == 2047 ? C - 2048 : C) * Y"
+in_parts "one low product of 1 lost" "C * Y - ((C & 2047) * (Y & 511) == 1)"
 mutant "a range checked one too wide" -e 's/!all_within(history, 720, -131072, 131071)/!all_within(history, 720, -131072, 131072)/'
 mutant "a symbol of 8 taken" -e 's/^        if (symbols\[m\] > 7) {/        if (symbols[m] > 8) {/'
 mutant "the float of y / 131,071" -e '/^struct sdsl_shaped ref_shaper/,/^}/s/^    result.value = (float)y;/    result.value = (float)y * 131072.0f \/ 131071.0f;/'

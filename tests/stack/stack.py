@@ -207,4 +207,5 @@ def main():
         print("\n".join(f"{name} {octets}" for name, octets in taken))
 
 
-main()
+if __name__ == "__main__":
+    main()

@@ -1,4 +1,5 @@
 pub mod Products
+pub mod Columns
 pub mod Recipe
 pub mod Signals
 pub mod Turns

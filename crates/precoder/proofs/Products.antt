@@ -1,4 +1,4 @@
--- Laws of the sum of products: nothing that the code adds up leaves an i64. Assumes nothing.
+-- Laws of the sum of products: how large it can be. Assumes nothing.
 use mathlib.Core.Path.{_≡_, refl}
 use mathlib.Core.Bool.{true}
 use mathlib.Core.List.{List}
@@ -15,35 +15,26 @@ use Rattle.ranges.specs.Ranges.{isCoefficient, every}
 use Rattle.samples.specs.Samples.{isSignal}
 use Rattle.precoder.specs.Precoder.{exactSum}
 use Rattle.samples.proofs.Linear.{abs-is, abs-of, add-bal}
-use Rattle.samples.proofs.Rounding.{abs-fits}
 use Rattle.ranges.proofs.Laws.{mag-at}
 
 neg-abs : (n : ℕ) → natAbs (negℤ (pos n)) ≡ n
 neg-abs zero = refl
 neg-abs (suc n) = refl
 
-mul-abs : (a b : ℤ) → natAbs (a *ℤ b) ≡ natAbs a * natAbs b
+pub mul-abs : (a b : ℤ) → natAbs (a *ℤ b) ≡ natAbs a * natAbs b
 mul-abs (pos a) (pos b) = refl
 mul-abs (pos a) (negsuc b) = neg-abs (a * suc b)
 mul-abs (negsuc a) (pos b) = neg-abs (suc a * b)
 mul-abs (negsuc a) (negsuc b) = refl
 
-add-abs : (a b : ℤ) → natAbs (a +ℤ b) ≤ natAbs a + natAbs b
+pub add-abs : (a b : ℤ) → natAbs (a +ℤ b) ≤ natAbs a + natAbs b
 add-abs a b =
     abs-of (a +ℤ b) (natAbs a + natAbs b) (omega (arith, add-bal a b, abs-is a, abs-is b))
     (omega (arith, add-bal a b, abs-is a, abs-is b))
 
-abs-mag : (z : ℤ) → natAbs z ≤ suc (mag z)
+pub abs-mag : (z : ℤ) → natAbs z ≤ suc (mag z)
 abs-mag (pos n) = omega arith
 abs-mag (negsuc n) = omega arith
-
--- the product of two i32 fits an i64
-pub product-fits : (a b : ℤ) → SFits w32 a → SFits w32 b → SFits w64 (a *ℤ b)
-product-fits a b f g =
-    let p : natAbs a ≤ 2147483648 = omega (arith, abs-mag a, f .sfits) in
-    let q : natAbs b ≤ 2147483648 = omega (arith, abs-mag b, g .sfits) in
-    let bound : natAbs a * natAbs b ≤ 2147483648 * 2147483648 = mul-le-mul p q in
-    abs-fits (a *ℤ b) (omega (arith, mul-abs a b, bound))
 
 -- an i32 that was widened is the number that it was
 pub wide-fits : (z : ℤ) → SFits w32 z → SFits w64 z
@@ -61,6 +52,3 @@ module _ (coefficients past : List ℤ) (hc : every isCoefficient coefficients �
   sum-abs zero = omega arith
   sum-abs (suc k) =
       omega (arith, sum-abs k, term-abs k, add-abs (exactSum k coefficients past) (getD coefficients k (pos 0) *ℤ getD past k (pos 0)))
-
-  pub sum-fits : (k : ℕ) → k ≤ 180 → SFits w64 (exactSum k coefficients past)
-  sum-fits k h = abs-fits (exactSum k coefficients past) (omega (arith, sum-abs k))

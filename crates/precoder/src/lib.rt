@@ -1,11 +1,11 @@
 // The channel precoder and its inverse (000, clause 4.3.4), in runs of symbols. All values are in steps of 1/131,072.
 ghost use mathlib.Core.Path.{_≡_};
 ghost use mathlib.Core.Bool.{true};
-ghost use Prim.Native.Nat.{_%_};
-ghost use lib.IntN.{_*ℤ_};
+ghost use Prim.Native.Nat.{_%_, _*_, _^_, _≤_};
+ghost use lib.IntN.{pos, negℤ, natAbs, _+ℤ_, _*ℤ_};
 ghost use lib.ListN.{length};
 ghost use Rattle.numbers.specs.Promises.{numberLength, numbersOf};
-ghost use Rattle.ranges.specs.Ranges.{coefficientCount, isCoefficient, every};
+ghost use Rattle.ranges.specs.Ranges.{coefficientCount, between, isCoefficient, every};
 ghost use Rattle.samples.specs.Samples.{isSignal, pastAfter};
 ghost use Rattle.precoder.specs.Precoder.{exactSum, Sends, Receives, Turns, lineOf};
 ghost use Rattle.precoder.specs.Runs.{Turned, lengthsRight, rangesRight, RunPromise, PrecodesRun, DecodesRun};
@@ -13,25 +13,119 @@ ghost use Rattle.precoder.specs.Runs.{Turned, lengthsRight, rangesRight,
 // The taps: as many coefficients, and as many past outputs.
 const TAPS: usize = ranges::COEFFICIENTS;
 
-// The exact product. A function of its own, so that it can be built from narrower products.
-fn product(coefficient: i32, y: i32) -> i64
-    ensures { λ r. ⌜ r ≡ coefficient *ℤ y ⌝ }
-{
-    (coefficient as i64) * (y as i64)
+// How many low parts there are: 11 bits of a coefficient, 9 bits of an output.
+const COEFFICIENT_LOW: u32 = 2_048;
+
+const OUTPUT_LOW: u32 = 512;
+
+// How many high parts are below zero: half of those that the other 11 or 9 bits have.
+const COEFFICIENT_BELOW: i16 = 1_024;
+
+const OUTPUT_BELOW: i16 = 256;
+
+// A number in two parts. The high one has the number's sign, the low one has none.
+struct Halves {
+    high: i16,
+    low: i16,
 }
 
-// The exact sum of C(k) times y(m-k).
+// The four products of such parts, the coefficient's named first; or four sums of them.
+struct Parts {
+    hh: i32,
+    hl: i32,
+    lh: i32,
+    ll: i32,
+}
+
+// The exact product of 16 by 16 bits. The small controller has no wider one: every product here is made of these.
+fn narrow(a: i16, b: i16) -> i32
+    ensures { λ r. ⌜ r ≡ a *ℤ b ⌝ }
+{
+    (a as i32) * (b as i32)
+}
+
+// A coefficient in two parts. Raised by its lowest value it has no sign, and is divided.
+fn coefficient_halves(coefficient: i32) -> Halves
+    requires { ⌜ isCoefficient coefficient ≡ true ⌝ }
+    ensures { λ r. ⌜ (pos 2048 *ℤ r .high +ℤ r .low ≡ coefficient)
+        × (between (negℤ (pos 1024)) (pos 1023) (r .high) ≡ true) × (between (pos 0) (pos 2047) (r .low) ≡ true) ⌝ }
+{
+    let raised = (coefficient - ranges::LOWEST_COEFFICIENT) as u32;
+    Halves {
+        high: (raised / COEFFICIENT_LOW) as i16 - COEFFICIENT_BELOW,
+        low: (raised % COEFFICIENT_LOW) as i16,
+    }
+}
+
+// An output likewise.
+fn output_halves(y: i32) -> Halves
+    requires { ⌜ isSignal y ≡ true ⌝ }
+    ensures { λ r. ⌜ (pos 512 *ℤ r .high +ℤ r .low ≡ y)
+        × (between (negℤ (pos 256)) (pos 255) (r .high) ≡ true) × (between (pos 0) (pos 511) (r .low) ≡ true) ⌝ }
+{
+    let raised = (y - samples::LOWEST) as u32;
+    Halves {
+        high: (raised / OUTPUT_LOW) as i16 - OUTPUT_BELOW,
+        low: (raised % OUTPUT_LOW) as i16,
+    }
+}
+
+// The exact product of a coefficient and an output, as four narrow ones.
+fn product(coefficient: i32, y: i32) -> Parts
+    requires { ⌜ (isCoefficient coefficient ≡ true) × (isSignal y ≡ true) ⌝ }
+    ensures { λ r. ⌜ (pos (2 ^ 20) *ℤ r .hh +ℤ pos (2 ^ 11) *ℤ r .hl +ℤ pos (2 ^ 9) *ℤ r .lh +ℤ r .ll ≡ coefficient *ℤ y)
+        × (natAbs (r .hh) ≤ 2047 * 511) × (natAbs (r .hl) ≤ 2047 * 511)
+        × (natAbs (r .lh) ≤ 2047 * 511) × (natAbs (r .ll) ≤ 2047 * 511) ⌝ }
+{
+    let c = coefficient_halves(coefficient);
+    let w = output_halves(y);
+    Parts {
+        hh: narrow(c.high, w.high),
+        hl: narrow(c.high, w.low),
+        lh: narrow(c.low, w.high),
+        ll: narrow(c.low, w.low),
+    }
+}
+
+// z times 2 to the power of bits, by a shift.
+fn scaled(z: i32, bits: u32) -> i64
+    requires { ⌜ bits ≤ 20 ⌝ }
+    ensures { λ r. ⌜ (r ≡ pos (2 ^ bits) *ℤ z) × (natAbs r ≤ 2 ^ 51) ⌝ }
+{
+    (z as i64) << bits
+}
+
+// Four parts put together.
+fn joined(parts: Parts) -> i64
+    ensures { λ r. ⌜ r ≡ pos (2 ^ 20) *ℤ parts .hh +ℤ pos (2 ^ 11) *ℤ parts .hl +ℤ pos (2 ^ 9) *ℤ parts .lh +ℤ parts .ll ⌝ }
+{
+    scaled(parts.hh, 20) + scaled(parts.hl, 11) + scaled(parts.lh, 9) + (parts.ll as i64)
+}
+
+// The exact sum of C(k) times y(m-k): each of the four parts is added up in 32 bits, and they are put together once, at the end.
 fn sum(coefficients: &[i32; TAPS], history: &[i32; TAPS]) -> i64
     requires { ⌜ (every isCoefficient (now coefficients) ≡ true) × (every isSignal (now history) ≡ true) ⌝ }
     ensures { λ r. ⌜ r ≡ exactSum coefficientCount (now (coefficients .entry)) (now (history .entry)) ⌝ }
 {
-    let mut s: i64 = 0;
+    let mut hh: i32 = 0;
+    let mut hl: i32 = 0;
+    let mut lh: i32 = 0;
+    let mut ll: i32 = 0;
     let mut tap = 0;
     while tap < TAPS {
-        s += product(coefficients[tap], history[tap]);
+        let p = product(coefficients[tap], history[tap]);
+        hh += p.hh;
+        hl += p.hl;
+        lh += p.lh;
+        ll += p.ll;
         tap += 1;
     }
-    s
+    joined(Parts {
+        hh: hh,
+        hl: hl,
+        lh: lh,
+        ll: ll,
+    })
 }
 
 // One symbol in range: u = x - v, folded to y, which joins the past.
