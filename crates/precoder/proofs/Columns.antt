@@ -2,7 +2,7 @@
 use mathlib.Core.Path.{_≡_, refl, sym, ap, ap₂, _∙_}
 use mathlib.Core.Bool.{true, false≢true}
 use Prim.Native.Nat.{ℕ, zero, suc, _+_, _-_, _*_, _/_, _%_, _^_, _≤_, _<_}
-use native.Mathlib.Nat.{mul-comm, mul-assoc, mul-add, mul-zero, zero-mul, mul-le-mul, mod-lt, mod-eq-of-lt, add-mul-mod-self-left, div-add-mod, div-lt-iff-lt-mul}
+use native.Mathlib.Nat.{mul-comm, mul-zero, zero-mul, mul-le-mul, lt-of-mul-lt-mul-left, mod-lt, mod-eq-of-lt, add-mul-mod-self-left, div-add-mod, div-lt-iff-lt-mul}
 use native.Mathlib.Omega.{arith}
 use lib.IntN.{ℤ, pos, negsuc, negℤ, natAbs, _+ℤ_, _-ℤ_, _*ℤ_, negℤ-negℤ, *ℤ-comm, +ℤ-comm, +ℤ-assoc}
 use lib.Dec.{T, leb, ltb, leb→le, ltb→lt}
@@ -30,13 +30,13 @@ add-mul-bal : (a b : ℤ) (k : ℕ) → P (a +ℤ b) * k + (N a * k + N b * k) �
 add-mul-bal a b k = omega (arith, ap (λ (x : ℕ). x * k) (add-bal a b))
 
 -- (a + b) z = a z + b z
-pub add-times : (a b z : ℤ) → (a +ℤ b) *ℤ z ≡ a *ℤ z +ℤ b *ℤ z
+add-times : (a b z : ℤ) → (a +ℤ b) *ℤ z ≡ a *ℤ z +ℤ b *ℤ z
 add-times a b z =
     eq-of _ _
     (omega (arith, mul-bal (a +ℤ b) z, mul-bal a z, mul-bal b z, add-bal (a *ℤ z) (b *ℤ z), add-mul-bal a b (P z), add-mul-bal a b (N z)))
 
 -- z (a + b) = z a + z b
-pub times-add : (z a b : ℤ) → z *ℤ (a +ℤ b) ≡ z *ℤ a +ℤ z *ℤ b
+times-add : (z a b : ℤ) → z *ℤ (a +ℤ b) ≡ z *ℤ a +ℤ z *ℤ b
 times-add z a b = *ℤ-comm z (a +ℤ b) ∙ add-times a b z ∙ ap₂ (λ (x y : ℤ). x +ℤ y) (*ℤ-comm a z) (*ℤ-comm b z)
 
 -- (n a) z = n (a z)
@@ -80,7 +80,7 @@ from-zero : (h n : ℕ) → n ≤ h → between (pos 0) (pos h) (pos n) ≡ true
 from-zero h n l = rw (le-leb 0 n (omega arith)) (le-leb n h l)
 
 -- a number whose part above zero is no smaller than the one below has no sign
-pub unsigned : (z : ℤ) → N z ≤ P z → T (nonNeg z)
+unsigned : (z : ℤ) → N z ≤ P z → T (nonNeg z)
 unfolding P N
 unsigned (pos n) h = tt
 unsigned (negsuc n) h = absurd (omega arith)
@@ -96,7 +96,7 @@ module _ (n k : ℕ) (sizes : (0 < n) × (n ≤ 2 ^ 14) × (k ≤ 2 ^ 14)) (z : 
   abbrev high : ℤ
   high = pos (r / n) -ℤ pos k
 
-  pub raised-unsigned : T (nonNeg raised)
+  raised-unsigned : T (nonNeg raised)
   raised-unsigned = unsigned raised (omega (arith, add-bal z (pos (n * k)), P-pos (n * k), N-pos (n * k), N-mag z))
 
   raised-bal : r + N z ≡ P z + n * k
@@ -116,7 +116,7 @@ module _ (n k : ℕ) (sizes : (0 < n) × (n ≤ 2 ^ 14) × (k ≤ 2 ^ 14)) (z : 
   high-bal = omega (arith, sub-is (pos (r / n)) (pos k), P-pos (r / n), N-pos (r / n), P-pos k, N-pos k)
 
   -- raised, a number is below twice the raise
-  pub raised-less : r < 2 * k * n
+  raised-less : r < 2 * k * n
   raised-less = omega (arith, raised-bal, P-mag z, mul-comm n k)
 
   -- the quotient is below 2 k
@@ -144,7 +144,7 @@ module _ (n k : ℕ) (sizes : (0 < n) × (n ≤ 2 ^ 14) × (k ≤ 2 ^ 14)) (z : 
         N-pos (r % n),
       ))
 
-  -- what the code asks on its way, and what it finds
+  -- what the code asks on its way, and what it finds: `taken` and `bare` are z raised, as the code has it
   module _ (fits : SFits w32 z) where
     abbrev back : toZ w32 (ofZ w32 z) ≡ z
     back = toZ-ofZ fits
@@ -167,7 +167,6 @@ module _ (n k : ℕ) (sizes : (0 < n) × (n ≤ 2 ^ 14) × (k ≤ 2 ^ 14)) (z : 
     taken-is : taken ≡ raised
     taken-is = rw (back, negℤ-negℤ (pos (n * k))) (toZ-ofZ raised-fits)
 
-    -- as a number with no sign
     abbrev bare : ℕ
     bare = natAbs taken
 
@@ -194,6 +193,31 @@ module _ (n k : ℕ) (sizes : (0 < n) × (n ≤ 2 ^ 14) × (k ≤ 2 ^ 14)) (z : 
         × (between (pos 0) (pos (n - 1)) (toZ w16 (bare % n)) ≡ true)
     found =
         rw (high-is, rest-is) (halves, mag-range (k - 1) high (omega (arith, high-mag)), from-zero (n - 1) (r % n) (omega (arith, low-less)))
+
+-- a number has one high and one low part: where two pairs put together are the same number, they are the same pair
+pub parts-one : (n : ℕ) (h j : ℤ) (l k : ℕ) → l < n → k < n → pos n *ℤ h +ℤ pos l ≡ pos n *ℤ j +ℤ pos k → (h ≡ j) × (l ≡ k)
+parts-one n h j l k f g e =
+    let bal : n * (P h + N j) + l ≡ n * (P j + N h) + k =
+    omega (
+      arith,
+      add-bal (pos n *ℤ h) (pos l),
+      add-bal (pos n *ℤ j) (pos k),
+      ap P e,
+      ap N e,
+      mul-P n h,
+      mul-N n h,
+      mul-P n j,
+      mul-N n j,
+      P-pos l,
+      N-pos l,
+      P-pos k,
+      N-pos k,
+    )
+    in
+    let below : n * (P h + N j) < n * suc (P j + N h) = omega arith in
+    let above : n * (P j + N h) < n * suc (P h + N j) = omega arith in
+    let same : P h + N j ≡ P j + N h = omega (arith, lt-of-mul-lt-mul-left n below, lt-of-mul-lt-mul-left n above) in
+    (eq-of h j same, omega (arith, ap (λ (x : ℕ). n * x) same))
 
 -- the difference of two numbers of few bits fits 32
 pub raise-fits : (z : ℤ) (bits : ℕ) → mag z < 2 ^ 22 → T (ltb (mag (toZ w32 bits)) (2 ^ 22)) → SFits w32 z → SFits w32 (toZ w32 (ofZ w32 z) -ℤ toZ w32 bits)
@@ -294,6 +318,20 @@ module _ (n : ℕ) (less : n < 180) (s p : ℤ) (so-far : natAbs s ≤ 2047 * 51
 
   pub column-is : toZ w32 (ofZ w32 (s +ℤ toZ w32 (ofZ w32 p))) ≡ s +ℤ p
   column-is = rw part-is (toZ-ofZ more-fits)
+
+-- any products of parts, one for each tap, added up
+unfoldable pub column : (ℕ → ℤ) → ℕ → ℤ
+column parts zero = pos 0
+column parts (suc k) = column parts k +ℤ parts k
+
+column-abs : (parts : ℕ → ℤ) → ((k : ℕ) → natAbs (parts k) ≤ 2047 * 511) → (n : ℕ) → natAbs (column parts n) ≤ 2047 * 511 * n
+unfolding column
+column-abs parts small zero = omega arith
+column-abs parts small (suc k) = omega (arith, add-abs (column parts k) (parts k), column-abs parts small k, small k)
+
+-- every column fits 32 bits with its sign after any number of taps up to 180
+pub columns-fit : (parts : ℕ → ℤ) → ((k : ℕ) → natAbs (parts k) ≤ 2047 * 511) → (n : ℕ) → n ≤ 180 → SFits w32 (column parts n)
+columns-fit parts small n h = column-fits n (column parts n) h (column-abs parts small n)
 
 -- the product of two numbers of 16 bits fits 32
 pub product-fits : (a b : ℤ) → SFits w16 a → SFits w16 b → SFits w32 (a *ℤ b)

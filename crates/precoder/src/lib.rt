@@ -120,12 +120,7 @@ fn sum(coefficients: &[i32; TAPS], history: &[i32; TAPS]) -> i64
         ll += p.ll;
         tap += 1;
     }
-    joined(Parts {
-        hh: hh,
-        hl: hl,
-        lh: lh,
-        ll: ll,
-    })
+    joined(Parts { hh, hl, lh, ll })
 }
 
 // One symbol in range: u = x - v, folded to y, which joins the past.

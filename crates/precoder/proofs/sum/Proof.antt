@@ -1,20 +1,16 @@
 -- `precoder::sum` meets its contract. The invariant: the four sums, put together, are the exact sum over the taps passed, and none is larger
 -- than so many products can be. Assumes nothing.
-use mathlib.Core.Path.{_≡_, refl, sym, ap, ap₂, _∙_}
-use mathlib.Core.Bool.{true}
+use mathlib.Core.Path.{_≡_, refl, ap, ap₂, _∙_}
 use mathlib.Core.List.{List}
 use Prim.Native.Nat.{ℕ, _-_, _*_, _^_, _≤_, _<_}
 use native.Mathlib.Numerals.{add-one}
 use native.Mathlib.Omega.{arith}
-use borrow.Author.Needs.{needs}
 use lib.IntN.{ℤ, pos, natAbs, _+ℤ_, _*ℤ_}
 use lib.ListN.{getD}
-use mir.Syntax.{w32, w64}
-use mir.Val.{SFits, ofZ, toZ}
+use mir.Syntax.{w32}
+use mir.Val.{SFits, toZ}
 use mir.Facts.{toZ-ofZ}
-use Rattle.ranges.specs.Ranges.{isCoefficient, every}
 use Rattle.ranges.proofs.Laws.{mag-at, mag-range}
-use Rattle.samples.specs.Samples.{isSignal}
 use Rattle.precoder.specs.Precoder.{exactSum}
 use Rattle.precoder.specs.declared.Parts.{Parts}
 use Rattle.precoder.proofs.Columns.{columns, column-more, column-asks, column-is}
