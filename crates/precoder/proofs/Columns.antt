@@ -298,7 +298,7 @@ columns u v w a b c d p q r s =
 abs-fits-32 : (z : ℤ) → natAbs z < 2147483648 → SFits w32 z
 abs-fits-32 z h = record { sfits = mag-of z 2147483648 (omega (arith, abs-is z)) (omega (arith, abs-is z)) }
 
--- a sum of up to 180 products fits 32 bits with its sign
+-- a sum of up to 180 products, at most 188,283,060 in size, fits 32 bits with its sign
 pub column-fits : (n : ℕ) (s : ℤ) → n ≤ 180 → natAbs s ≤ 2047 * 511 * n → SFits w32 s
 column-fits n s h f = abs-fits-32 s (omega arith)
 
