@@ -281,10 +281,10 @@ static void print_table(void)
         const struct side *side = sides[r];
         int digits = side[0].best < 100 ? 1 : 0;
         double ratio = side[1].best / side[0].best;
-        double asked = rows[r].as_first ? side[2].best / side[0].best : ratio;
+        double asked = rows[r].beside_other ? side[2].best / side[0].best : ratio;
         int target = emulated() ? rows[r].target : rows[r].native;
         printf("| %s | %s | %.*f | %.*f | %.2f | %d%s, %s | %.2f |", rows[r].operation, rows[r].unit, digits, side[1].best, digits,
-               side[0].best, ratio, target, rows[r].as_first ? " in the last column" : "", asked >= target ? "met" : "not met",
+               side[0].best, ratio, target, rows[r].beside_other ? " in the last column" : "", asked >= target ? "met" : "not met",
                dear_best[r][worst_of(r)] / side[0].best);
         if (side[2].other == NULL) {
             printf(" | | |\n");

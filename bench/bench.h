@@ -73,7 +73,7 @@ struct row {
     int native;       /* and on a real x86-64 */
     void (*pass)(const struct library *library);
     const struct other *others; /* other ways, the first one in the main table; the last has no name */
-    bool as_first;    /* the target is beside the first other way, which does the same work, and not beside plain C */
+    bool beside_other; /* the target is beside the first other way, which does the same work, and not beside plain C */
 };
 extern const struct row rows[];
 extern const size_t row_count;

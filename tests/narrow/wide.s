@@ -1,4 +1,4 @@
-# Multiplications for tests/narrow/test: the word behind each name says whether narrow.py has to call it wide.
+# Functions for tests/narrow/test: the word behind each name says what narrow.py has to call it.
 
     .macro function name
     .section .text.\name, "ax"
@@ -69,6 +69,20 @@
     function in_what_is_jumped_to   # wide
     jmp     vector_unsigned
 
+    function in_the_same_section    # wide
+    jmp     beside
+beside:
+    imul    %rsi, %rdi
+    ret
+
+    function of_the_old_floats      # unknown
+    fmul    %st(1)
+    ret
+
+    function of_tiles               # unknown
+    tdpbssd %tmm2, %tmm1, %tmm0
+    ret
+
     function vector_16              # narrow
     pmullw  %xmm1, %xmm0
     pmulhw  %xmm1, %xmm2
@@ -84,4 +98,10 @@
 
     function registers_of_16        # narrow
     imul    %si, %di
+    ret
+
+    function two_registers_of_16    # narrow
+    imul    %si
+    mul     %cx
+    mulw    (%rdi)
     ret

@@ -334,6 +334,12 @@ static void make_input(struct input *in, size_t samples)
 
 #define BORDERS 8192 /* more than there are */
 
+/* The same size with the other sign; the lowest number has none, and gives the highest. A border's is a border. */
+static int32_t other_sign(int32_t number, int32_t highest)
+{
+    return number < -highest ? highest : -number;
+}
+
 /*
  * The borders of a number that is kept in two parts, the low one so wide: its multiples, the powers of two, and both ends of the range,
  * each with its neighbours. Gives how many there are.
@@ -379,9 +385,24 @@ static void try_product(int32_t coefficient, int32_t output, size_t place)
     }
 }
 
+/* 179 products at once, and again a coefficient of 1 that brings their sum to a half and to just below it. */
+static void try_products(struct input *in)
+{
+    int64_t sum = 0;
+    for (size_t k = 0; k < 179; k++) {
+        sum += (int64_t)get_number(in->coefficients, k) * get_number(in->history, k);
+    }
+    for (int64_t wanted = 65535; wanted <= 65536; wanted++) {
+        set_number(in->coefficients, 179, 1);
+        set_number(in->history, 179, (int32_t)((wanted - sum) % 131072));
+        try_both(in, "borders of two parts, many at once");
+    }
+}
+
 /*
  * A library may build a product from narrower ones, so that a coefficient or an output is kept in two parts. At every border of such
- * parts, of either sign: each coefficient with outputs of both signs, each output with coefficients of both signs, and 180 at once.
+ * parts: each coefficient with borders of outputs of both signs, each output with borders of coefficients of both signs, and many at once,
+ * 180 of one pair of signs or as they stand.
  */
 static void product_borders(void)
 {
@@ -389,24 +410,29 @@ static void product_borders(void)
     size_t all_coefficients = make_borders(coefficients, 2048, 2097151);
     size_t all_outputs = make_borders(outputs, 512, 131071);
     for (size_t c = 0; c < all_coefficients; c++) {
-        try_product(coefficients[c], outputs[(7 * c) % all_outputs], c % 180);
-        try_product(coefficients[c], -1 - outputs[(7 * c) % all_outputs], c % 180);
+        int32_t output = outputs[(5 * c + c / 3) % all_outputs];
+        try_product(coefficients[c], output, c % 180);
+        try_product(coefficients[c], other_sign(output, 131071), c % 180);
     }
     for (size_t p = 0; p < all_outputs; p++) {
-        try_product(coefficients[(11 * p) % all_coefficients], outputs[p], p % 180);
-        try_product(-1 - coefficients[(11 * p) % all_coefficients], outputs[p], p % 180);
+        int32_t coefficient = coefficients[(7 * p + p / 3) % all_coefficients];
+        try_product(coefficient, outputs[p], p % 180);
+        try_product(other_sign(coefficient, 2097151), outputs[p], p % 180);
     }
     for (size_t first = 0; first < all_coefficients; first += 20) {
-        for (unsigned signs = 0; signs < 4; signs++) {
+        for (unsigned signs = 0; signs < 5; signs++) {
             struct input in;
             make_zero(&in, 2);
             for (size_t k = 0; k < SDSL_COEFFICIENTS; k++) {
                 int32_t coefficient = coefficients[(first + k) % all_coefficients];
-                int32_t output = outputs[(first + 5 * k) % all_outputs];
-                set_number(in.coefficients, k, (signs & 1) == (coefficient < 0) ? coefficient : -1 - coefficient);
-                set_number(in.history, k, signs / 2 == (output < 0) ? output : -1 - output);
+                int32_t output = outputs[(first + 5 * k + k / 3) % all_outputs];
+                bool turn_coefficient = signs < 4 && (coefficient < 0) != (signs % 2 == 1);
+                bool turn_output = signs < 4 && (output < 0) != (signs / 2 == 1);
+                set_number(in.coefficients, k, turn_coefficient ? other_sign(coefficient, 2097151) : coefficient);
+                set_number(in.history, k, turn_output ? other_sign(output, 131071) : output);
             }
             try_both(&in, "borders of two parts, 180 at once");
+            try_products(&in);
         }
     }
 }

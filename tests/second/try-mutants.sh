@@ -247,7 +247,7 @@ in_parts "split at 10 bits, put together as at 11" "((C >> 10) * 2048 + (C & 102
 in_parts "-131,072 taken for +131,072" "C * (Y == -131072 ? 131072 : Y)"
 in_parts "-2,097,152 taken for +2,097,152" "(C == -2097152 ? 2097152 : C) * Y"
 in_parts "the product of the low parts cut to 16 bits" "C * Y - (C & 2047) * (Y & 511) / 65536 * 65536"
-in_parts "a low part of 2,047 taken for -1" "(C % 2048 == 2047 ? C - 2048 : C) * Y"
+in_parts "a low part of 2,047 taken for -1" "((C & 2047) == 2047 ? C - 2048 : C) * Y"
 in_parts "one low product of 1 lost" "C * Y - ((C & 2047) * (Y & 511) == 1)"
 mutant "a range checked one too wide" -e 's/!all_within(history, 720, -131072, 131071)/!all_within(history, 720, -131072, 131072)/'
 mutant "a symbol of 8 taken" -e 's/^        if (symbols\[m\] > 7) {/        if (symbols[m] > 8) {/'

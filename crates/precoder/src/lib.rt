@@ -13,23 +13,24 @@ ghost use Rattle.precoder.specs.Runs.{Turned, lengthsRight, rangesRight,
 // The taps: as many coefficients, and as many past outputs.
 const TAPS: usize = ranges::COEFFICIENTS;
 
-// How many low parts there are: 11 bits of a coefficient, 9 bits of an output.
-const COEFFICIENT_LOW: u32 = 2_048;
+// What the high half of a number weighs: 2^11 in a coefficient, 2^9 in an output.
+const COEFFICIENT_WEIGHT: u32 = 2_048;
 
-const OUTPUT_LOW: u32 = 512;
+const OUTPUT_WEIGHT: u32 = 512;
 
-// How many high parts are below zero: half of those that the other 11 or 9 bits have.
-const COEFFICIENT_BELOW: i16 = 1_024;
+// The size of the lowest value, in such weights.
+const COEFFICIENT_RAISE: i16 = 1_024;
 
-const OUTPUT_BELOW: i16 = 256;
+const OUTPUT_RAISE: i16 = 256;
 
-// A number in two parts. The high one has the number's sign, the low one has none.
+// A number in two halves. The high one has the number's sign, the low one has none.
 struct Halves {
     high: i16,
     low: i16,
 }
 
-// The four products of such parts, the coefficient's named first; or four sums of them.
+// The four products of the halves of a coefficient and of an output, the coefficient's half named first; or four columns, sums of such
+// products.
 struct Parts {
     hh: i32,
     hl: i32,
@@ -44,7 +45,7 @@ fn narrow(a: i16, b: i16) -> i32
     (a as i32) * (b as i32)
 }
 
-// A coefficient in two parts. Raised by its lowest value it has no sign, and is divided.
+// A coefficient in halves of 11 bits. Less the lowest value it has no sign, so that / and % split it.
 fn coefficient_halves(coefficient: i32) -> Halves
     requires { ⌜ isCoefficient coefficient ≡ true ⌝ }
     ensures { λ r. ⌜ (pos 2048 *ℤ r .high +ℤ r .low ≡ coefficient)
@@ -52,12 +53,12 @@ fn coefficient_halves(coefficient: i32) -> Halves
 {
     let raised = (coefficient - ranges::LOWEST_COEFFICIENT) as u32;
     Halves {
-        high: (raised / COEFFICIENT_LOW) as i16 - COEFFICIENT_BELOW,
-        low: (raised % COEFFICIENT_LOW) as i16,
+        high: (raised / COEFFICIENT_WEIGHT) as i16 - COEFFICIENT_RAISE,
+        low: (raised % COEFFICIENT_WEIGHT) as i16,
     }
 }
 
-// An output likewise.
+// An output in halves of 9 bits, likewise.
 fn output_halves(y: i32) -> Halves
     requires { ⌜ isSignal y ≡ true ⌝ }
     ensures { λ r. ⌜ (pos 512 *ℤ r .high +ℤ r .low ≡ y)
@@ -65,8 +66,8 @@ fn output_halves(y: i32) -> Halves
 {
     let raised = (y - samples::LOWEST) as u32;
     Halves {
-        high: (raised / OUTPUT_LOW) as i16 - OUTPUT_BELOW,
-        low: (raised % OUTPUT_LOW) as i16,
+        high: (raised / OUTPUT_WEIGHT) as i16 - OUTPUT_RAISE,
+        low: (raised % OUTPUT_WEIGHT) as i16,
     }
 }
 
@@ -87,7 +88,7 @@ fn product(coefficient: i32, y: i32) -> Parts
     }
 }
 
-// z times 2 to the power of bits, by a shift.
+// z times 2 to the power of bits, by a shift; small enough for four of them to add up in 64 bits.
 fn scaled(z: i32, bits: u32) -> i64
     requires { ⌜ bits ≤ 20 ⌝ }
     ensures { λ r. ⌜ (r ≡ pos (2 ^ bits) *ℤ z) × (natAbs r ≤ 2 ^ 51) ⌝ }
@@ -95,14 +96,15 @@ fn scaled(z: i32, bits: u32) -> i64
     (z as i64) << bits
 }
 
-// Four parts put together.
+// Four parts put together: hh weighs 2^20, hl 2^11, lh 2^9.
 fn joined(parts: Parts) -> i64
     ensures { λ r. ⌜ r ≡ pos (2 ^ 20) *ℤ parts .hh +ℤ pos (2 ^ 11) *ℤ parts .hl +ℤ pos (2 ^ 9) *ℤ parts .lh +ℤ parts .ll ⌝ }
 {
     scaled(parts.hh, 20) + scaled(parts.hl, 11) + scaled(parts.lh, 9) + (parts.ll as i64)
 }
 
-// The exact sum of C(k) times y(m-k): each of the four parts is added up in 32 bits, and they are put together once, at the end.
+// The exact sum of C(k) times y(m-k). Four columns add up in 32 bits, each at most 180 * 2,047 * 511 = 188,283,060 in size, and are put
+// together once, at the end.
 fn sum(coefficients: &[i32; TAPS], history: &[i32; TAPS]) -> i64
     requires { ⌜ (every isCoefficient (now coefficients) ≡ true) × (every isSignal (now history) ≡ true) ⌝ }
     ensures { λ r. ⌜ r ≡ exactSum coefficientCount (now (coefficients .entry)) (now (history .entry)) ⌝ }
