@@ -230,38 +230,32 @@ static void encode_each(const struct library *library)
     }
 }
 
-static void precode_by(__typeof__(sdsl_precode) *precode)
+/* A run of samples through the precoder or its inverse, which have one type. */
+static void samples_by(__typeof__(sdsl_precode) *run, const uint8_t *samples)
 {
     uint8_t *past = results.octets + sizeof xs;
     memcpy(past, history, sizeof history);
-    results.numbers[0] = precode(taps, sizeof taps, past, sizeof history, xs, sizeof xs, results.octets, sizeof xs);
-}
-
-static void unprecode_by(__typeof__(sdsl_unprecode) *unprecode)
-{
-    uint8_t *past = results.octets + sizeof ys;
-    memcpy(past, history, sizeof history);
-    results.numbers[0] = unprecode(taps, sizeof taps, past, sizeof history, ys, sizeof ys, results.octets, sizeof ys);
+    results.numbers[0] = run(taps, sizeof taps, past, sizeof history, samples, sizeof xs, results.octets, sizeof xs);
 }
 
 static void precode(const struct library *library)
 {
-    precode_by(library->precode);
+    samples_by(library->precode, xs);
 }
 
 static void unprecode(const struct library *library)
 {
-    unprecode_by(library->unprecode);
+    samples_by(library->unprecode, ys);
 }
 
 static void precode_narrow(void)
 {
-    precode_by(narrow_precode);
+    samples_by(narrow_precode, xs);
 }
 
 static void unprecode_narrow(void)
 {
-    unprecode_by(narrow_unprecode);
+    samples_by(narrow_unprecode, ys);
 }
 
 static const struct other precode_others[] = {{"C, narrow products", precode_narrow}, {NULL, NULL}};

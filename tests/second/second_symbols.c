@@ -368,35 +368,31 @@ static size_t make_borders(int32_t *borders, int32_t width, int32_t highest)
 }
 
 /*
- * One product alone, but for a coefficient of 1 at another place whose past output brings the sum to a half, and then to just below it:
- * so the sum shows to its last bit, and not only in what rounding leaves of it.
+ * As it stands, and then with a coefficient of 1 at one place whose past output brings the sum to a half, and to just below it: so the
+ * sum shows to its last bit, and not only in what rounding leaves of it.
  */
-static void try_product(int32_t coefficient, int32_t output, size_t place)
+static void try_to_the_bit(struct input *in, size_t place, const char *what)
 {
-    struct input in;
-    int64_t product = (int64_t)coefficient * output;
+    int64_t sum = 0;
+    try_both(in, what);
+    for (size_t k = 0; k < SDSL_COEFFICIENTS; k++) {
+        sum += k == place ? 0 : (int64_t)get_number(in->coefficients, k) * get_number(in->history, k);
+    }
+    set_number(in->coefficients, place, 1);
     for (int64_t wanted = 65535; wanted <= 65536; wanted++) {
-        make_zero(&in, 1);
-        set_number(in.coefficients, place, coefficient);
-        set_number(in.history, place, output);
-        set_number(in.coefficients, (place + 90) % 180, 1);
-        set_number(in.history, (place + 90) % 180, (int32_t)((wanted - product) % 131072));
-        try_both(&in, "a border of two parts");
+        set_number(in->history, place, (int32_t)((wanted - sum) % 131072));
+        try_both(in, what);
     }
 }
 
-/* 179 products at once, and again a coefficient of 1 that brings their sum to a half and to just below it. */
-static void try_products(struct input *in)
+/* One product alone. */
+static void try_product(int32_t coefficient, int32_t output, size_t place)
 {
-    int64_t sum = 0;
-    for (size_t k = 0; k < 179; k++) {
-        sum += (int64_t)get_number(in->coefficients, k) * get_number(in->history, k);
-    }
-    for (int64_t wanted = 65535; wanted <= 65536; wanted++) {
-        set_number(in->coefficients, 179, 1);
-        set_number(in->history, 179, (int32_t)((wanted - sum) % 131072));
-        try_both(in, "borders of two parts, many at once");
-    }
+    struct input in;
+    make_zero(&in, 1);
+    set_number(in.coefficients, place, coefficient);
+    set_number(in.history, place, output);
+    try_to_the_bit(&in, (place + 90) % 180, "a border of two parts");
 }
 
 /*
@@ -431,8 +427,7 @@ static void product_borders(void)
                 set_number(in.coefficients, k, turn_coefficient ? other_sign(coefficient, 2097151) : coefficient);
                 set_number(in.history, k, turn_output ? other_sign(output, 131071) : output);
             }
-            try_both(&in, "borders of two parts, 180 at once");
-            try_products(&in);
+            try_to_the_bit(&in, 179, "borders of two parts, 180 at once");
         }
     }
 }

@@ -7,8 +7,8 @@ use native.Mathlib.Omega.{arith}
 use lib.IntN.{ℤ, pos, negsuc, negℤ, natAbs, _+ℤ_, _-ℤ_, _*ℤ_, negℤ-negℤ, *ℤ-comm, +ℤ-comm, +ℤ-assoc}
 use lib.Dec.{T, leb, ltb, leb→le, ltb→lt}
 use lib.Signed.{mag, nonNeg, pos-natAbs}
-use mir.Syntax.{w16, w32, w64}
-use mir.Val.{Fits, SFits, toZ, ofZ}
+use mir.Syntax.{Width, w16, w32, w64}
+use mir.Val.{Fits, SFits, hbits, toZ, ofZ}
 use mir.Facts.{toZ-ofZ, toZ-pos, toZ-neg, fits-of-lt, sfits-widen}
 use borrow.Author.Tests.{le-leb, leb-true}
 use Rattle.ranges.specs.Ranges.{between}
@@ -75,6 +75,10 @@ four n m h l j k =
     ∙ sym (+ℤ-assoc (pos (n * m) *ℤ (h *ℤ j) +ℤ pos n *ℤ (h *ℤ k)) (pos m *ℤ (l *ℤ j)) (l *ℤ k))
 
 -- ---- a number in two halves
+
+-- a number that is small enough fits; samples has the law for 64 bits
+size-fits : (w : Width) (z : ℤ) → natAbs z < 2 ^ hbits w → SFits w z
+size-fits w z h = record { sfits = mag-of z (2 ^ hbits w) (omega (arith, abs-is z)) (omega (arith, abs-is z)) }
 
 from-zero : (h n : ℕ) → n ≤ h → between (pos 0) (pos h) (pos n) ≡ true
 from-zero h n l = rw (le-leb 0 n (omega arith)) (le-leb n h l)
@@ -195,8 +199,8 @@ module _ (n k : ℕ) (sizes : (0 < n) × (n ≤ 2 ^ 14) × (k ≤ 2 ^ 14)) (z : 
         rw (high-is, rest-is) (halves, mag-range (k - 1) high (omega (arith, high-mag)), from-zero (n - 1) (r % n) (omega (arith, low-less)))
 
 -- a number has one high and one low part: where two pairs put together are the same number, they are the same pair
-pub parts-one : (n : ℕ) (h j : ℤ) (l k : ℕ) → l < n → k < n → pos n *ℤ h +ℤ pos l ≡ pos n *ℤ j +ℤ pos k → (h ≡ j) × (l ≡ k)
-parts-one n h j l k f g e =
+pub halves-one : (n : ℕ) (h j : ℤ) (l k : ℕ) → l < n → k < n → pos n *ℤ h +ℤ pos l ≡ pos n *ℤ j +ℤ pos k → (h ≡ j) × (l ≡ k)
+halves-one n h j l k f g e =
     let bal : n * (P h + N j) + l ≡ n * (P j + N h) + k =
     omega (
       arith,
@@ -219,34 +223,28 @@ parts-one n h j l k f g e =
     let same : P h + N j ≡ P j + N h = omega (arith, lt-of-mul-lt-mul-left n below, lt-of-mul-lt-mul-left n above) in
     (eq-of h j same, omega (arith, ap (λ (x : ℕ). n * x) same))
 
--- the difference of two numbers of few bits fits 32
-pub raise-fits : (z : ℤ) (bits : ℕ) → mag z < 2 ^ 22 → T (ltb (mag (toZ w32 bits)) (2 ^ 22)) → SFits w32 z → SFits w32 (toZ w32 (ofZ w32 z) -ℤ toZ w32 bits)
-raise-fits z bits f h fits =
-    let k = toZ w32 bits in
-    let less = ltb→lt (mag k) (2 ^ 22) h in
-    rw (toZ-ofZ fits)
-    (record {
+-- the difference of two small numbers fits
+less-fits : (w : Width) (a b : ℤ) → mag a + suc (mag b) < 2 ^ hbits w → SFits w (a -ℤ b)
+less-fits w a b h =
+    record {
       sfits =
-          mag-of (z -ℤ k) 2147483648 (omega (arith, sub-is z k, P-mag z, N-mag k, less)) (omega (arith, sub-is z k, N-mag z, P-mag k, less));
-    })
+          mag-of (a -ℤ b) (2 ^ hbits w) (omega (arith, sub-is a b, P-mag a, N-mag b)) (omega (arith, sub-is a b, N-mag a, P-mag b));
+    }
 
--- a quotient and a small number: their difference fits 16 bits
+-- a number less a constant, as the code raises it
+pub raise-fits : (z : ℤ) (bits : ℕ) → mag z < 2 ^ 22 → T (ltb (mag (toZ w32 bits)) (2 ^ 22)) → SFits w32 z → SFits w32 (toZ w32 (ofZ w32 z) -ℤ toZ w32 bits)
+raise-fits z bits f h fits = rw (toZ-ofZ fits) (less-fits w32 z (toZ w32 bits) (omega (arith, ltb→lt (mag (toZ w32 bits)) (2 ^ 22) h)))
+
+-- a quotient less a constant, as the code lowers it
 pub lower-fits : (m d bits : ℕ) → m < 2 ^ 22 → T (leb 256 d) → T (ltb (mag (toZ w16 bits)) (2 ^ 13)) → SFits w16 (toZ w16 (m / d) -ℤ toZ w16 bits)
 lower-fits m d bits f g h =
-    let k = toZ w16 bits in
     let some : 0 < d = omega (arith, leb→le 256 d g) in
     let enough : m < 2 ^ 14 * d = omega (arith, leb→le 256 d g) in
     let small : m / d < 2 ^ 14 = div-lt-iff-lt-mul some .1 enough in
     let e : toZ w16 (m / d) ≡ pos (m / d) = toZ-pos w16 (omega arith) in
-    let a = pos (m / d) in
-    rw e
-    (record {
-      sfits =
-          mag-of (a -ℤ k) 32768 (omega (arith, small, sub-is a k, P-pos (m / d), N-pos (m / d), N-mag k, ltb→lt (mag k) (2 ^ 13) h))
-          (omega (arith, sub-is a k, P-pos (m / d), N-pos (m / d), P-mag k, ltb→lt (mag k) (2 ^ 13) h));
-    })
+    rw e (less-fits w16 (pos (m / d)) (toZ w16 bits) (omega (arith, ltb→lt (mag (toZ w16 bits)) (2 ^ 13) h)))
 
--- ---- parts and their products
+-- ---- the halves of a coefficient and of an output, and their products
 
 -- from -(h + 1) to h, and from 0 to h
 signed-abs : (h : ℕ) (z : ℤ) → between (negsuc h) (pos h) z ≡ true → natAbs z ≤ suc h
@@ -256,29 +254,24 @@ unsigned-abs : (h : ℕ) (z : ℤ) → between (pos 0) (pos h) z ≡ true → na
 unsigned-abs h (pos n) e = leb-true n h (both (leb 0 n) (leb n h) e .1)
 unsigned-abs h (negsuc n) e = absurd (false≢true e)
 
-abs-fits-16 : (z : ℤ) → natAbs z < 32768 → SFits w16 z
-abs-fits-16 z h = record { sfits = mag-of z 32768 (omega (arith, abs-is z)) (omega (arith, abs-is z)) }
-
--- a part from -(h + 1) to h, or from 0 to h, is read back from its 16 bits
-pub signed-back : (h : ℕ) (z : ℤ) → suc h < 32768 → between (negsuc h) (pos h) z ≡ true → toZ w16 (ofZ w16 z) ≡ z
-signed-back h z less e = toZ-ofZ (abs-fits-16 z (omega (arith, signed-abs h z e)))
-
-pub unsigned-back : (h : ℕ) (z : ℤ) → h < 32768 → between (pos 0) (pos h) z ≡ true → toZ w16 (ofZ w16 z) ≡ z
-unsigned-back h z less e = toZ-ofZ (abs-fits-16 z (omega (arith, unsigned-abs h z e)))
-
--- the four products of the parts of a coefficient and of an output are none larger than that of the low parts at their most
 module _ (h l j k : ℤ) (hr : between (negsuc 1023) (pos 1023) h ≡ true) (lr : between (pos 0) (pos 2047) l ≡ true)
     (jr : between (negsuc 255) (pos 255) j ≡ true) (kr : between (pos 0) (pos 511) k ≡ true) where
+  small : (natAbs h ≤ 2047) × (natAbs l ≤ 2047) × (natAbs j ≤ 511) × (natAbs k ≤ 511)
+  small = (omega (arith, signed-abs 1023 h hr), unsigned-abs 2047 l lr, omega (arith, signed-abs 255 j jr), unsigned-abs 511 k kr)
+
+  half-back : (z : ℤ) → natAbs z ≤ 2047 → toZ w16 (ofZ w16 z) ≡ z
+  half-back z f = toZ-ofZ (size-fits w16 z (omega arith))
+
+  -- each is read back from its 16 bits
+  pub backs : (toZ w16 (ofZ w16 h) ≡ h) × (toZ w16 (ofZ w16 l) ≡ l) × (toZ w16 (ofZ w16 j) ≡ j) × (toZ w16 (ofZ w16 k) ≡ k)
+  backs = (half-back h (small .0), half-back l (small .1), half-back j (omega (arith, small .2)), half-back k (omega (arith, small .3)))
+
   size : (a b : ℤ) → natAbs a ≤ 2047 → natAbs b ≤ 511 → natAbs (a *ℤ b) ≤ 2047 * 511
   size a b f g = rw (mul-abs a b) (mul-le-mul f g)
 
+  -- no product of two of them is larger than that of the low ones at their most
   pub sizes : (natAbs (h *ℤ j) ≤ 2047 * 511) × (natAbs (h *ℤ k) ≤ 2047 * 511) × (natAbs (l *ℤ j) ≤ 2047 * 511) × (natAbs (l *ℤ k) ≤ 2047 * 511)
-  sizes =
-      let a : natAbs h ≤ 2047 = omega (arith, signed-abs 1023 h hr) in
-      let b = unsigned-abs 2047 l lr in
-      let c : natAbs j ≤ 511 = omega (arith, signed-abs 255 j jr) in
-      let d = unsigned-abs 511 k kr in
-      (size h j a c, size h k a d, size l j b c, size l k b d)
+  sizes = (size h j (small .0) (small .2), size h k (small .0) (small .3), size l j (small .1) (small .2), size l k (small .1) (small .3))
 
 -- ---- four sums of products
 
@@ -295,23 +288,21 @@ columns u v w a b c d p q r s =
     rw (times-add (pos u) a p, times-add (pos v) b q, times-add (pos w) c r)
     (regroup (pos u *ℤ a) (pos u *ℤ p) (pos v *ℤ b) (pos v *ℤ q) (pos w *ℤ c) (pos w *ℤ r) d s)
 
-abs-fits-32 : (z : ℤ) → natAbs z < 2147483648 → SFits w32 z
-abs-fits-32 z h = record { sfits = mag-of z 2147483648 (omega (arith, abs-is z)) (omega (arith, abs-is z)) }
-
 -- a sum of up to 180 products, at most 188,283,060 in size, fits 32 bits with its sign
 pub column-fits : (n : ℕ) (s : ℤ) → n ≤ 180 → natAbs s ≤ 2047 * 511 * n → SFits w32 s
-column-fits n s h f = abs-fits-32 s (omega arith)
+column-fits n s h f = size-fits w32 s (omega arith)
 
 -- a sum of n products, and one product more
-module _ (n : ℕ) (less : n < 180) (s p : ℤ) (so-far : natAbs s ≤ 2047 * 511 * n) (part : natAbs p ≤ 2047 * 511) where
-  pub column-more : natAbs (s +ℤ p) ≤ 2047 * 511 * (n + 1)
-  column-more = omega (arith, add-abs s p)
+pub column-more : (n : ℕ) (s p : ℤ) → natAbs s ≤ 2047 * 511 * n → natAbs p ≤ 2047 * 511 → natAbs (s +ℤ p) ≤ 2047 * 511 * (n + 1)
+column-more n s p f g = omega (arith, add-abs s p)
 
+-- the same as the code has it, one of up to 180
+module _ (n : ℕ) (less : n < 180) (s p : ℤ) (so-far : natAbs s ≤ 2047 * 511 * n) (part : natAbs p ≤ 2047 * 511) where
   part-is : toZ w32 (ofZ w32 p) ≡ p
   part-is = toZ-ofZ (column-fits 1 p (omega arith) (omega arith))
 
   more-fits : SFits w32 (s +ℤ p)
-  more-fits = column-fits (n + 1) (s +ℤ p) (omega arith) column-more
+  more-fits = column-fits (n + 1) (s +ℤ p) (omega arith) (column-more n s p so-far part)
 
   pub column-asks : SFits w32 (s +ℤ toZ w32 (ofZ w32 p))
   column-asks = rw part-is more-fits
@@ -327,7 +318,7 @@ column parts (suc k) = column parts k +ℤ parts k
 column-abs : (parts : ℕ → ℤ) → ((k : ℕ) → natAbs (parts k) ≤ 2047 * 511) → (n : ℕ) → natAbs (column parts n) ≤ 2047 * 511 * n
 unfolding column
 column-abs parts small zero = omega arith
-column-abs parts small (suc k) = omega (arith, add-abs (column parts k) (parts k), column-abs parts small k, small k)
+column-abs parts small (suc k) = omega (arith, column-more k (column parts k) (parts k) (column-abs parts small k) (small k))
 
 -- every column fits 32 bits with its sign after any number of taps up to 180
 pub columns-fit : (parts : ℕ → ℤ) → ((k : ℕ) → natAbs (parts k) ≤ 2047 * 511) → (n : ℕ) → n ≤ 180 → SFits w32 (column parts n)
@@ -339,16 +330,25 @@ product-fits a b f g =
     let p : natAbs a ≤ 32768 = omega (arith, abs-mag a, f .sfits) in
     let q : natAbs b ≤ 32768 = omega (arith, abs-mag b, g .sfits) in
     let bound : natAbs a * natAbs b ≤ 32768 * 32768 = mul-le-mul p q in
-    abs-fits-32 (a *ℤ b) (omega (arith, mul-abs a b, bound))
+    size-fits w32 (a *ℤ b) (omega (arith, mul-abs a b, bound))
 
 -- what the code multiplies: numbers of 16 bits, each widened to 32
 pub widened : (a : ℤ) → SFits w16 a → SFits w32 (toZ w16 (ofZ w16 a))
 widened a f = rw (toZ-ofZ f) (sfits-widen tt f)
 
 module _ (a b : ℤ) (f : SFits w16 a) (g : SFits w16 b) where
-  pub product-asks : SFits w32 (toZ w32 (ofZ w32 (toZ w16 (ofZ w16 a))) *ℤ toZ w32 (ofZ w32 (toZ w16 (ofZ w16 b))))
-  product-asks =
-      rw (toZ-ofZ f, toZ-ofZ g, toZ-ofZ {w = w32} {z = a} (sfits-widen tt f), toZ-ofZ {w = w32} {z = b} (sfits-widen tt g)) (product-fits a b f g)
+  abbrev taken-product : ℤ
+  taken-product = toZ w32 (ofZ w32 (toZ w16 (ofZ w16 a))) *ℤ toZ w32 (ofZ w32 (toZ w16 (ofZ w16 b)))
+
+  taken-product-is : taken-product ≡ a *ℤ b
+  taken-product-is =
+      rw (toZ-ofZ f, toZ-ofZ g, toZ-ofZ {w = w32} {z = a} (sfits-widen tt f), toZ-ofZ {w = w32} {z = b} (sfits-widen tt g)) refl
+
+  pub product-asks : SFits w32 taken-product
+  product-asks = rw taken-product-is (product-fits a b f g)
+
+  pub product-is : toZ w32 (ofZ w32 taken-product) ≡ a *ℤ b
+  product-is = rw taken-product-is (toZ-ofZ (product-fits a b f g))
 
 -- sums of two, three and four numbers of up to 52 bits fit 64
 pub two-fit : (a b : ℤ) → natAbs a ≤ 2 ^ 51 → natAbs b ≤ 2 ^ 51 → SFits w64 (a +ℤ b)

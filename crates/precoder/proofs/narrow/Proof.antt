@@ -1,6 +1,5 @@
 -- `precoder::narrow` meets its contract: an i32 holds the product of two i16. Assumes nothing.
-use mir.Facts.{toZ-ofZ, sfits-widen}
-use Rattle.precoder.proofs.Columns.{widened, product-fits, product-asks}
+use Rattle.precoder.proofs.Columns.{widened, product-asks, product-is}
 use Rattle.precoder.proofs.narrow.Statement.{statement}
 use Rattle.precoder.proofs.narrow.Tie as tie
 
@@ -18,10 +17,7 @@ mul-result c =
     search (product-asks, f)
 
 returns : tie.Need-returns
-returns c =
-    let f = c .fits in
-    rw (toZ-ofZ (f .a), toZ-ofZ (f .b), toZ-ofZ (sfits-widen tt (f .a)), toZ-ofZ (sfits-widen tt (f .b)))
-    (toZ-ofZ (product-fits _ _ (f .a) (f .b)))
+returns c = product-is _ _ (c .fits .a) (c .fits .b)
 
 pub narrow-spec : {M : Type 1} → statement M
 narrow-spec = tie.close (tie.spec cast-result cast-result-2 mul-result returns)

@@ -1,13 +1,12 @@
 -- `precoder::product` meets its contract: the four products of the parts, put together, are the product. Assumes nothing.
 use mathlib.Core.Path.{_≡_, sym, ap₂, _∙_}
 use Prim.Native.Nat.{_^_}
-use native.Mathlib.Omega.{arith}
 use borrow.Author.Needs.{needs}
 use lib.IntN.{ℤ, pos, _+ℤ_, _*ℤ_}
 use mir.Syntax.{w16, w32}
 use mir.Val.{ofZ, toZ}
 use mir.Facts.{toZ-ofZ}
-use Rattle.precoder.proofs.Columns.{four, signed-back, unsigned-back, sizes}
+use Rattle.precoder.proofs.Columns.{four, backs, sizes}
 use Rattle.precoder.proofs.product.Statement.{statement}
 use Rattle.precoder.proofs.product.Tie as tie
 
@@ -30,7 +29,7 @@ narrow-requires-4 : tie.Need-narrow-requires-4
 narrow-requires-4 c κs = search needs
 
 module _ (c : tie.After-narrow4) where
-  -- the parts of the coefficient and of the output
+  -- the halves of the coefficient and of the output
   abbrev h : ℤ
   h = c .before .before .before .before .before .before .before .before .before .before .before .before .before .coefficient-halves .result .high
 
@@ -43,38 +42,33 @@ module _ (c : tie.After-narrow4) where
   abbrev k : ℤ
   k = c .before .before .before .before .before .before .before .before .before .before .before .before .output-halves .result .low
 
-  h-is : toZ w16 (ofZ w16 h) ≡ h
-  h-is = signed-back 1023 h (omega arith) (c .before .before .before .before .before .before .before .before .before .before .before .before .before .coefficient-halves .ensures .1)
-
-  l-is : toZ w16 (ofZ w16 l) ≡ l
-  l-is = unsigned-back 2047 l (omega arith) (c .before .before .before .before .before .before .before .before .before .before .before .before .before .coefficient-halves .ensures .2)
-
-  j-is : toZ w16 (ofZ w16 j) ≡ j
-  j-is = signed-back 255 j (omega arith) (c .before .before .before .before .before .before .before .before .before .before .before .before .output-halves .ensures .1)
-
-  k-is : toZ w16 (ofZ w16 k) ≡ k
-  k-is = unsigned-back 511 k (omega arith) (c .before .before .before .before .before .before .before .before .before .before .before .before .output-halves .ensures .2)
+  -- each read back from its bits
+  abbrev is : (toZ w16 (ofZ w16 h) ≡ h) × (toZ w16 (ofZ w16 l) ≡ l) × (toZ w16 (ofZ w16 j) ≡ j) × (toZ w16 (ofZ w16 k) ≡ k)
+  is =
+      let u = c .before .before .before .before .before .before .before .before .before .before .before .before .before .coefficient-halves .ensures in
+      let v = c .before .before .before .before .before .before .before .before .before .before .before .before .output-halves .ensures in
+      backs h l j k (u .1) (u .2) (v .1) (v .2)
 
   -- the four products
   hh-is : toZ w32 (ofZ w32 (c .before .before .before .before .before .before .before .before .before .narrow .result)) ≡ h *ℤ j
   hh-is =
       let n = c .before .before .before .before .before .before .before .before .before .narrow in
-      toZ-ofZ {z = n .result} (record { sfits = n .ok }) ∙ n .ensures ∙ ap₂ (λ (x y : ℤ). x *ℤ y) h-is j-is
+      toZ-ofZ {z = n .result} (record { sfits = n .ok }) ∙ n .ensures ∙ ap₂ (λ (x y : ℤ). x *ℤ y) (is .0) (is .2)
 
   hl-is : toZ w32 (ofZ w32 (c .before .before .before .before .before .before .narrow2 .result)) ≡ h *ℤ k
   hl-is =
       let n = c .before .before .before .before .before .before .narrow2 in
-      toZ-ofZ {z = n .result} (record { sfits = n .ok }) ∙ n .ensures ∙ ap₂ (λ (x y : ℤ). x *ℤ y) h-is k-is
+      toZ-ofZ {z = n .result} (record { sfits = n .ok }) ∙ n .ensures ∙ ap₂ (λ (x y : ℤ). x *ℤ y) (is .0) (is .3)
 
   lh-is : toZ w32 (ofZ w32 (c .before .before .before .narrow3 .result)) ≡ l *ℤ j
   lh-is =
       let n = c .before .before .before .narrow3 in
-      toZ-ofZ {z = n .result} (record { sfits = n .ok }) ∙ n .ensures ∙ ap₂ (λ (x y : ℤ). x *ℤ y) l-is j-is
+      toZ-ofZ {z = n .result} (record { sfits = n .ok }) ∙ n .ensures ∙ ap₂ (λ (x y : ℤ). x *ℤ y) (is .1) (is .2)
 
   ll-is : toZ w32 (ofZ w32 (c .narrow4 .result)) ≡ l *ℤ k
   ll-is =
       let n = c .narrow4 in
-      toZ-ofZ {z = n .result} (record { sfits = n .ok }) ∙ n .ensures ∙ ap₂ (λ (x y : ℤ). x *ℤ y) l-is k-is
+      toZ-ofZ {z = n .result} (record { sfits = n .ok }) ∙ n .ensures ∙ ap₂ (λ (x y : ℤ). x *ℤ y) (is .1) (is .3)
 
   whole : pos (2 ^ 20) *ℤ (h *ℤ j) +ℤ pos (2 ^ 11) *ℤ (h *ℤ k) +ℤ pos (2 ^ 9) *ℤ (l *ℤ j) +ℤ l *ℤ k
       ≡ c .before .before .before .before .before .before .before .before .before .before .before .before .before .before .args .coefficient *ℤ c .before .before .before .before .before .before .before .before .before .before .before .before .before .before .args .y

@@ -135,10 +135,10 @@ loop-again c =
     ) (
       omega arith,
       rw (add-one (at c)) (more c),
-      column-more (at c) less (hh c) (part c .hh) (i .2) (e .1),
-      column-more (at c) less (hl c) (part c .hl) (i .3) (e .2),
-      column-more (at c) less (lh c) (part c .lh) (i .4) (e .3),
-      column-more (at c) less (ll c) (part c .ll) (i .5) (e .4),
+      column-more (at c) (hh c) (part c .hh) (i .2) (e .1),
+      column-more (at c) (hl c) (part c .hl) (i .3) (e .2),
+      column-more (at c) (lh c) (part c .lh) (i .4) (e .3),
+      column-more (at c) (ll c) (part c .ll) (i .5) (e .4),
     )
 
 joined-requires : tie.Need-joined-requires Inv-loop μ-loop
