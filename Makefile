@@ -12,7 +12,7 @@
 .PHONY: all test first pair bench house install uninstall clean help
 .NOTPARALLEL: # two runs of rt at a time would prove the same crate twice; rt itself uses every processor
 
-VERSION = 0.3.0
+VERSION = 0.4.0
 PROGRAMS = lister replay sorter
 PREFIX = /usr/local
 bindir = $(PREFIX)/bin
@@ -50,10 +50,16 @@ pair: build/pair
 build/pair: $(wildcard $(PAIR)/*.c $(PAIR)/*.h) include/sdsl.h build/libsdsl.a
 	$(SDSL_CC) $(STRICT) $(CFLAGS) -I include -o $@ $(filter %.c,$^) build/libsdsl.a
 
+# Crate checktrial, for tests and the benchmark: check bits and check sequence alone, which sdsl.h does not have.
+build/libchecktrial.a: $(SOURCES)
+	@mkdir -p build
+	@rt staticlib checktrial > build/checktrial.log 2>&1 || { cat build/checktrial.log >&2; exit 1; }
+	@cp target/staticlib/libchecktrial.a $@
+
 bench: build/bench
 	bash bench/run
 
-build/bench: $(wildcard bench/*.c bench/*.h bench/*.cpp bench/*.S) bench/compile include/sdsl.h tests/second/reference.c tests/second/harness.c build/libsdsl.a
+build/bench: $(wildcard bench/*.c bench/*.h bench/*.cpp bench/*.S) bench/compile include/sdsl.h tests/second/reference.c tests/second/harness.c build/libsdsl.a build/libchecktrial.a
 	bash bench/compile
 
 test:

@@ -20,7 +20,7 @@
 #include <time.h>
 
 #define SIDES 8 /* ours, plain C, and up to six others */
-#define ROWS 32
+#define ROWS 48
 
 /* One side of a row. */
 struct side {
@@ -328,7 +328,7 @@ static void print_longest(void)
 {
     double longest = 0;
     const struct row *of = data_row;
-    for (size_t r = (size_t)(data_row - rows); r < row_count; r++) {
+    for (size_t r = (size_t)(data_row - rows); r < (size_t)(message_row - rows); r++) {
         double dear = dear_best[r][worst_of(r)];
         double took = dear > sides[r][0].best ? dear : sides[r][0].best;
         if (took > longest) {
@@ -357,7 +357,7 @@ static int write_frames_to(const char *folder)
 int main(int count, char **words)
 {
     if (!make_inputs()) {
-        fprintf(stderr, "bench: sdsl_data_write refused an input\n");
+        fprintf(stderr, "bench: sdsl_data_write or sdsl_eoc_write refused an input\n");
         return 2;
     }
     if (count == 3 && strcmp(words[1], "--frames") == 0) {

@@ -4,6 +4,8 @@
  *   bench.c     rounds, the clock, the table
  *   rows.c      what is measured: inputs, and a pass over them for each operation
  *   data.c      inputs and operations of the data-mode frame
+ *   eoc.c       inputs and operations of messages of the operations channel
+ *   onepass.c   those messages in plain C, in one pass
  *   narrow.c    the precoder in plain C with narrow products
  *   dear.c      the inputs that are dearest by construction
  *   others.c    other ways: a bit-serial register in plain C, and where they were found libosmocore, libcrcutil and GNU Radio
@@ -47,6 +49,10 @@ struct library {
     __typeof__(sdsl_data_crc) *data_crc;
     __typeof__(sdsl_data_read) *data_read;
     __typeof__(sdsl_data_check) *data_check;
+    __typeof__(sdsl_eoc_write) *eoc_write;
+    __typeof__(sdsl_eoc_read) *eoc_read;
+    __typeof__(sdsl_eoc_hand_up) *eoc_hand_up;
+    uint32_t (*sequence)(const uint8_t *octets, size_t count); /* the check sequence alone; sdsl.h does not have it */
 };
 extern const struct library ours, plain;
 
@@ -78,8 +84,8 @@ struct row {
 extern const struct row rows[];
 extern const size_t row_count;
 extern const struct row *const encoder_row, *const precoder_row;
-extern const struct row *const data_row; /* the first of those of the data-mode frame; they are the last rows */
-#define DATA_NANOSECONDS 60000           /* that a data-mode frame may take */
+extern const struct row *const data_row, *const message_row; /* the first of the data-mode frame's, and the first behind them */
+#define DATA_NANOSECONDS 60000                               /* that a data-mode frame may take */
 
 /* The inputs that are dearest by construction, one for each row: cases, and a pass over one of them. */
 #define CASES 520 /* of one row, at most */
@@ -123,6 +129,37 @@ bool make_data_inputs(void); /* false where a frame was refused */
 typedef void data_operation(const struct library *library, const struct data_set *set, const struct data_frame *one, size_t i);
 data_operation write_data, check_data, read_data, six_of_data;
 
+/* Messages of 2, 20 and 75 octets, addresses, number and contents together; with contents of 7E alone, or with nothing to escape. */
+enum { ORDINARY_2, ORDINARY_20, FLAGS_20, ORDINARY_75, FLAGS_75, MESSAGE_SETS };
+enum { ALL_FLAGS, SOME_FLAGS, WRONG_SEQUENCE, MESSAGE_CASES }; /* the dear ones: the last is refused */
+#define MESSAGE_MAX (2 + SDSL_EOC_CONTENTS_MAX)
+struct message {
+    uint8_t octets[MESSAGE_MAX]; /* source and destination, which is every unit; number; contents */
+    uint8_t form[SDSL_EOC_FORM_MAX];
+    size_t form_len;
+};
+struct message_set {
+    size_t size;
+    bool flags; /* contents of 7E alone */
+    struct message usual[BATCH], dear[MESSAGE_CASES][BATCH];
+};
+extern struct message_set message_sets[MESSAGE_SETS];
+bool make_message_inputs(void); /* false where a message was refused */
+
+/* One message through an operation: what is found goes to place i of `results`. */
+typedef void message_operation(const struct library *library, const struct message_set *set, const struct message *one, size_t i);
+message_operation write_message, read_message, hand_up_message, sequence_of_message;
+
+/* Messages in plain C, in one pass: the check sequence by the bit, and by libosmocore's table. They have no other functions. */
+extern const struct library one_pass, one_pass_table;
+uint32_t sequence_by_bit(const uint8_t *octets, size_t count);
+#ifdef OSMOCORE
+#define WITH_OSMOCORE(pass) pass
+#else
+#define WITH_OSMOCORE(pass) (0 ? (pass) : NULL)
+#endif
+uint32_t our_sequence(const uint8_t *octets, size_t count); /* by crate checktrial */
+
 extern const struct other check_others[], six_24_others[], six_289_others[];
 extern const struct other scramble_ltu_others[], scramble_ntu_others[], descramble_ltu_others[], descramble_ntu_others[];
 void prepare_others(void);
@@ -148,5 +185,23 @@ __typeof__(sdsl_unprecode) narrow_unprecode;
     PASS(read_plesiochronous_289, read_data, PLESIOCHRONOUS_289) \
     PASS(six_24, six_of_data, SYNCHRONOUS_24) \
     PASS(six_289, six_of_data, SYNCHRONOUS_289)
+
+/* And of messages. */
+#define MESSAGE_PASSES(PASS) \
+    PASS(write_2, write_message, ORDINARY_2) \
+    PASS(write_20, write_message, ORDINARY_20) \
+    PASS(write_20_flags, write_message, FLAGS_20) \
+    PASS(write_75, write_message, ORDINARY_75) \
+    PASS(write_75_flags, write_message, FLAGS_75) \
+    PASS(read_2, read_message, ORDINARY_2) \
+    PASS(read_20, read_message, ORDINARY_20) \
+    PASS(read_20_flags, read_message, FLAGS_20) \
+    PASS(read_75, read_message, ORDINARY_75) \
+    PASS(read_75_flags, read_message, FLAGS_75) \
+    PASS(hand_up_20, hand_up_message, ORDINARY_20)
+#define SEQUENCE_PASSES(PASS) \
+    PASS(sequence_2, sequence_of_message, ORDINARY_2) \
+    PASS(sequence_20, sequence_of_message, ORDINARY_20) \
+    PASS(sequence_75, sequence_of_message, ORDINARY_75)
 
 #endif

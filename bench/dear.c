@@ -284,6 +284,31 @@ static void data_name(size_t which, char *text, size_t room)
 
 DATA_PASSES(DATA_PASS)
 
+/* ---- Messages ---- */
+
+static void message_batch(const struct library *library, message_operation *operation, const struct message_set *set, size_t which)
+{
+    for (size_t i = 0; i < BATCH; i++) {
+        operation(library, set, &set->dear[which][i], i);
+    }
+}
+
+static void message_name(size_t which, char *text, size_t room)
+{
+    static const char *const names[MESSAGE_CASES] = {"number and contents all 7E", "each of number and contents 7E by an even chance",
+                                                     "refused for the check sequence, the last check"};
+    snprintf(text, room, "%s", names[which]);
+}
+
+#define MESSAGE_PASS(name, operation, set) \
+    static void name(const struct library *library, size_t which) { message_batch(library, operation, &message_sets[set], which); }
+
+MESSAGE_PASSES(MESSAGE_PASS)
+SEQUENCE_PASSES(MESSAGE_PASS)
+
+/* For operations that do not look at a message's form. */
+#define UNREAD_CASES WRONG_SEQUENCE
+
 /* In the order of rows.c. */
 const struct dear dears[] = {
     {2, BATCH, write_training, ends_name}, {2, BATCH, write_final, ends_name},
@@ -299,6 +324,14 @@ const struct dear dears[] = {
     {DATA_CASES, BATCH, read_synchronous_24, data_name}, {DATA_CASES, BATCH, read_synchronous_289, data_name},
     {DATA_CASES, BATCH, read_plesiochronous_24, data_name}, {DATA_CASES, BATCH, read_plesiochronous_289, data_name},
     {WRITTEN_CASES, BATCH, six_24, data_name}, {WRITTEN_CASES, BATCH, six_289, data_name},
+    {UNREAD_CASES, BATCH, write_2, message_name}, {UNREAD_CASES, BATCH, write_20, message_name},
+    {UNREAD_CASES, BATCH, write_20_flags, message_name}, {UNREAD_CASES, BATCH, write_75, message_name},
+    {UNREAD_CASES, BATCH, write_75_flags, message_name}, {MESSAGE_CASES, BATCH, read_2, message_name},
+    {MESSAGE_CASES, BATCH, read_20, message_name}, {MESSAGE_CASES, BATCH, read_20_flags, message_name},
+    {MESSAGE_CASES, BATCH, read_75, message_name}, {MESSAGE_CASES, BATCH, read_75_flags, message_name},
+    {MESSAGE_CASES, BATCH, hand_up_20, message_name},
+    {UNREAD_CASES, BATCH, sequence_2, message_name}, {UNREAD_CASES, BATCH, sequence_20, message_name},
+    {UNREAD_CASES, BATCH, sequence_75, message_name},
 };
 const size_t dear_count = ITEMS(dears);
 

@@ -11,12 +11,14 @@ const struct library ours = {
     sdsl_frame_write, sdsl_frame_check, sdsl_frame_read, sdsl_scramble_frame, sdsl_descramble_frame,
     sdsl_encode, sdsl_encode_run, sdsl_precode, sdsl_unprecode, sdsl_start, sdsl_step, sdsl_run_codes,
     sdsl_data_write, sdsl_data_crc, sdsl_data_read, sdsl_data_check,
+    sdsl_eoc_write, sdsl_eoc_read, sdsl_eoc_hand_up, our_sequence,
 };
 const struct library plain = {
     "plain C",
     ref_frame_write, ref_frame_check, ref_frame_read, ref_scramble_frame, ref_descramble_frame,
     ref_encode, ref_encode_run, ref_precode, ref_unprecode, ref_start, ref_step, ref_run_codes,
     ref_data_write, ref_data_crc, ref_data_read, ref_data_check,
+    ref_eoc_write, ref_eoc_read, ref_eoc_hand_up, sequence_by_bit,
 };
 
 struct results results;
@@ -124,7 +126,7 @@ bool make_inputs(void)
     make_symbols();
     make_codes();
     make_dear_inputs();
-    return make_data_inputs();
+    return make_data_inputs() && make_message_inputs();
 }
 
 /* ---- A pass of each operation ---- */
@@ -295,6 +297,30 @@ static void data_frames(const struct library *library, data_operation *operation
 
 DATA_PASSES(DATA_PASS)
 
+static void messages(const struct library *library, message_operation *operation, const struct message_set *set)
+{
+    for (size_t i = 0; i < BATCH; i++) {
+        operation(library, set, &set->usual[i], i);
+    }
+}
+
+/* A pass of an operation over the usual messages of a set, and other ways to the same. */
+#define MESSAGE_PASS(name, operation, set) \
+    static void name(const struct library *library) { messages(library, operation, &message_sets[set]); } \
+    static void name##_one_pass(void) { name(&one_pass); } \
+    static void name##_table(void) { name(&one_pass_table); } \
+    static const struct other name##_others[] = { \
+        {"C, one pass", name##_one_pass}, {"C, osmo_crc16_ccitt", WITH_OSMOCORE(name##_table)}, {NULL, NULL}};
+
+MESSAGE_PASSES(MESSAGE_PASS)
+
+#define SEQUENCE_PASS(name, operation, set) \
+    static void name(const struct library *library) { messages(library, operation, &message_sets[set]); } \
+    static void name##_table(void) { name(&one_pass_table); } \
+    static const struct other name##_others[] = {{"osmo_crc16_ccitt", WITH_OSMOCORE(name##_table)}, {NULL, NULL}};
+
+SEQUENCE_PASSES(SEQUENCE_PASS)
+
 const struct row rows[] = {
     {"write a training frame", "frame", BATCH, 4, 25, write_training, NULL, false},
     {"write a final frame", "frame", BATCH, 4, 10, write_final, NULL, false},
@@ -326,6 +352,21 @@ const struct row rows[] = {
     {"read a data-mode frame, plesiochronous, k = 289", "frame", BATCH, 10, 10, read_plesiochronous_289, NULL, false},
     {"six check bits, synchronous, k = 24", "frame", BATCH, 10, 10, six_24, six_24_others, false},
     {"six check bits, synchronous, k = 289", "frame", BATCH, 10, 10, six_289, six_289_others, false},
+    {"write a message of 2 octets", "message", BATCH, 1, 1, write_2, write_2_others, true},
+    {"write a message of 20 octets", "message", BATCH, 1, 1, write_20, write_20_others, true},
+    {"write a message of 20 octets, contents all 7E", "message", BATCH, 1, 1, write_20_flags, write_20_flags_others, true},
+    {"write a message of 75 octets", "message", BATCH, 1, 1, write_75, write_75_others, true},
+    {"write a message of 75 octets, contents all 7E", "message", BATCH, 1, 1, write_75_flags, write_75_flags_others, true},
+    {"read a message of 2 octets", "message", BATCH, 1, 1, read_2, read_2_others, true},
+    {"read a message of 20 octets", "message", BATCH, 1, 1, read_20, read_20_others, true},
+    {"read a message of 20 octets, contents all 7E", "message", BATCH, 1, 1, read_20_flags, read_20_flags_others, true},
+    {"read a message of 75 octets", "message", BATCH, 1, 1, read_75, read_75_others, true},
+    {"read a message of 75 octets, contents all 7E", "message", BATCH, 1, 1, read_75_flags, read_75_flags_others, true},
+    {"hand a message of 20 octets up to 4 units", "message", BATCH, 1, 1, hand_up_20, hand_up_20_others, true},
+    {"check sequence of 2 octets", "message", BATCH, 4, 4, sequence_2, sequence_2_others, false},
+    {"check sequence of 20 octets", "message", BATCH, 4, 4, sequence_20, sequence_20_others, false},
+    {"check sequence of 75 octets", "message", BATCH, 4, 4, sequence_75, sequence_75_others, false},
 };
 const size_t row_count = ITEMS(rows);
-const struct row *const encoder_row = &rows[9], *const precoder_row = &rows[11], *const data_row = &rows[16];
+const struct row *const encoder_row = &rows[9], *const precoder_row = &rows[11], *const data_row = &rows[16],
+                        *const message_row = &rows[30];

@@ -1,13 +1,14 @@
 /*
- * sdsl.h: SDSL activation (ETSI TS 101 524-2) and the data-mode frame (part 1), proved, for a card's host software in C11 or C++. Link
- * with libsdsl.a.
+ * sdsl.h: SDSL activation (ETSI TS 101 524-2), the data-mode frame and the messages of the operations channel (part 1), proved, for a
+ * card's host software in C11 or C++. Link with libsdsl.a.
  *
  * What holds for every function
  * - Every call ends and answers with one of the numbers of enum sdsl_answer. There is nothing to check before a call.
  * - A refused call (any answer but 0) leaves all lent memory as it was and hands a state back unchanged; every other number that it
  *   returns is 0.
  * - Checks run in the order of the answers' numbers, and the first that applies is answered; for data-mode frames the order is 1, 2, 4,
- *   5, 9, 6, 7. Each function's comment lists the answers that it can give, in their order; it gives no other.
+ *   5, 9, 6, 7, for messages of the operations channel 1, 4, 10, 11, 12, 7. Each function's comment lists the answers that it can give,
+ *   in their order; it gives no other.
  * - All memory is the caller's. A buffer is lent for the time of the call, as a pointer and its length in octets; the library keeps no
  *   pointer. A pointer may be NULL where its length is 0. A buffer that is written (no `const`) must not overlap another buffer of the
  *   same call: to work in place, lend a copy.
@@ -36,9 +37,9 @@
 
 /* The version of this header and of the library that belongs to it. */
 #define SDSL_VERSION_MAJOR 0
-#define SDSL_VERSION_MINOR 3
+#define SDSL_VERSION_MINOR 4
 #define SDSL_VERSION_PATCH 0
-#define SDSL_VERSION "0.3.0"
+#define SDSL_VERSION "0.4.0"
 
 #ifdef __cplusplus
 extern "C" {
@@ -57,7 +58,10 @@ enum sdsl_answer {
     SDSL_BAD_PAD = 6,      /* an unused bit behind the frame is not zero */
     SDSL_BAD_CHECK = 7,    /* the check bits differ */
     /* 8 is not used; it was: a reserved bit is not zero */
-    SDSL_BAD_STUFFING = 9  /* stuffing bits that the form cannot have (data-mode frame) */
+    SDSL_BAD_STUFFING = 9, /* stuffing bits that the form cannot have (data-mode frame) */
+    SDSL_BAD_FLAG = 10,    /* a flag is missing or stands inside the message (operations channel) */
+    SDSL_BAD_ESCAPE = 11,  /* an escape other than 7D 5E and 7D 5D (operations channel) */
+    SDSL_BAD_SIZE = 12     /* the message is too long or too short (operations channel) */
 };
 
 /*
@@ -89,6 +93,12 @@ static inline const char *sdsl_answer_text(uint32_t answer)
         return "the check bits differ";
     case SDSL_BAD_STUFFING:
         return "stuffing bits that the form cannot have (data-mode frame)";
+    case SDSL_BAD_FLAG:
+        return "a flag is missing or stands inside the message (operations channel)";
+    case SDSL_BAD_ESCAPE:
+        return "an escape other than 7D 5E and 7D 5D (operations channel)";
+    case SDSL_BAD_SIZE:
+        return "the message is too long or too short (operations channel)";
     default:
         return "not an answer of this library";
     }
@@ -359,6 +369,123 @@ struct sdsl_data_fields sdsl_data_read(uint32_t form, uint32_t size, uint32_t sy
  */
 uint32_t sdsl_data_check(uint32_t form, uint32_t size, uint32_t sync, uint32_t next_crc,
                          const uint8_t *frame, size_t frame_len);
+
+/* ---- Messages of the operations channel, eoc (part 1, clauses 10.5.5.1 to 10.5.5.6) ---- */
+
+#define SDSL_EOC_CONTENTS_MAX 73 /* octets of contents, at most; the room that reading wants */
+#define SDSL_EOC_FORM_MAX 156    /* octets of a written form, at most; the room that writing wants */
+#define SDSL_EOC_ADDRESS_MAX 15u /* an address has four bits */
+#define SDSL_EOC_NUMBER_MAX 255u /* a message number is an octet */
+
+/* Addresses (table 10.5). Regenerators 1 to 8 are 3 to 10; 11 and 12 are reserved, 13 and 14 not allowed. None of them is refused. */
+enum sdsl_eoc_address {
+    SDSL_EOC_ADJACENT = 0, /* as destination: the unit at the other end of this segment */
+    SDSL_EOC_LTU = 1,
+    SDSL_EOC_NTU = 2,
+    SDSL_EOC_REGENERATOR_1 = 3,
+    SDSL_EOC_EVERY_UNIT = 15 /* as destination: every unit */
+};
+
+/* What writing a message gives. */
+struct sdsl_eoc_written {
+    uint32_t answer; /* enum sdsl_answer */
+    uint32_t length; /* the octets of the form, 6 to 156, from the first flag to the last */
+};
+
+/*
+ * Writes a message in its one form: flag 7E; source in the high four bits of an octet and destination in the low four; message number;
+ * contents; check sequence (RFC 1662, FCS-16), low octet first; flag 7E. Between the flags 7E is written 7D 5E and 7D is written 7D 5D,
+ * in every octet, those of the check sequence too.
+ *   source, destination  0 to 15 (enum sdsl_eoc_address)
+ *   number               0 to 255 (table 10.6: 1 Discovery Probe, 2 Inventory Request, 130 Inventory Response, 139 Status/SNR ..)
+ *   contents             0 to 73 octets
+ *   room                 156 octets, written: the form first, zero behind it
+ * Send the first `length` octets of the room, each octet's lowest bit first. One flag may end a message and begin the next, and a host
+ * may send more 7E between messages; before a Discovery Probe (message 1) the paper wants at least five flags, so send four or more of
+ * your own before the form.
+ * The paper counts the check sequence into its limit of 75 octets; this library does not. So another maker's card may drop a message
+ * with 72 or 73 octets of contents.
+ * Answers 0, 1 (room), 4 (source, destination, number), 12 (contents), in this order.
+ *
+ * Example:
+ *     uint8_t room[SDSL_EOC_FORM_MAX];
+ *     struct sdsl_eoc_written sent = sdsl_eoc_write(SDSL_EOC_LTU, SDSL_EOC_NTU, 2, NULL, 0, room, sizeof room); // Inventory Request
+ *     const uint8_t form[] = {0x7E, 0x12, 0x02, 0x74, 0x8A, 0x7E};
+ *     assert(sent.answer == SDSL_DONE && sent.length == sizeof form && memcmp(room, form, sizeof form) == 0 && room[6] == 0);
+ */
+struct sdsl_eoc_written sdsl_eoc_write(uint32_t source, uint32_t destination, uint32_t number,
+                                       const uint8_t *contents, size_t contents_len,
+                                       uint8_t *room, size_t room_len);
+
+/* What reading a message gives. */
+struct sdsl_eoc_message {
+    uint32_t answer;      /* enum sdsl_answer */
+    uint32_t source;      /* 0 to 15 */
+    uint32_t destination; /* 0 to 15 */
+    uint32_t number;      /* 0 to 255 */
+    uint32_t length;      /* octets of contents, 0 to 73 */
+};
+
+/*
+ * Reads a message and writes its contents. It takes exactly what sdsl_eoc_write writes: a message has one form.
+ *   octets    any number of octets, from one flag to the next: take other flags between messages off before
+ *   contents  73 octets, written: the contents first, zero behind them
+ * Answers 0, 1 (contents), 10 (under two octets, the first or the last is not 7E, or a 7E between them), 11 (a 7D with neither 5E nor 5D
+ * behind it), 12 (fewer than two octets or more than 75 before the check sequence, without escapes), 7 (check sequence), in this order:
+ * the first that applies to the whole message, wherever in it.
+ *
+ * Example:
+ *     const uint8_t heard[] = {0x7E, 0x21, 0x8B, 0x06, 0x00, 0x01, 0x89, 0x8E, 0x7E}; // NTU to LTU, Status/SNR: a margin of 6 dB
+ *     uint8_t contents[SDSL_EOC_CONTENTS_MAX];
+ *     struct sdsl_eoc_message got = sdsl_eoc_read(heard, sizeof heard, contents, sizeof contents);
+ *     assert(got.answer == SDSL_DONE && got.source == SDSL_EOC_NTU && got.destination == SDSL_EOC_LTU && got.number == 139);
+ *     assert(got.length == 3 && contents[0] == 6 && contents[1] == 0 && contents[2] == 1 && contents[3] == 0);
+ */
+struct sdsl_eoc_message sdsl_eoc_read(const uint8_t *octets, size_t octets_len,
+                                      uint8_t *contents, size_t contents_len);
+
+/*
+ * The record of a unit: 79 octets, without padding, so that an array of records may be lent as octets, cast to uint8_t *. A regenerator
+ * has an address for each direction: give the one of the side that the message came in on.
+ */
+struct sdsl_eoc_unit {
+    uint8_t own;         /* its own address, 0 to 15; the host sets it */
+    uint8_t present;     /* 1 once a message stands here; the host may set it to 0 again */
+    uint8_t source;      /* the last message that was meant for this unit */
+    uint8_t destination;
+    uint8_t number;
+    uint8_t length;      /* octets of contents, 0 to 73 */
+    uint8_t contents[SDSL_EOC_CONTENTS_MAX]; /* zero behind them */
+};
+
+#define SDSL_EOC_UNIT_OCTETS 79 /* sizeof(struct sdsl_eoc_unit) */
+
+/* What handing a message up gives. */
+struct sdsl_eoc_handed_up {
+    uint32_t answer; /* enum sdsl_answer */
+    size_t units;    /* how many units took the message; 0 is possible, and no refusal */
+};
+
+/*
+ * Reads a message and hands it up to the units that it is meant for: those whose own address is the destination, and every unit where
+ * the destination is 0 (SDSL_EOC_ADJACENT) or 15 (SDSL_EOC_EVERY_UNIT). In the record of such a unit all but its own address is
+ * written. Every other record stays as it is.
+ *   octets  as for sdsl_eoc_read
+ *   units   a whole number of records, one for each unit that hears this segment; none is allowed
+ * Answers 0, 1 (units: no whole number of records), 4 (an own address over 15), 10, 11, 12, 7 (as sdsl_eoc_read), in this order.
+ *
+ * Example:
+ *     const uint8_t heard[] = {0x7E, 0x12, 0x02, 0x74, 0x8A, 0x7E}; // LTU to NTU, Inventory Request
+ *     struct sdsl_eoc_unit units[2];
+ *     memset(units, 0, sizeof units);
+ *     units[0].own = SDSL_EOC_NTU;
+ *     units[1].own = SDSL_EOC_REGENERATOR_1;
+ *     struct sdsl_eoc_handed_up up = sdsl_eoc_hand_up(heard, sizeof heard, (uint8_t *)units, sizeof units);
+ *     assert(up.answer == SDSL_DONE && up.units == 1);
+ *     assert(units[0].present == 1 && units[0].source == SDSL_EOC_LTU && units[0].number == 2 && units[1].present == 0);
+ */
+struct sdsl_eoc_handed_up sdsl_eoc_hand_up(const uint8_t *octets, size_t octets_len,
+                                           uint8_t *units, size_t units_len);
 
 /* ---- The scrambler (clause 4.1.5; part 1, clause 7.1.6) ---- */
 

@@ -5,7 +5,7 @@ where another arrow's way leads there too, none is drawn. Crates of the toolchai
 """
 import sys
 
-COLOURS = ["#e8dcc8", "#f6c9a8", "#f4b8b0", "#f3e39a", "#c5e1a5", "#a9d8d8", "#d9c4ec", "#cfd8dc", "#aecbf5"]
+COLOURS = ["#e8dcc8", "#f6c9a8", "#f4b8b0", "#f3e39a", "#c5e1a5", "#a9d8d8", "#d9c4ec", "#cfd8dc", "#aecbf5", "#e6d0a0"]
 
 
 def read(path):

@@ -12,6 +12,6 @@ for comment, name in commented:
     listed = re.findall(r"^ \* Answers (.*?)\.(?: |$)", comment, re.S | re.M)
     if len(listed) != 1:
         sys.exit(f"{name}: {len(listed)} lists of answers in its comment")
-    numbers = [int(n) for n in re.sub(r"\([^)]*\)", "", listed[0]).removesuffix(", in this order").split(",")]
+    numbers = [int(n) for n in re.sub(r"\([^)]*\)|, in this order\b.*", "", listed[0], flags=re.S).split(",")]
     print(f'    {{"{name}", {sum(1 << n for n in numbers):#x}}},')
 print("};")

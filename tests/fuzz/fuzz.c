@@ -29,7 +29,7 @@
 
 int LLVMFuzzerTestOneInput(const uint8_t *data, size_t size);
 
-#define ANSWERS 10
+#define ANSWERS 13
 #define ITEMS(array) (sizeof(array) / sizeof((array)[0]))
 
 /* ---- The input ---- */
@@ -324,6 +324,120 @@ static struct data_request fill_data_frame(struct lent *l, uint32_t form, uint32
     return q;
 }
 
+/* Behind so many octets of a message the two of its check sequence, by RFC 1662's way to make its table. */
+static void put_sequence(uint8_t *plain, size_t count)
+{
+    uint32_t rest = 0xFFFF;
+    for (size_t i = 0; i < 8 * count; i++) {
+        rest = rest >> 1 ^ ((rest ^ plain[i / 8] >> i % 8) & 1 ? 0x8408 : 0);
+    }
+    plain[count] = (uint8_t)~rest;
+    plain[count + 1] = (uint8_t)(~rest >> 8);
+}
+
+/* The octets that mean something in a form, of 7D also what stands behind it. */
+static uint8_t special(uint64_t n)
+{
+    return (uint8_t)"\x7E\x7D\x5E\x5D"[n % 4];
+}
+
+/* So many octets for between the flags, without escapes: mostly 4 to 77. Few or many of them are special. */
+static size_t any_plain(uint8_t *plain)
+{
+    uint8_t how = take8() % 32;
+    size_t count = 4 + take8() % 74u;
+    count = how == 0 ? take(2) % 1000 : how < 4 ? 74 + count % 8 : how < 8 ? count % 6 : count;
+    unsigned specials = take8() % 8;
+    uint64_t s = take(8) | 1;
+    for (size_t i = 0; i < count; i++) {
+        s ^= s << 13;
+        s ^= s >> 7;
+        s ^= s << 17;
+        plain[i] = (s >> 20) % 8 < specials ? special(s >> 40) : (uint8_t)(s >> 32);
+    }
+    return count;
+}
+
+/* The octets between two flags, of 7E and 7D escaped those that have to be. Says how many that is. */
+static size_t put_form(const uint8_t *plain, size_t count, bool flags, bool escapes, uint8_t *form)
+{
+    size_t len = 0;
+    form[len++] = 0x7E;
+    for (size_t i = 0; i < count; i++) {
+        if ((flags && plain[i] == 0x7E) || (escapes && plain[i] == 0x7D)) {
+            form[len++] = 0x7D;
+            form[len++] = plain[i] ^ 0x20;
+        } else {
+            form[len++] = plain[i];
+        }
+    }
+    form[len++] = 0x7E;
+    return len;
+}
+
+/* A bit, an octet put instead, taken away or put between, or the end cut off. Says how many octets there are then. */
+static size_t damage(uint8_t *form, size_t len)
+{
+    size_t place = len > 0 ? take(2) % len : 0;
+    uint8_t how = take8(), octet = take8();
+    octet = how & 16 ? special(octet) : octet;
+    switch (len > 0 ? how % 5 : 3) {
+    case 0:
+        form[place] ^= (uint8_t)(1 << octet % 8);
+        return len;
+    case 1:
+        form[place] = octet;
+        return len;
+    case 2:
+        memmove(form + place, form + place + 1, len - place - 1);
+        return len - 1;
+    case 3:
+        memmove(form + place + 1, form + place, len - place);
+        form[place] = octet;
+        return len + 1;
+    default:
+        return octet % 2 ? place : len - 1;
+    }
+}
+
+/*
+ * Any octets, or a message that is right as far as the input says: flags, escapes, check sequence; and then perhaps up to three places
+ * that are not.
+ */
+static struct lent *lend_message(void)
+{
+    static uint8_t plain[1024], form[2 * sizeof plain + 8];
+    unsigned right = take8() % 12;
+    if (right == 0) {
+        struct lent *any = lend(take(2) % 1024, false);
+        fill(any);
+        return any;
+    }
+    size_t count = any_plain(plain);
+    if (right != 1 && count >= 2) {
+        put_sequence(plain, count - 2);
+    }
+    size_t len = put_form(plain, count, right != 2, right != 3, form);
+    for (unsigned n = right >= 7 ? 1 + take8() % 3 : 0; n > 0; n--) {
+        len = damage(form, len);
+    }
+    struct lent *l = lend(len, false);
+    for (size_t i = 0; i < len; i++) {
+        l->p[i] = form[i];
+    }
+    return l;
+}
+
+/* Any octets, or many special ones. */
+static void fill_contents(struct lent *l)
+{
+    fill(l);
+    unsigned how = take8() % 4;
+    for (size_t i = 0; i < l->len; i++) {
+        l->p[i] = l->p[i] % 4u < how ? special(l->p[i] >> 2) : l->p[i];
+    }
+}
+
 static void keep(void)
 {
     for (unsigned i = 0; i < lent_count; i++) {
@@ -452,6 +566,111 @@ static uint32_t try_data_check(void)
     struct data_request q = fill_data_frame(f, form, size);
     keep();
     return sdsl_data_check(form, size, q.sync, q.next_crc, f->p, f->len);
+}
+
+/* Whether all octets from this one on are zero. */
+static bool is_cleared(const uint8_t *octets, size_t from, size_t to)
+{
+    bool zero = true;
+    for (size_t i = from; i < to; i++) {
+        zero = zero && octets[i] == 0;
+    }
+    return zero;
+}
+
+static uint32_t try_eoc_write(void)
+{
+    uint32_t source = number(0, SDSL_EOC_ADDRESS_MAX), destination = number(0, SDSL_EOC_ADDRESS_MAX), n = number(0, SDSL_EOC_NUMBER_MAX);
+    struct lent *c = lend(take8() % 4 == 0 ? length(SDSL_EOC_CONTENTS_MAX) : take8() % (SDSL_EOC_CONTENTS_MAX + 1), false);
+    struct lent *room = lend(length(SDSL_EOC_FORM_MAX), true);
+    fill_contents(c);
+    fill(room);
+    keep();
+    struct sdsl_eoc_written r = sdsl_eoc_write(source, destination, n, c->p, c->len, room->p, room->len);
+    bool right = source <= SDSL_EOC_ADDRESS_MAX && destination <= SDSL_EOC_ADDRESS_MAX && n <= SDSL_EOC_NUMBER_MAX;
+    uint32_t due = room->len != SDSL_EOC_FORM_MAX   ? SDSL_BAD_LENGTH
+                   : !right                         ? SDSL_OUT_OF_RANGE
+                   : c->len > SDSL_EOC_CONTENTS_MAX ? SDSL_BAD_SIZE
+                                                    : SDSL_DONE;
+    want(r.answer == due, "takes another length or number, or refuses the right ones");
+    if (r.answer == SDSL_DONE) {
+        want(r.length >= c->len + 6 && r.length <= 2 * c->len + 10, "gives a length that no form of these contents has");
+        want(room->p[0] == 0x7E && room->p[r.length - 1] == 0x7E, "writes no flag at an end");
+        want(is_cleared(room->p, r.length, room->len), "leaves something behind the form");
+    } else {
+        want(r.length == 0, "gives a number and refuses");
+    }
+    return r.answer;
+}
+
+static uint32_t try_eoc_read(void)
+{
+    struct lent *m = lend_message(), *c = lend(length(SDSL_EOC_CONTENTS_MAX), true);
+    fill(c);
+    keep();
+    struct sdsl_eoc_message r = sdsl_eoc_read(m->p, m->len, c->p, c->len);
+    want((r.answer == SDSL_BAD_LENGTH) == (c->len != SDSL_EOC_CONTENTS_MAX), "takes another length, or refuses the right one");
+    if (r.answer == SDSL_DONE) {
+        uint8_t again[SDSL_EOC_FORM_MAX];
+        want(r.source <= SDSL_EOC_ADDRESS_MAX && r.destination <= SDSL_EOC_ADDRESS_MAX && r.number <= SDSL_EOC_NUMBER_MAX &&
+             r.length <= SDSL_EOC_CONTENTS_MAX, "gives a number out of its range");
+        want(is_cleared(c->p, r.length, c->len), "leaves something behind the contents");
+        struct sdsl_eoc_written w = sdsl_eoc_write(r.source, r.destination, r.number, c->p, r.length, again, sizeof again);
+        want(w.answer == SDSL_DONE && w.length == m->len && memcmp(again, m->p, m->len) == 0, "takes what is not written so");
+    } else {
+        want((r.source | r.destination | r.number | r.length) == 0, "gives numbers and refuses");
+    }
+    return r.answer;
+}
+
+/* Records with any octets, whose own addresses are mostly right; says whether they all are. Many have a message already. */
+static bool fill_units(struct lent *l)
+{
+    bool right = true;
+    fill(l);
+    uint8_t how = take8() % 8;
+    for (size_t at = 0; at + 1 < l->len; at += SDSL_EOC_UNIT_OCTETS) {
+        l->p[at] = how == 0 ? (uint8_t)number(0, SDSL_EOC_ADDRESS_MAX) : take8() % (SDSL_EOC_ADDRESS_MAX + 1);
+        l->p[at + 1] = l->p[at + 1] % 4 == 3 ? 1 : l->p[at + 1];
+        right = right && l->p[at] <= SDSL_EOC_ADDRESS_MAX;
+    }
+    return right;
+}
+
+/* What the record of a unit holds after a message that sdsl_eoc_read reads so, and whether it took it. */
+static bool hand_one(struct sdsl_eoc_unit *unit, struct sdsl_eoc_message read, const uint8_t *contents)
+{
+    if (read.answer != SDSL_DONE || (read.destination != unit->own && read.destination != SDSL_EOC_ADJACENT &&
+                                     read.destination != SDSL_EOC_EVERY_UNIT)) {
+        return false;
+    }
+    unit->present = 1;
+    unit->source = (uint8_t)read.source;
+    unit->destination = (uint8_t)read.destination;
+    unit->number = (uint8_t)read.number;
+    unit->length = (uint8_t)read.length;
+    memcpy(unit->contents, contents, SDSL_EOC_CONTENTS_MAX);
+    return true;
+}
+
+static uint32_t try_eoc_hand_up(void)
+{
+    struct lent *m = lend_message(), *u = lend(length(SDSL_EOC_UNIT_OCTETS * (take8() % 6)), true);
+    bool right = fill_units(u), whole = u->len % SDSL_EOC_UNIT_OCTETS == 0;
+    uint8_t contents[SDSL_EOC_CONTENTS_MAX];
+    keep();
+    struct sdsl_eoc_handed_up r = sdsl_eoc_hand_up(m->p, m->len, u->p, u->len);
+    struct sdsl_eoc_message read = sdsl_eoc_read(m->p, m->len, contents, sizeof contents);
+    want(r.answer == (!whole ? SDSL_BAD_LENGTH : !right ? SDSL_OUT_OF_RANGE : read.answer), "answers otherwise than sdsl_eoc_read");
+    size_t took = 0;
+    for (size_t at = 0; r.answer == SDSL_DONE && at < u->len; at += SDSL_EOC_UNIT_OCTETS) {
+        struct sdsl_eoc_unit unit;
+        memcpy(&unit, u->before + at, sizeof unit);
+        took += hand_one(&unit, read, contents);
+        want(memcmp(u->p + at, &unit, sizeof unit) == 0, "leaves a record as sdsl_eoc_read does not have it");
+    }
+    want(r.units == took, "counts other units");
+    return r.answer;
 }
 
 typedef struct sdsl_scrambled run_function(uint32_t, uint32_t, const uint8_t *, size_t, size_t, uint8_t *, size_t);
@@ -727,6 +946,7 @@ static const struct {
 } tries[] = {
 #define TRY(function) {"sdsl_" #function, try_##function}
     TRY(frame_write), TRY(frame_read), TRY(frame_check), TRY(data_write), TRY(data_crc), TRY(data_read), TRY(data_check),
+    TRY(eoc_write), TRY(eoc_read), TRY(eoc_hand_up),
     TRY(scrambler_start), TRY(scramble_bit), TRY(descramble_bit), TRY(scramble), TRY(descramble), TRY(scramble_frame),
     TRY(descramble_frame), TRY(activation_level), TRY(data_level), TRY(level_code), TRY(encoder_start), TRY(encode), TRY(encode_run),
     TRY(history_start), TRY(precode), TRY(unprecode), TRY(shaper), TRY(start), TRY(step), TRY(run_codes),

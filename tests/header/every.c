@@ -70,6 +70,98 @@ static void data_frames(void)
          sdsl_data_crc(SDSL_PLESIOCHRONOUS + 1, SDSL_DATA_SIZE_MIN, room, sizeof room).answer == SDSL_UNKNOWN, "the limits of a data-mode frame");
 }
 
+/* A record is its octets, one behind the other, in this order. */
+static int is_packed(void)
+{
+    return sizeof(struct sdsl_eoc_unit) == SDSL_EOC_UNIT_OCTETS && SDSL_EOC_UNIT_OCTETS == 79 &&
+           sizeof(struct sdsl_eoc_unit[3]) == 3 * SDSL_EOC_UNIT_OCTETS && offsetof(struct sdsl_eoc_unit, own) == 0 &&
+           offsetof(struct sdsl_eoc_unit, present) == 1 && offsetof(struct sdsl_eoc_unit, source) == 2 &&
+           offsetof(struct sdsl_eoc_unit, destination) == 3 && offsetof(struct sdsl_eoc_unit, number) == 4 &&
+           offsetof(struct sdsl_eoc_unit, length) == 5 && offsetof(struct sdsl_eoc_unit, contents) == 6;
+}
+
+/* A message with both octets that are escaped, from the LTU to regenerator 1, over the line to three units. */
+static void messages(void)
+{
+    const uint8_t sent[3] = {0x7D, 0x00, 0x7E};
+    uint8_t room[SDSL_EOC_FORM_MAX], got[SDSL_EOC_CONTENTS_MAX];
+    memset(room, 0xA5, sizeof room);
+    struct sdsl_eoc_written made = sdsl_eoc_write(SDSL_EOC_LTU, SDSL_EOC_REGENERATOR_1, 0x88, sent, sizeof sent, room, sizeof room);
+    const uint8_t begins[8] = {0x7E, 0x13, 0x88, 0x7D, 0x5D, 0x00, 0x7D, 0x5E};
+    look(made.answer == SDSL_DONE && made.length == 11 && memcmp(room, begins, sizeof begins) == 0 && room[10] == 0x7E && room[11] == 0 &&
+         room[SDSL_EOC_FORM_MAX - 1] == 0, "sdsl_eoc_write");
+
+    memset(got, 0xA5, sizeof got);
+    struct sdsl_eoc_message message = sdsl_eoc_read(room, made.length, got, sizeof got);
+    look(message.answer == SDSL_DONE && message.source == SDSL_EOC_LTU && message.destination == SDSL_EOC_REGENERATOR_1 &&
+         message.number == 0x88 && message.length == 3 && memcmp(got, sent, sizeof sent) == 0 && got[3] == 0 &&
+         got[SDSL_EOC_CONTENTS_MAX - 1] == 0, "sdsl_eoc_read");
+
+    look(is_packed(), "struct sdsl_eoc_unit has 79 octets and no padding");
+    struct sdsl_eoc_unit units[3];
+    memset(units, 0xA5, sizeof units);
+    units[0].own = SDSL_EOC_NTU;
+    units[1].own = SDSL_EOC_REGENERATOR_1;
+    units[2].own = SDSL_EOC_ADDRESS_MAX;
+    struct sdsl_eoc_handed_up up = sdsl_eoc_hand_up(room, made.length, (uint8_t *)units, sizeof units);
+    look(up.answer == SDSL_DONE && up.units == 1 && units[0].present == 0xA5 && units[2].present == 0xA5 &&
+         units[1].own == SDSL_EOC_REGENERATOR_1 && units[1].present == 1 && units[1].source == SDSL_EOC_LTU &&
+         units[1].destination == SDSL_EOC_REGENERATOR_1 && units[1].number == 0x88 && units[1].length == 3 &&
+         memcmp(units[1].contents, got, sizeof got) == 0, "sdsl_eoc_hand_up");
+    const uint32_t all[2] = {SDSL_EOC_ADJACENT, SDSL_EOC_EVERY_UNIT};
+    int good = 1;
+    for (int i = 0; i < 2; i++) {
+        made = sdsl_eoc_write(SDSL_EOC_NTU, all[i], 1, NULL, 0, room, sizeof room);
+        up = sdsl_eoc_hand_up(room, made.length, (uint8_t *)units, sizeof units);
+        good = good && up.answer == SDSL_DONE && up.units == 3 && units[0].destination == all[i] && units[2].source == SDSL_EOC_NTU;
+    }
+    look(good && sdsl_eoc_hand_up(room, made.length, NULL, 0).answer == SDSL_DONE, "every unit, and none at all");
+}
+
+/* The octets 7E, then so many and 7E again. */
+static uint32_t read_many(size_t count, uint8_t octet)
+{
+    uint8_t form[512], contents[SDSL_EOC_CONTENTS_MAX];
+    memset(form, octet, sizeof form);
+    form[0] = form[count + 1] = 0x7E;
+    return sdsl_eoc_read(form, count + 2, contents, sizeof contents).answer;
+}
+
+/* Each named limit of a message is the library's, and so is each of its three refusals. */
+static void message_limits(void)
+{
+    uint8_t sent[SDSL_EOC_CONTENTS_MAX + 1], room[SDSL_EOC_FORM_MAX + 1], contents[SDSL_EOC_CONTENTS_MAX + 1];
+    memset(sent, 0x7E, sizeof sent);
+    struct sdsl_eoc_written most = {0, 0};
+    for (uint32_t n = 0; n < 65536 && most.length != SDSL_EOC_FORM_MAX; n++) { /* until the check sequence is escaped too */
+        for (int i = 0; i < 16; i++) {
+            sent[i] = (uint8_t)(0x7D + (n >> i) % 2);
+        }
+        most = sdsl_eoc_write(7, 14, 0x7D, sent, SDSL_EOC_CONTENTS_MAX, room, SDSL_EOC_FORM_MAX);
+    }
+    look(most.answer == SDSL_DONE && most.length == SDSL_EOC_FORM_MAX &&
+         sdsl_eoc_write(7, 14, 0x7D, sent, SDSL_EOC_CONTENTS_MAX + 1, room, SDSL_EOC_FORM_MAX).answer == SDSL_BAD_SIZE &&
+         sdsl_eoc_write(7, 14, 0x7D, sent, 0, room, SDSL_EOC_FORM_MAX - 1).answer == SDSL_BAD_LENGTH &&
+         sdsl_eoc_write(7, 14, 0x7D, sent, 0, room, SDSL_EOC_FORM_MAX + 1).answer == SDSL_BAD_LENGTH, "the most contents and their form");
+    look(sdsl_eoc_read(room, most.length, contents, SDSL_EOC_CONTENTS_MAX).length == SDSL_EOC_CONTENTS_MAX &&
+         sdsl_eoc_read(room, most.length, contents, SDSL_EOC_CONTENTS_MAX - 1).answer == SDSL_BAD_LENGTH &&
+         sdsl_eoc_read(room, most.length, contents, SDSL_EOC_CONTENTS_MAX + 1).answer == SDSL_BAD_LENGTH, "the room for contents");
+    look(sdsl_eoc_write(SDSL_EOC_ADDRESS_MAX, SDSL_EOC_ADDRESS_MAX, SDSL_EOC_NUMBER_MAX, sent, 0, room, SDSL_EOC_FORM_MAX).answer == SDSL_DONE &&
+         sdsl_eoc_write(SDSL_EOC_ADDRESS_MAX + 1, 0, 0, sent, 0, room, SDSL_EOC_FORM_MAX).answer == SDSL_OUT_OF_RANGE &&
+         sdsl_eoc_write(0, SDSL_EOC_ADDRESS_MAX + 1, 0, sent, 0, room, SDSL_EOC_FORM_MAX).answer == SDSL_OUT_OF_RANGE &&
+         sdsl_eoc_write(0, 0, SDSL_EOC_NUMBER_MAX + 1, sent, 0, room, SDSL_EOC_FORM_MAX).answer == SDSL_OUT_OF_RANGE,
+         "the largest address and message number");
+    struct sdsl_eoc_unit unit;
+    memset(&unit, 0, sizeof unit);
+    unit.own = SDSL_EOC_ADDRESS_MAX + 1;
+    look(sdsl_eoc_hand_up(room, 6, (uint8_t *)&unit, sizeof unit).answer == SDSL_OUT_OF_RANGE &&
+         sdsl_eoc_hand_up(room, 6, (uint8_t *)&unit, sizeof unit - 1).answer == SDSL_BAD_LENGTH, "an own address, and a whole record");
+    look(read_many(2 + SDSL_EOC_CONTENTS_MAX + 2, 0) == SDSL_BAD_CHECK && read_many(2 + SDSL_EOC_CONTENTS_MAX + 3, 0) == SDSL_BAD_SIZE &&
+         read_many(4, 0) == SDSL_BAD_CHECK && read_many(3, 0) == SDSL_BAD_SIZE && read_many(400, 0) == SDSL_BAD_SIZE, "SDSL_BAD_SIZE");
+    look(read_many(5, 0x7D) == SDSL_BAD_ESCAPE && read_many(5, 0x7E) == SDSL_BAD_FLAG && read_many(0, 0) == SDSL_BAD_SIZE &&
+         sdsl_eoc_read(NULL, 0, contents, SDSL_EOC_CONTENTS_MAX).answer == SDSL_BAD_FLAG, "SDSL_BAD_ESCAPE and SDSL_BAD_FLAG");
+}
+
 /* Example 7 of SCOPE: the NTU from state 0, 24 ones: eighteen 1, five 0, one 1. */
 static void runs(void)
 {
@@ -158,8 +250,8 @@ static void texts(void)
     static const char *const reports[] = {"one millisecond", "pre-activation ended", "C_r begins", "C_r has ended",
                                           "own receiver converged", "T_c seen", "T_r seen", "second F_c frame over", "abnormal"};
     int good = own_texts(sdsl_phase_text, SDSL_PHASE_MAX, ALL_USED);
-    look(own_texts(sdsl_answer_text, SDSL_BAD_STUFFING, 8) && strcmp(sdsl_answer_text(SDSL_DONE), "done") == 0,
-         "sdsl_answer_text: 0 to 7 and 9, and none for 8");
+    look(own_texts(sdsl_answer_text, SDSL_BAD_SIZE, 8) && strcmp(sdsl_answer_text(SDSL_DONE), "done") == 0,
+         "sdsl_answer_text: 0 to 7 and 9 to 12, and none for 8");
     for (uint32_t i = 0; i <= SDSL_PHASE_MAX; i++) {
         good = good && strcmp(sdsl_phase_text(i), phases[i]) == 0;
     }
@@ -289,6 +381,8 @@ int main(void)
 {
     frames();
     data_frames();
+    messages();
+    message_limits();
     runs();
     symbols();
     supervisor();

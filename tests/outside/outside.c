@@ -1,6 +1,7 @@
 /*
  * Reads requests 'HEX AT BITS' from standard input, one a line, and prints the check bits of each as a number; of a request
- * 'HEX AT BITS GENERATOR DEGREE START' the remainder by that generator, behind that start.
+ * 'HEX AT BITS GENERATOR DEGREE START' the remainder by that generator, behind that start; of a request 'HEX COUNT' the check sequence of
+ * the first COUNT octets.
  */
 #include <stdint.h>
 #include <stdio.h>
@@ -10,6 +11,7 @@
 uint32_t trial_check_bits(const uint8_t *octets, size_t len, size_t at, uint32_t bits);
 uint32_t trial_from_start(uint32_t generator, uint32_t degree, uint32_t start, const uint8_t *octets, size_t len, size_t at,
                           uint32_t bits);
+uint32_t trial_sequence(const uint8_t *octets, size_t len, uint32_t count);
 
 static char line[1 << 16];
 static uint8_t octets[sizeof line / 2];
@@ -25,10 +27,12 @@ int main(void)
             char two[3] = {line[2 * i], line[2 * i + 1], 0};
             octets[i] = (uint8_t)strtoul(two, NULL, 16);
         }
-        size_t at = strtoull(rest, &rest, 10);
-        uint32_t bits = (uint32_t)strtoul(rest, &rest, 10);
-        unsigned generator, degree, start;
-        if (sscanf(rest, "%u %u %u", &generator, &degree, &start) == 3)
+        unsigned long long at;
+        unsigned bits, generator, degree, start;
+        int numbers = sscanf(rest, "%llu %u %u %u %u", &at, &bits, &generator, &degree, &start);
+        if (numbers == 1)
+            printf("%u\n", (unsigned)trial_sequence(octets, len, (uint32_t)at));
+        else if (numbers == 5)
             printf("%u\n", (unsigned)trial_from_start(generator, degree, start, octets, len, at, bits));
         else
             printf("%u\n", (unsigned)trial_check_bits(octets, len, at, bits));

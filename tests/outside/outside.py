@@ -2,7 +2,7 @@
 
 The catalogue's CRC-16/XMODEM and Python's crc_hqx take each octet's highest bit first; ours takes the lowest first, so the octets are
 turned round before they are handed over. CRC-16/KERMIT, CRC-16/MCRF4XX (a start of all ones) and CRC-6/G-704 (D^6 + D + 1) take the
-lowest first, as we do, and give their result turned round.
+lowest first, as we do, and give their result turned round. CRC-16/X-25 is the check sequence of a message.
 """
 import binascii
 import random
@@ -46,6 +46,8 @@ report("CRC-6/G-704 of 123456789 is 0x06", turned(six, 6) == 0x06 and six == 0x1
 report("no constant term, a start too wide, a degree over 16: refused", (even, wide, long) == (0, 0, 0))
 
 rng = random.Random(SEED)
+sequence, = ask([(digits, 9)])
+report("CRC-16/X-25 of 123456789 is 0x906E", sequence == 0x906E)
 messages = [rng.randbytes(rng.choice([0, 1, 2, 3, 16, 131, 525, 529, 2000])) for _ in range(400)]
 got = ask([(high_first(m), 0, 8 * len(m)) for m in messages])
 wrong = sum(g != binascii.crc_hqx(m, 0) for g, m in zip(got, messages))
@@ -55,6 +57,11 @@ starts = [rng.randrange(1 << 16) for _ in messages]
 got = ask([(high_first(m), 0, 8 * len(m), GENERATOR, 16, start) for m, start in zip(messages, starts)])
 wrong = sum(g != binascii.crc_hqx(m, start) for g, m, start in zip(got, messages, starts))
 report(f"the same behind random starts: {wrong} differ", wrong == 0)
+
+counts = [rng.randrange(len(m) + 3) for m in messages]
+got = ask([(m, count) for m, count in zip(messages, counts)])
+wrong = sum(g != turned(binascii.crc_hqx(high_first(m[:count]), 0xFFFF), 16) ^ 0xFFFF for g, m, count in zip(got, messages, counts))
+report(f"the check sequence of their first octets, or of all where fewer are there: {wrong} differ", wrong == 0)
 
 # a range that starts and ends inside octets: as the same bits laid from place 0 on, where the bits before are zero
 cuts = []

@@ -10,14 +10,17 @@
 
 /* Which groups are compiled in. With none named, all are. */
 #if defined SECOND_ALL || \
-    !(defined SECOND_FRAME || defined SECOND_DATA || defined SECOND_SCRAMBLER || defined SECOND_SYMBOLS || defined SECOND_STARTUP)
+    !(defined SECOND_FRAME || defined SECOND_DATA || defined SECOND_EOC || defined SECOND_SCRAMBLER || defined SECOND_SYMBOLS || \
+      defined SECOND_STARTUP)
 #undef SECOND_FRAME
 #undef SECOND_DATA
+#undef SECOND_EOC
 #undef SECOND_SCRAMBLER
 #undef SECOND_SYMBOLS
 #undef SECOND_STARTUP
 #define SECOND_FRAME
 #define SECOND_DATA
+#define SECOND_EOC
 #define SECOND_SCRAMBLER
 #define SECOND_SYMBOLS
 #define SECOND_STARTUP
@@ -96,6 +99,7 @@ void settle(struct comparison comparison, struct tally *tally, const char *forma
 /* The groups. Each ends with its line of counts through print_group. */
 void second_frame(void);
 void second_data(void);
+void second_eoc(void);
 void second_scrambler(void);
 void second_symbols(void);
 void second_startup(void);

@@ -52,6 +52,25 @@ uint32_t sdsl_data_check(uint32_t form, uint32_t size, uint32_t sync, uint32_t n
     return ref_data_check(form, size, sync, next_crc, frame, frame_len);
 }
 
+struct sdsl_eoc_written sdsl_eoc_write(uint32_t source, uint32_t destination, uint32_t number,
+                                       const uint8_t *contents, size_t contents_len,
+                                       uint8_t *room, size_t room_len)
+{
+    return ref_eoc_write(source, destination, number, contents, contents_len, room, room_len);
+}
+
+struct sdsl_eoc_message sdsl_eoc_read(const uint8_t *octets, size_t octets_len,
+                                      uint8_t *contents, size_t contents_len)
+{
+    return ref_eoc_read(octets, octets_len, contents, contents_len);
+}
+
+struct sdsl_eoc_handed_up sdsl_eoc_hand_up(const uint8_t *octets, size_t octets_len,
+                                           uint8_t *units, size_t units_len)
+{
+    return ref_eoc_hand_up(octets, octets_len, units, units_len);
+}
+
 struct sdsl_scrambled sdsl_scrambler_start(uint32_t end)
 {
     return ref_scrambler_start(end);

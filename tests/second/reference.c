@@ -1,5 +1,5 @@
 /*
- * reference.c: the second implementation, from SCOPE's sentences, by the bit and with no tricks.
+ * reference.c: the second implementation, from the sentences of SCOPE and the requests, by the bit and with no tricks.
  *
  * Bits are kept one to an array element and numbered from 1, as in the paper: bits[n] is bit n and bits[0] is not used. Refusals stand
  * in each function in the order of the paper's table. Everything is checked before the first octet of lent memory is written.
@@ -611,6 +611,261 @@ uint32_t ref_data_check(uint32_t form, uint32_t size, uint32_t sync, uint32_t ne
 {
     struct dealt d;
     return judge_data(form, size, sync, next_crc, frame, frame_len, &d);
+}
+
+/* ---- Messages of the operations channel, eoc ---- */
+
+/*
+ * Table 10.4. Between the two flags of a message stand these octets, which are called plain as long as they are not escaped:
+ *
+ *     1             source in the high four bits, destination in the low four
+ *     2             message number
+ *     3 to L + 2    contents
+ *     L + 3, L + 4  check sequence
+ *
+ * The request allows octets 1 to L + 2 to be 75 at most and two at least. So there are 4 to 77 plain octets, and L is 0 to 73.
+ */
+#define EOC_FLAG 0x7E
+#define EOC_ESCAPE 0x7D
+#define EOC_PLAIN_MIN 4
+#define EOC_PLAIN_MAX 77
+#define EOC_CONTENTS 73
+#define EOC_ROOM 156 /* all 77 escaped, and two flags */
+#define EOC_UNIT 79
+
+/*
+ * The FCS-16 of RFC 1662 by schoolbook division: the bits in the order in which they are sent, each octet's lowest first, the first of
+ * them the coefficient of the highest power, with sixteen zeros behind them, by X^16 + X^12 + X^5 + 1. That the register starts with
+ * ones means that the first sixteen bits are turned over. What is left is turned over too. The coefficient of X^15 is sent first, so it
+ * is the lowest bit of the first octet.
+ */
+static void check_sequence(const uint8_t *octets, size_t count, uint8_t *two)
+{
+    size_t m = 8 * count;
+    uint8_t *rest = room_for(m + 16, 1);
+    unpack(octets, m, rest);
+    for (size_t i = 1; i <= 16; i++) {
+        rest[i] = (uint8_t)(1 - rest[i]);
+    }
+    /* From each coefficient on the divisor is taken away as often as the coefficient says: its X^16 there, the others behind. */
+    for (size_t i = 1; i <= m; i++) {
+        rest[i + 4] = (uint8_t)((rest[i + 4] + rest[i]) % 2);
+        rest[i + 11] = (uint8_t)((rest[i + 11] + rest[i]) % 2);
+        rest[i + 16] = (uint8_t)((rest[i + 16] + rest[i]) % 2);
+    }
+    uint8_t c[17];
+    for (size_t i = 1; i <= 16; i++) {
+        c[i] = (uint8_t)(1 - rest[m + i]);
+    }
+    free(rest);
+    pack(c, 16, two);
+}
+
+/* Escapes plain octets; says how many they become. */
+static size_t put_escapes(const uint8_t *plain, size_t count, uint8_t *inner)
+{
+    size_t n = 0;
+    for (size_t i = 0; i < count; i++) {
+        if (plain[i] == EOC_FLAG || plain[i] == EOC_ESCAPE) {
+            inner[n] = EOC_ESCAPE;
+            inner[n + 1] = plain[i] == EOC_FLAG ? 0x5E : 0x5D;
+            n += 2;
+        } else {
+            inner[n] = plain[i];
+            n++;
+        }
+    }
+    return n;
+}
+
+struct sdsl_eoc_written ref_eoc_write(uint32_t source, uint32_t destination, uint32_t number,
+                                      const uint8_t *contents, size_t contents_len,
+                                      uint8_t *room, size_t room_len)
+{
+    struct sdsl_eoc_written result = {0, 0};
+    if (room_len != EOC_ROOM) {
+        result.answer = SDSL_BAD_LENGTH;
+        return result;
+    }
+    if (source > 15 || destination > 15 || number > 255) {
+        result.answer = SDSL_OUT_OF_RANGE;
+        return result;
+    }
+    if (contents_len > EOC_CONTENTS) {
+        result.answer = SDSL_BAD_SIZE;
+        return result;
+    }
+
+    uint8_t plain[EOC_PLAIN_MAX] = {0};
+    size_t count = 2 + contents_len;
+    plain[0] = (uint8_t)(16 * source + destination);
+    plain[1] = (uint8_t)number;
+    for (size_t i = 0; i < contents_len; i++) {
+        plain[2 + i] = contents[i];
+    }
+    check_sequence(plain, count, plain + count);
+
+    uint8_t inner[2 * EOC_PLAIN_MAX];
+    size_t n = put_escapes(plain, count + 2, inner);
+    for (size_t i = 0; i < EOC_ROOM; i++) {
+        room[i] = 0;
+    }
+    room[0] = EOC_FLAG;
+    for (size_t i = 0; i < n; i++) {
+        room[1 + i] = inner[i];
+    }
+    room[1 + n] = EOC_FLAG;
+    result.length = (uint32_t)(n + 2);
+    return result;
+}
+
+/* A flag at either end, which are two octets, and none between them. */
+static bool has_flags(const uint8_t *octets, size_t len)
+{
+    if (len < 2 || octets[0] != EOC_FLAG || octets[len - 1] != EOC_FLAG) {
+        return false;
+    }
+    for (size_t i = 1; i < len - 1; i++) {
+        if (octets[i] == EOC_FLAG) {
+            return false;
+        }
+    }
+    return true;
+}
+
+/* Behind every escape, and still before the closing flag, one of the two that may stand there. */
+static bool has_escapes(const uint8_t *inner, size_t n)
+{
+    for (size_t i = 0; i < n; i++) {
+        if (inner[i] == EOC_ESCAPE) {
+            if (i + 1 == n || (inner[i + 1] != 0x5E && inner[i + 1] != 0x5D)) {
+                return false;
+            }
+        }
+    }
+    return true;
+}
+
+/* Takes the escapes out, where has_escapes; says how many plain octets there are. */
+static size_t take_escapes(const uint8_t *inner, size_t n, uint8_t *plain)
+{
+    size_t count = 0;
+    for (size_t i = 0; i < n; i++) {
+        if (inner[i] == EOC_ESCAPE) {
+            i++;
+            plain[count] = inner[i] == 0x5E ? EOC_FLAG : EOC_ESCAPE;
+        } else {
+            plain[count] = inner[i];
+        }
+        count++;
+    }
+    return count;
+}
+
+/*
+ * The refusals of a reader, but that for its room. Each looks at the whole message before the next is looked at. Where there is none the
+ * plain octets, up to 77, come back.
+ */
+static uint32_t judge_message(const uint8_t *octets, size_t len, uint8_t *plain, size_t *count)
+{
+    if (!has_flags(octets, len)) {
+        return SDSL_BAD_FLAG;
+    }
+    if (!has_escapes(octets + 1, len - 2)) {
+        return SDSL_BAD_ESCAPE;
+    }
+    uint8_t *all = room_for(len - 2, 1);
+    *count = take_escapes(octets + 1, len - 2, all);
+    bool fits = *count >= EOC_PLAIN_MIN && *count <= EOC_PLAIN_MAX;
+    for (size_t i = 0; i < *count && fits; i++) {
+        plain[i] = all[i];
+    }
+    free(all);
+    if (!fits) {
+        return SDSL_BAD_SIZE;
+    }
+    uint8_t due[2] = {0, 0};
+    check_sequence(plain, *count - 2, due);
+    if (plain[*count - 2] != due[0] || plain[*count - 1] != due[1]) {
+        return SDSL_BAD_CHECK;
+    }
+    return SDSL_DONE;
+}
+
+/* What the plain octets say. */
+static struct sdsl_eoc_message message_of(const uint8_t *plain, size_t count)
+{
+    struct sdsl_eoc_message message = {SDSL_DONE, plain[0] / 16, plain[0] % 16, plain[1], (uint32_t)(count - 4)};
+    return message;
+}
+
+/* The contents, and zeros behind them up to 73. */
+static void put_contents(const uint8_t *plain, size_t count, uint8_t *contents)
+{
+    for (size_t i = 0; i < EOC_CONTENTS; i++) {
+        contents[i] = i < count - 4 ? plain[2 + i] : 0;
+    }
+}
+
+struct sdsl_eoc_message ref_eoc_read(const uint8_t *octets, size_t octets_len,
+                                     uint8_t *contents, size_t contents_len)
+{
+    struct sdsl_eoc_message message = {0, 0, 0, 0, 0};
+    if (contents_len != EOC_CONTENTS) {
+        message.answer = SDSL_BAD_LENGTH;
+        return message;
+    }
+    uint8_t plain[EOC_PLAIN_MAX] = {0};
+    size_t count = 0;
+    message.answer = judge_message(octets, octets_len, plain, &count);
+    if (message.answer != SDSL_DONE) {
+        return message;
+    }
+    message = message_of(plain, count);
+    put_contents(plain, count, contents);
+    return message;
+}
+
+/* Its own address, that of the adjacent unit, and that of all units. */
+static bool is_meant(uint32_t own, uint32_t destination)
+{
+    return destination == own || destination == 0 || destination == 15;
+}
+
+struct sdsl_eoc_handed_up ref_eoc_hand_up(const uint8_t *octets, size_t octets_len,
+                                          uint8_t *units, size_t units_len)
+{
+    struct sdsl_eoc_handed_up result = {0, 0};
+    if (units_len % EOC_UNIT != 0) {
+        result.answer = SDSL_BAD_LENGTH;
+        return result;
+    }
+    for (size_t at = 0; at < units_len; at += EOC_UNIT) {
+        if (units[at] > 15) {
+            result.answer = SDSL_OUT_OF_RANGE;
+            return result;
+        }
+    }
+    uint8_t plain[EOC_PLAIN_MAX] = {0};
+    size_t count = 0;
+    result.answer = judge_message(octets, octets_len, plain, &count);
+    if (result.answer != SDSL_DONE) {
+        return result;
+    }
+
+    struct sdsl_eoc_message message = message_of(plain, count);
+    for (size_t at = 0; at < units_len; at += EOC_UNIT) {
+        if (is_meant(units[at], message.destination)) {
+            units[at + 1] = 1;
+            units[at + 2] = (uint8_t)message.source;
+            units[at + 3] = (uint8_t)message.destination;
+            units[at + 4] = (uint8_t)message.number;
+            units[at + 5] = (uint8_t)message.length;
+            put_contents(plain, count, units + at + 6);
+            result.units++;
+        }
+    }
+    return result;
 }
 
 /* ---- The scrambler ---- */

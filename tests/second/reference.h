@@ -1,8 +1,8 @@
 /*
  * reference.h: the second implementation of everything that sdsl.h exports.
  *
- * Written from SCOPE (and the ETSI text it names) alone, by the bit, with no line shared with the library. Each function has the
- * signature of its namesake in sdsl.h.
+ * Written from SCOPE, the requests and the papers that they name (see README.md), by the bit, with no line shared with the library.
+ * Each function has the signature of its namesake in sdsl.h.
  */
 #ifndef REFERENCE_H
 #define REFERENCE_H
@@ -32,6 +32,15 @@ struct sdsl_data_fields ref_data_read(uint32_t form, uint32_t size, uint32_t syn
                                       uint8_t *payload, size_t payload_len);
 uint32_t ref_data_check(uint32_t form, uint32_t size, uint32_t sync, uint32_t next_crc,
                         const uint8_t *frame, size_t frame_len);
+
+/* Messages of the operations channel. */
+struct sdsl_eoc_written ref_eoc_write(uint32_t source, uint32_t destination, uint32_t number,
+                                      const uint8_t *contents, size_t contents_len,
+                                      uint8_t *room, size_t room_len);
+struct sdsl_eoc_message ref_eoc_read(const uint8_t *octets, size_t octets_len,
+                                     uint8_t *contents, size_t contents_len);
+struct sdsl_eoc_handed_up ref_eoc_hand_up(const uint8_t *octets, size_t octets_len,
+                                          uint8_t *units, size_t units_len);
 
 /* The scrambler. */
 struct sdsl_scrambled ref_scrambler_start(uint32_t end);

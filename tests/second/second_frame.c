@@ -812,8 +812,8 @@ static void written_over(void)
 static void eight_unused(void)
 {
     static const char words[] = "not an answer of this library";
-    for (uint32_t answer = 0; answer <= 12; answer++) {
-        bool used = answer <= 9 && answer != NEVER;
+    for (uint32_t answer = 0; answer <= 16; answer++) {
+        bool used = answer <= 12 && answer != NEVER;
         struct comparison comparison = {NULL};
         want(&comparison, (strcmp(sdsl_answer_text(answer), words) == 0) != used, "other words");
         settle(comparison, &texts, "%u: %s", answer, sdsl_answer_text(answer));

@@ -4,14 +4,14 @@
 # The driver is built with reference.c as it is, once for each of its groups. Then, for each mutant, a copy of reference.c with one line
 # changed by sed (ref_... renamed to mut_...) stands in for the library behind mock.c. Each mutant has to make its own group of the
 # driver end with status 1; the mock with no change has to make it end with 0. (A mutant that makes it crash is caught too.) The scale
-# is the driver's second argument. Groups: frame, data, scrambler, symbols, startup; all if none is named. Status 0 only if all of that
-# holds.
+# is the driver's second argument. Groups: frame, data, eoc, scrambler, symbols, startup; all if none is named. Status 0 only if all of
+# that holds.
 set -u
 include=$(cd "${1:-$(dirname "$0")/../../include}" && pwd) || exit 2
 cd "$(dirname "$0")" || exit 2
 scale=${2:-0.1}
 groups=${*:3}
-groups=${groups:-frame data scrambler symbols startup}
+groups=${groups:-frame data eoc scrambler symbols startup}
 cc=${CC:-gcc}
 flags="-std=c11 -Wall -Wextra -Wconversion -Werror -O2 -I$include"
 
@@ -200,6 +200,125 @@ mutant "payload written before a refusal" -e '/^struct sdsl_data_fields ref_data
 mutant "check bits given with a refusal" -e '/^struct sdsl_data_written ref_data_write/,/^}/s/^        result.answer = SDSL_BAD_STUFFING;/        result.crc = overhead.crc; &/'
 mutant "overhead given with a refusal" -e '/^struct sdsl_data_fields ref_data_read/,/^}/s/^    if (fields.answer != SDSL_DONE) {/    if (fields.answer == SDSL_BAD_CHECK) fields.overhead.crc = carried_crc(\&d); &/'
 mutant "check bits refused of a frame with wrong stuffing" -e "/^struct sdsl_data_crcs ref_data_crc/,/^}/s/^        result.carried = /        if (form == 1 \&\& d.number['i'] % 3 != 0) { result.answer = SDSL_BAD_STUFFING; return result; } &/"
+
+# within FUNCTION TEXT SED...: changes in one function only
+within() {
+    local range="/^[a-z].*\\b$1(/,/^}/" text=$2 edits=() edit
+    shift 2
+    for edit in "$@"; do
+        edits+=(-e "$range$edit")
+    done
+    mutant "$text" "${edits[@]}"
+}
+
+group eoc
+within ref_eoc_write "source and destination exchanged, written" 's/16 \* source + destination/16 * destination + source/'
+within message_of "source and destination exchanged, read" 's/plain\[0\] \/ 16, plain\[0\] % 16/plain[0] % 16, plain[0] \/ 16/'
+within ref_eoc_write "a source cut to four bits" 's/source > 15 || //'
+within ref_eoc_write "a destination cut to four bits (two lines)" 's/destination > 15 || //' 's/source + destination/source + destination % 16/'
+within ref_eoc_write "a number cut to an octet" 's/ || number > 255//'
+within ref_eoc_write "source F refused" 's/source > 15/source > 14/'
+within ref_eoc_write "destinations D and E refused" 's/destination > 15/destination > 15 || destination == 13 || destination == 14/'
+within ref_eoc_write "excluded numbers refused, written" 's/number > 255/number % 128 > 124/'
+within judge_message "excluded numbers refused, read" 's/^    return SDSL_DONE;/    return plain[1] % 128 > 124 ? SDSL_OUT_OF_RANGE : SDSL_DONE;/'
+within check_sequence "check sequence high octet first" 's/pack(c, 16, two);/pack(c + 8, 8, two); pack(c, 8, two + 1);/'
+within check_sequence "check sequence not complemented" 's/(uint8_t)(1 - rest\[m + i\])/rest[m + i]/'
+within check_sequence "check sequence started at zero" 's/rest\[i\] = (uint8_t)(1 - rest\[i\]);/;/'
+within check_sequence "check sequence by another divisor" 's/rest\[i + 11\] = .*/rest[i + 10] = (uint8_t)((rest[i + 10] + rest[i]) % 2);/'
+within check_sequence "check sequence with each octet's highest bit first" 's/unpack(octets, m, rest);/for (size_t i = 1; i <= m; i++) rest[i] = octets[(i - 1) \/ 8] >> (7 - (i - 1) % 8) \& 1;/'
+within check_sequence "check sequence the coefficient of 1 first" 's/c\[i\] = /c[17 - i] = /'
+within ref_eoc_write "check sequence over the escaped octets, written" 's/check_sequence(plain, count, plain + count);/uint8_t e[150]; check_sequence(e, put_escapes(plain, count, e), plain + count);/'
+within judge_message "check sequence over the escaped octets, read" 's/check_sequence(plain, \*count - 2, due);/uint8_t e[150]; check_sequence(e, put_escapes(plain, *count - 2, e), due);/'
+within judge_message "check sequence without the addresses" 's/check_sequence(plain, \*count - 2, due);/check_sequence(plain + 1, *count - 3, due);/'
+within judge_message "check sequence taken in either order" 's/^    if (plain\[\*count - 2\] != /    if (plain[*count - 2] == due[1] \&\& plain[*count - 1] == due[0]) return SDSL_DONE; &/'
+within judge_message "check sequence taken complemented or not" 's/^    if (plain\[\*count - 2\] != /    if (plain[*count - 2] + due[0] == 255 \&\& plain[*count - 1] + due[1] == 255) return SDSL_DONE; &/'
+within judge_message "high octet of the check sequence not looked at" 's/ || plain\[\*count - 1\] != due\[1\]//'
+within judge_message "check sequence not looked at where there are no contents" 's/^    check_sequence(plain/    if (*count == 4) return SDSL_DONE; &/'
+within ref_eoc_write "check sequence not escaped" 's/size_t n = put_escapes(.*/size_t n = put_escapes(plain, count, inner); inner[n++] = plain[count]; inner[n++] = plain[count + 1];/'
+within ref_eoc_write "addresses not escaped" 's/size_t n = put_escapes(.*/inner[0] = plain[0]; size_t n = 1 + put_escapes(plain + 1, count + 1, inner + 1);/'
+within ref_eoc_write "number not escaped" 's/size_t n = put_escapes(.*/size_t n = put_escapes(plain, 1, inner); inner[n++] = plain[1]; n += put_escapes(plain + 2, count, inner + n);/'
+within ref_eoc_write "last octet before the check sequence not escaped" 's/size_t n = put_escapes(.*/size_t n = put_escapes(plain, count - 1, inner); inner[n++] = plain[count - 1]; n += put_escapes(plain + count, 2, inner + n);/'
+within put_escapes "5E and 5D exchanged, written" 's/? 0x5E : 0x5D/? 0x5D : 0x5E/'
+within take_escapes "5E and 5D exchanged, read" 's/? EOC_FLAG : EOC_ESCAPE/? EOC_ESCAPE : EOC_FLAG/'
+within put_escapes "7D not escaped" 's/ || plain\[i\] == EOC_ESCAPE//'
+within put_escapes "7F escaped too (two lines)" 's/ == EOC_ESCAPE) {/ == EOC_ESCAPE || plain[i] == 0x7F) {/' 's/plain\[i\] == EOC_FLAG ? 0x5E : 0x5D/plain[i] ^ 0x20/'
+within put_escapes "control characters escaped too (two lines)" 's/ == EOC_ESCAPE) {/ == EOC_ESCAPE || plain[i] < 0x20) {/' 's/plain\[i\] == EOC_FLAG ? 0x5E : 0x5D/plain[i] ^ 0x20/'
+mutant "any octet behind 7D taken, xor 20 (two lines)" -e '/^static bool has_escapes/,/^}/s/(inner\[i + 1\] != 0x5E && inner\[i + 1\] != 0x5D)/false/' -e '/^static size_t take_escapes/,/^}/s/inner\[i\] == 0x5E ? EOC_FLAG : EOC_ESCAPE/inner[i] ^ 0x20/'
+mutant "7D 5F taken for 7F (two lines)" -e '/^static bool has_escapes/,/^}/s/ != 0x5D)/ != 0x5D \&\& inner[i + 1] != 0x5F)/' -e '/^static size_t take_escapes/,/^}/s/inner\[i\] == 0x5E ? EOC_FLAG : EOC_ESCAPE/inner[i] ^ 0x20/'
+within has_escapes "7D 7D taken for 7D" 's/ != 0x5D)/ != 0x5D \&\& inner[i + 1] != EOC_ESCAPE)/'
+within has_escapes "7D before the closing flag taken" 's/i + 1 == n || (/i + 1 < n \&\& (/'
+within has_flags "closing flag not asked for" 's/ || octets\[len - 1\] != EOC_FLAG//'
+within has_flags "opening flag not asked for" 's/octets\[0\] != EOC_FLAG || //'
+within has_flags "a flag inside not looked for" 's/if (octets\[i\] == EOC_FLAG) {/if (false) {/'
+within has_flags "a flag next to the opening one not looked for" 's/size_t i = 1; i < len - 1/size_t i = 2; i < len - 1/'
+within judge_message "one flag serving as both" 's/^    if (!has_flags/    if (len == 1 \&\& octets[0] == EOC_FLAG) return SDSL_BAD_SIZE; &/'
+within judge_message "no octets at all called too short" 's/^    if (!has_flags/    if (len == 0) return SDSL_BAD_SIZE; &/'
+within judge_message "more opening flags taken" 's/^    if (!has_flags/    while (len > 2 \&\& octets[0] == EOC_FLAG \&\& octets[1] == EOC_FLAG) { octets++; len--; } &/'
+within judge_message "more closing flags taken" 's/^    if (!has_flags/    while (len > 2 \&\& octets[len - 1] == EOC_FLAG \&\& octets[len - 2] == EOC_FLAG) len--; &/'
+within judge_message "75 counted with the check sequence, read" 's/\*count <= EOC_PLAIN_MAX/*count <= 75/'
+within ref_eoc_write "75 counted with the check sequence, written" 's/contents_len > EOC_CONTENTS/contents_len > 71/'
+within judge_message "75 counted after escaping, read" 's/\*count <= EOC_PLAIN_MAX/len - 2 <= EOC_PLAIN_MAX/'
+within ref_eoc_write "75 counted after escaping, written" 's/^    if (contents_len > EOC_CONTENTS) {/    size_t e = contents_len; for (size_t i = 0; i < contents_len \&\& i < 73; i++) e += contents[i] == 0x7E || contents[i] == 0x7D; if (e > 73) {/'
+mutant "76 octets taken" -e 's/^#define EOC_PLAIN_MAX 77/#define EOC_PLAIN_MAX 78/'
+within judge_message "too short at 3 only" 's/>= EOC_PLAIN_MIN/>= 3/'
+within judge_message "too short at 5 already" 's/>= EOC_PLAIN_MIN/>= 5/'
+within judge_message "plain octets counted in one octet" 's/^    bool fits/    *count %= 256; &/'
+within judge_message "plain octets counted in 16 bits" 's/^    bool fits/    *count %= 65536; &/'
+within ref_eoc_write "the length of contents cut to an octet" 's/^    if (contents_len > EOC_CONTENTS) {/    contents_len %= 256; &/'
+within ref_eoc_write "the length of contents cut to 32 bits" 's/^    if (contents_len > EOC_CONTENTS) {/    contents_len %= 4294967296; &/'
+within ref_eoc_write "a room of 157 taken" 's/room_len != EOC_ROOM/(room_len != EOC_ROOM \&\& room_len != 157)/'
+within ref_eoc_write "any longer room taken, written" 's/room_len != EOC_ROOM/room_len < EOC_ROOM/'
+within ref_eoc_write "a room's length cut to 32 bits, written" 's/room_len != EOC_ROOM/(uint32_t)room_len != EOC_ROOM/'
+within ref_eoc_read "any longer room taken, read" 's/contents_len != EOC_CONTENTS/contents_len < EOC_CONTENTS/'
+within ref_eoc_read "a room's length cut to 32 bits, read" 's/contents_len != EOC_CONTENTS/(uint32_t)contents_len != EOC_CONTENTS/'
+within judge_message "checks in another order: 11 before 10" 's/^    if (!has_flags/    if (len > 2 \&\& !has_escapes(octets + 1, len - 2)) return SDSL_BAD_ESCAPE; &/'
+within judge_message "checks in another order: 11 before 10 where it stands first" 's/^    if (!has_flags/    for (size_t i = 1; i + 1 < len \&\& octets[0] == EOC_FLAG \&\& octets[i] != EOC_FLAG; i++) if (octets[i] == EOC_ESCAPE \&\& octets[i + 1] != 0x5E \&\& octets[i + 1] != 0x5D) return SDSL_BAD_ESCAPE; &/'
+within judge_message "checks in another order: 12 before 11" 's/^    if (!has_escapes/    uint8_t *x = room_for(len, 1); size_t k = take_escapes(octets + 1, len - 2, x); free(x); if (k < 4 || k > 77) return SDSL_BAD_SIZE; &/'
+within judge_message "checks in another order: 12 before 10" 's/^    if (!has_flags/    if (len < 6) return SDSL_BAD_SIZE; &/'
+within judge_message "checks in another order: 7 before 12" 's/^    free(all);/    uint8_t d[2]; if (*count >= 2) { check_sequence(all, *count - 2, d); if (all[*count - 2] != d[0] || all[*count - 1] != d[1]) { free(all); return SDSL_BAD_CHECK; } } &/'
+within ref_eoc_write "checks in another order: 4 before 1, written" 's/^    if (room_len != EOC_ROOM) {/    if (source > 15) { result.answer = SDSL_OUT_OF_RANGE; return result; } &/'
+within ref_eoc_write "checks in another order: 12 before 4, written" 's/^    if (source > 15 /    if (contents_len > EOC_CONTENTS) { result.answer = SDSL_BAD_SIZE; return result; } &/'
+within ref_eoc_write "checks in another order: 12 before 1, written" 's/^    if (room_len != EOC_ROOM) {/    if (contents_len > EOC_CONTENTS) { result.answer = SDSL_BAD_SIZE; return result; } &/'
+within ref_eoc_read "checks in another order: 10 before 1, read" 's/^    if (contents_len != EOC_CONTENTS) {/    if (octets_len < 1000 \&\& !has_flags(octets, octets_len)) { message.answer = SDSL_BAD_FLAG; return message; } &/'
+within ref_eoc_hand_up "checks in another order: 4 before 1, handed up" 's/^    if (units_len % EOC_UNIT != 0) {/    if (units_len > 0 \&\& units[0] > 15) { result.answer = SDSL_OUT_OF_RANGE; return result; } &/'
+within ref_eoc_hand_up "checks in another order: 10 before 4, handed up" 's/units\[at\] > 15/units[at] > 15 \&\& has_flags(octets, octets_len)/'
+within ref_eoc_hand_up "checks in another order: 4 last, handed up" 's/units\[at\] > 15/units[at] > 15 \&\& judge_message(octets, octets_len, (uint8_t[77]){0}, \&(size_t){0}) == SDSL_DONE/'
+within is_meant "destination 0 not answered" 's/ || destination == 0//'
+within is_meant "destination F not answered" 's/ || destination == 15//'
+within is_meant "own address 0 answers to everything" 's/destination == own/destination == own || own == 0/'
+within ref_eoc_hand_up "source looked at instead of destination" 's/is_meant(units\[at\], message.destination)/is_meant(units[at], message.source)/'
+within ref_eoc_hand_up "contents stored before the destination is looked at" 's/^        if (is_meant(/        put_contents(plain, count, units + at + 6); &/'
+within ref_eoc_hand_up "only the first record that is meant written" 's/is_meant(units\[at\], message.destination)/result.units == 0 \&\& &/'
+within ref_eoc_hand_up "only a record without a message written" 's/is_meant(units\[at\], message.destination)/units[at + 1] == 0 \&\& &/'
+within ref_eoc_hand_up "own address overwritten" 's/units\[at + 1\] = 1;/units[at] = (uint8_t)message.destination; &/'
+within ref_eoc_hand_up "present mark not set" 's/units\[at + 1\] = 1;/;/'
+within ref_eoc_hand_up "own address for the destination in the record" 's/units\[at + 3\] = (uint8_t)message.destination;/units[at + 3] = units[at];/'
+within ref_eoc_hand_up "destination for the source in the record" 's/units\[at + 2\] = (uint8_t)message.source;/units[at + 2] = (uint8_t)message.destination;/'
+within ref_eoc_hand_up "addresses and number counted into the record's length" 's/(uint8_t)message.length;/(uint8_t)(message.length + 2);/'
+within ref_eoc_hand_up "own address over 15 taken" 's/units\[at\] > 15/false/'
+within ref_eoc_hand_up "own address of 16 taken" 's/units\[at\] > 15/units[at] > 16/'
+within ref_eoc_hand_up "only the first own address looked at" 's/units\[at\] > 15/at == 0 \&\& &/'
+within ref_eoc_hand_up "all records counted" 's/result.units++;/result.units = units_len \/ EOC_UNIT;/'
+within ref_eoc_hand_up "records counted as one" 's/result.units++;/result.units = 1;/'
+within ref_eoc_hand_up "records counted in one octet" 's/result.units++;/result.units = (result.units + 1) % 256;/'
+within ref_eoc_hand_up "a part of a record left over" 's/^    if (units_len % EOC_UNIT != 0) {/    units_len -= units_len % EOC_UNIT; &/'
+within ref_eoc_hand_up "the length of units cut to 32 bits" 's/^    if (units_len % EOC_UNIT != 0) {/    units_len %= 4294967296; &/'
+within ref_eoc_hand_up "no units refused" 's/^    if (units_len % EOC_UNIT != 0) {/    if (units_len == 0 || units_len % EOC_UNIT != 0) {/'
+within ref_eoc_hand_up "with no units the message not looked at" 's/^    result.answer = judge_message/    if (units_len == 0) return result; &/'
+within ref_eoc_hand_up "a message that no unit takes refused" 's/^    return result;/    if (result.units == 0) result.answer = SDSL_OUT_OF_RANGE; &/'
+within put_contents "contents not zeroed behind" 's/: 0;/: contents[i];/'
+within put_contents "contents from one octet too early" 's/plain\[2 + i\]/plain[1 + i]/'
+within put_contents "check sequence behind the contents" 's/i < count - 4/i < count - 2/'
+within message_of "check sequence counted into the length" 's/count - 4/count - 2/'
+within ref_eoc_write "room not zeroed behind" 's/i < EOC_ROOM; i++/i < n + 2; i++/'
+within ref_eoc_write "one octet too many written" 's/^    room\[0\] = EOC_FLAG;/    room[EOC_ROOM] ^= 1; &/'
+within ref_eoc_write "a const buffer written, written" 's/^    room\[0\] = EOC_FLAG;/    if (contents_len > 8) ((uint8_t *)contents)[0] ^= 1; &/'
+within ref_eoc_read "a const buffer written, read" 's/^    message = message_of/    if (octets_len > 16) ((uint8_t *)octets)[1] ^= 1; &/'
+within ref_eoc_write "the length of a form given with a refusal" 's/^        result.answer = SDSL_BAD_SIZE;/        result.length = 156; &/'
+within ref_eoc_write "the room written with a refusal" 's/^        result.answer = SDSL_BAD_SIZE;/        room[0] = EOC_FLAG; &/'
+within ref_eoc_read "contents written with a refusal" 's/^    if (message.answer != SDSL_DONE) {/    if (message.answer == SDSL_BAD_CHECK) put_contents(plain, count, contents); &/'
+within ref_eoc_read "a number given with a refusal" 's/^    if (message.answer != SDSL_DONE) {/    if (message.answer == SDSL_BAD_CHECK) message.number = plain[1]; &/'
+within ref_eoc_hand_up "a record written with a refusal" 's/^    if (result.answer != SDSL_DONE) {/    if (result.answer == SDSL_BAD_CHECK \&\& units_len > 0) units[1] = 1; &/'
 
 group scrambler
 mutant "taps exchanged" -e 's/end == SDSL_LTU ? 5 : 18/end == SDSL_LTU ? 18 : 5/'

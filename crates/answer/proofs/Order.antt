@@ -111,9 +111,12 @@ longer n (o ∷ os) ps e = pick (eqb o n) e (longer n os ps)
 
 -- in SCOPE's order
 pub answer-in-table : (ts : List Refusal) → inTurn rising ts ≡ true → inTable (answer ts) ≡ true
-answer-in-table ts e = listed-in-table rising (λ n h. beside n (eqb 0 n) (longer n rising (9 ∷ []) h)) ts e
+answer-in-table ts e = listed-in-table rising (λ n h. beside n (eqb 0 n) (longer n rising others h)) ts e
   where
-    beside : (n : ℕ) (b : Bool) → some (from n (rising ++ (9 ∷ []))) ≡ true → some (cond b (0 ∷ (rising ++ (9 ∷ []))) (from n (rising ++ (9 ∷ [])))) ≡ true
+    others : List ℕ
+    others = 9 ∷ 10 ∷ 11 ∷ 12 ∷ []
+
+    beside : (n : ℕ) (b : Bool) → some (from n (rising ++ others)) ≡ true → some (cond b (0 ∷ (rising ++ others)) (from n (rising ++ others))) ≡ true
     beside n true h = refl
     beside n false h = h
 

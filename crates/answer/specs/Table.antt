@@ -36,6 +36,14 @@ refusals =
 abbrev pub dataRefusals : List Meaning
 dataRefusals = means 9 "stuffing bits that the form cannot have (data-mode frame)" ∷ []
 
+-- and three that only operations channel messages have, beside 1, 4 and 7
+abbrev pub eocRefusals : List Meaning
+eocRefusals =
+    means 10 "a flag is missing or stands inside the message (operations channel)"
+    ∷ means 11 "an escape other than 7D 5E and 7D 5D (operations channel)"
+    ∷ means 12 "the message is too long or too short (operations channel)"
+    ∷ []
+
 -- the table's numbers, in its order
 abbrev pub numbersOf : List Meaning → List ℕ
 numbersOf [] = []
@@ -57,7 +65,7 @@ some (o ∷ os) = true
 
 -- whether a number is one of the table
 abbrev pub inTable : ℕ → Bool
-inTable n = some (from n (numbersOf (done ∷ refusals ++ dataRefusals)))
+inTable n = some (from n (numbersOf (done ∷ refusals ++ dataRefusals ++ eocRefusals)))
 
 -- whether checks run in an order: the number of each stands in it, at or behind that of the one before
 unfoldable pub inTurn : List ℕ → List Refusal → Bool

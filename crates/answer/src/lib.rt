@@ -1,4 +1,4 @@
-// What comes back: SCOPE's nine numbers by name. The rule for choosing one is specs/Answer.antt.
+// What comes back: SCOPE's numbers by name. The rule for choosing one is specs/Answer.antt.
 
 // Done.
 pub const DONE: u32 = 0;
@@ -20,3 +20,10 @@ pub const CHECK: u32 = 7;
 
 // Stuffing bits that the form cannot have.
 pub const STUFFING: u32 = 9;
+
+// A flag is missing or stands inside the message.
+pub const FLAG: u32 = 10;
+// An escape other than 7D 5E and 7D 5D.
+pub const ESCAPE: u32 = 11;
+// The message is too long or too short.
+pub const SIZE: u32 = 12;

@@ -1,5 +1,7 @@
-// For tests only: what tests/outside compares with numbers from outside and no card's host calls.
+// For tests and the benchmark only: what is compared with numbers from outside and no card's host calls.
+ghost use Prim.Native.Nat.{_%_};
 ghost use Rattle.answer.specs.Answer.{answer};
+ghost use Rattle.fcs.specs.Promises.{Sequenced};
 ghost use Rattle.remainder.specs.Promises.{CheckBits, startRefusals, FromStart};
 
 // The check bits of any range of bits.
@@ -25,4 +27,12 @@ pub extern "C" fn trial_from_start(
 {
     let left = remainder::from_start(generator, degree, start, s, at, n);
     left.remainder
+}
+
+// The check sequence of a message's first n octets, n up to 65,535.
+#[no_mangle]
+pub extern "C" fn trial_sequence(s: &[u8], n: u32) -> u32
+    ensures { λ r. ⌜ Sequenced (now (s .entry)) (n % 65536) r ⌝ }
+{
+    fcs::sequence(s, (n % 65536) as u16)
 }

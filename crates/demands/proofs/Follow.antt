@@ -217,6 +217,9 @@ module _ (x : Library) (one : One x) where
     data-crc = never (one .data-crc);
     data-check = never (one .data-check);
     data-read = never (one .data-read);
+    eoc-write = never (one .eoc-write);
+    eoc-read = never (one .eoc-read);
+    eoc-hand-up = never (one .eoc-hand-up);
     scrambler-start = never (one .scrambler-start);
     bit = λ way. never (one .bit way);
     run = λ way. never (one .run way);

@@ -44,6 +44,7 @@ use Rattle.demands.specs.Back.{overTheLine, Back}
 use Rattle.demands.specs.Symbols.{Precoding}
 use Rattle.demands.specs.Two.{Exact}
 use Rattle.demands.proofs.DataTwo.{data-interwork}
+use Rattle.demands.proofs.EocTwo.{messages-interwork}
 use Rattle.demands.proofs.Fit.{many, lengths-fit, training-fit, kind-fit, read-right, bit-fit}
 
 -- ---- frames
@@ -283,6 +284,7 @@ interwork x y ex ey =
       training = λ c room v s e h o l m n. training-back x y (ex .frames) (ey .frames) c room v s h o l m n e;
       final = λ c room v s e h o l m n. final-back x y (ex .frames) (ey .frames) c room v s h o l m n e;
       data-frames = data-interwork x y (ex .data-frames) (ey .data-frames);
+      messages = messages-interwork x y (ex .messages) (ey .messages);
       bit = bit-back x y (ex .scrambling) (ey .scrambling);
       run = run-back x y (ex .scrambling) (ey .scrambling);
       frame = frame-comes-back x y (ex .scrambling) (ey .scrambling);

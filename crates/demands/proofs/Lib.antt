@@ -2,6 +2,8 @@ pub mod One
 pub mod DataLaws
 pub mod DataOurs
 pub mod DataTwo
+pub mod EocOurs
+pub mod EocTwo
 pub mod Fit
 pub mod Two
 pub mod Interwork
@@ -10,10 +12,12 @@ pub mod Ours
 pub mod Refuted
 pub mod Rejected
 pub mod DataRejected
+pub mod EocRejected
 pub mod ReservedRejected
 pub mod Follow
 pub mod Rebuilt
 pub mod WrongSteps
 pub mod DataWrong
+pub mod EocWrong
 pub mod WrongFunctions
 pub mod Widened

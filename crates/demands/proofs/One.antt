@@ -17,6 +17,17 @@ use Rattle.layout.specs.Refusals.{hasSync, checkRefusals}
 use Rattle.layout.proofs.Order.{check-order}
 use Rattle.ranges.proofs.Laws.{both}
 use Rattle.dataframe.specs.Refusals.{dataOrder}
+use Rattle.eoc.specs.Refusals.{eocOrder}
+use Rattle.eoc.proofs.Order.{write-order as eoc-write-order, read-order as eoc-read-order}
+use Rattle.eocunits.proofs.Order.{hand-up-order}
+use Rattle.eocwriter.specs.declared.Written.{Written as EocWritten}
+use Rattle.eocwriter.specs.Promises.{messageFrom, writtenOf as eocWrittenOf}
+use Rattle.eocreader.specs.declared.Found.{Found as EocFound}
+use Rattle.eocreader.specs.Promises.{foundOf as eocFoundOf}
+use Rattle.eocunits.specs.declared.HandedUp.{HandedUp}
+use Rattle.eocunits.specs.Promises.{handedOf}
+use Rattle.eoc.specs.Message.{Message}
+use Rattle.eoc.specs.Reading.{messageIn}
 use Rattle.dataframe.proofs.Order.{write-order as data-write-order, crc-order as data-crc-order, check-order as data-check-order, read-order as data-read-order}
 use Rattle.datawriter.specs.declared.Written.{Written}
 use Rattle.datawriter.specs.Promises.{writtenOf}
@@ -54,12 +65,14 @@ use Rattle.host.specs.Symbols.{encoder}
 use Rattle.host.proofs.One.{frame-write-order, frame-read-order, history-start-order}
 use Rattle.demands.specs.Handed.{Outcome, None, none}
 use Rattle.demands.specs.HandedData.{DataWriteCall, DataCrcCall, DataReadCall}
+use Rattle.demands.specs.HandedEoc.{EocWriteCall, EocReadCall, EocFields, EocUnitsCall}
 use Rattle.demands.specs.Library.{Library}
 use Rattle.demands.specs.Contracts.{Keeps}
 use Rattle.demands.specs.One.{Answers, InTheirOrder, Ordered, One}
 use Rattle.demands.specs.Frames.{done}
 use Rattle.demands.specs.Checks.{writeChecks, readChecks, scramblerStartChecks, bitChecks, runChecks, frameChecks, encoderStartChecks, encodeChecks}
 use Rattle.demands.specs.Checks.{dataWriteChecks, dataCrcChecks, dataReadChecks}
+use Rattle.demands.specs.Checks.{eocWriteChecks, eocReadChecks, eocHandUpChecks}
 use Rattle.demands.specs.Checks.{encodeRunChecks, historyStartChecks, precodeChecks, startChecks, stepChecks, codesChecks}
 
 -- the numbers of an order are the table's
@@ -103,6 +116,12 @@ module _ {C N M : Type 0} {f : C → Outcome N M} {checks : C → List Refusal} 
       → Answers f checks before nothing
   data-answers = answers-by dataOrder refl
 
+  -- and in that of operations channel messages
+  pub eoc-answers : InTheirOrder eocOrder checks → ((c : C) → f c .answer ≡ answer (checks c))
+      → ((c : C) → (f c .answer ≡ 0 → ⊥) → f c .numbers ≡ nothing) → ((c : C) → (f c .answer ≡ 0 → ⊥) → f c .memory ≡ before c)
+      → Answers f checks before nothing
+  eoc-answers = answers-by eocOrder refl
+
 scrambler-start-order : (end : ℕ) → inOrder 1 (scramblerStartChecks end) ≡ true
 unfolding inOrder
 scrambler-start-order end = refl
@@ -121,6 +140,9 @@ ordered = record {
   data-crc = λ c. data-crc-order (c .form) (c .size) (c .frame);
   data-check = λ c. data-check-order (c .form) (c .size) (c .sync) (c .next) (c .frame);
   data-read = λ c. data-read-order (c .form) (c .size) (c .sync) (c .next) (c .frame) (c .payload);
+  eoc-write = λ c. eoc-write-order (c .source) (c .destination) (c .number) (c .contents) (c .room);
+  eoc-read = λ c. eoc-read-order (c .octets) (c .contents);
+  eoc-hand-up = λ c. hand-up-order (c .octets) (c .units);
   scrambler-start = in-turn scramblerStartChecks scrambler-start-order;
   bit = in-turn bitChecks (λ c. bit-order (record { end = c .end; state = c .state }) (c .bit));
   run = in-turn runChecks (λ c. scrambler-order scramble (record { end = c .end; state = c .state }) (c .input) (c .bits) (c .output));
@@ -211,7 +233,67 @@ data-found-none : (n form k : ℕ) (bits : List ℕ) → (n ≡ 0 → ⊥) → d
 data-found-none zero form k bits h = absurd (h refl)
 data-found-none (suc n) form k bits h = refl
 
+-- what the functions of operations channel messages give, number by number
+pub eoc-written-answer : (n : ℕ) (m : Message) → eocWrittenOf n m .answer ≡ n
+eoc-written-answer zero m = refl
+eoc-written-answer (suc n) m = refl
+
+eoc-written-none : (n : ℕ) (m : Message) → (n ≡ 0 → ⊥) → eocWrittenOf n m .length ≡ 0
+eoc-written-none zero m h = absurd (h refl)
+eoc-written-none (suc n) m h = refl
+
+pub eoc-found-answer : (n : ℕ) (m : Message) → eocFoundOf n m .answer ≡ n
+eoc-found-answer zero m = refl
+eoc-found-answer (suc n) m = refl
+
+eoc-found-none : (n : ℕ) (m : Message) → (n ≡ 0 → ⊥) → eocFoundOf n m ≡ record { answer = n; source = 0; destination = 0; number = 0; length = 0 }
+eoc-found-none zero m h = absurd (h refl)
+eoc-found-none (suc n) m h = refl
+
+pub handed-answer : (n : ℕ) (m : Message) (units : List ℕ) → handedOf n m units .answer ≡ n
+handed-answer zero m units = refl
+handed-answer (suc n) m units = refl
+
+handed-none : (n : ℕ) (m : Message) (units : List ℕ) → (n ≡ 0 → ⊥) → handedOf n m units .units ≡ 0
+handed-none zero m units h = absurd (h refl)
+handed-none (suc n) m units h = refl
+
 module _ (x : Library) (k : Keeps x) where
+  pub eoc-write-answer : (c : EocWriteCall) → x .eoc-write c .answer ≡ answer (eocWriteChecks c)
+  eoc-write-answer c =
+      ap (λ (w : EocWritten). w .answer) (k .eoc-write c refl .returned)
+      ∙ eoc-written-answer (answer (eocWriteChecks c)) (messageFrom (c .source) (c .destination) (c .number) (c .contents))
+
+  pub eoc-read-answer : (c : EocReadCall) → x .eoc-read c .answer ≡ answer (eocReadChecks c)
+  eoc-read-answer c =
+      ap (λ (f : EocFound). f .answer) (k .eoc-read c refl .returned) ∙ eoc-found-answer (answer (eocReadChecks c)) (messageIn (c .octets))
+
+  pub eoc-hand-up-answer : (c : EocUnitsCall) → x .eoc-hand-up c .answer ≡ answer (eocHandUpChecks c)
+  eoc-hand-up-answer c =
+      ap (λ (h : HandedUp). h .answer) (k .eoc-hand-up c refl .returned) ∙ handed-answer (answer (eocHandUpChecks c)) (messageIn (c .octets)) (c .units)
+
+  eoc-write-is : Answers (x .eoc-write) eocWriteChecks (λ c. c .room) 0
+  eoc-write-is =
+      eoc-answers (ordered .eoc-write) eoc-write-answer
+      (λ c h. ap (λ (w : EocWritten). w .length) (k .eoc-write c refl .returned)
+      ∙ eoc-written-none (answer (eocWriteChecks c)) (messageFrom (c .source) (c .destination) (c .number) (c .contents)) (other (eoc-write-answer c) h))
+      (λ c h. k .eoc-write c refl .room-left ∙ kept (answer (eocWriteChecks c)) (c .room) _ (other (eoc-write-answer c) h))
+
+  eoc-read-is : Answers (x .eoc-read) eocReadChecks (λ c. c .contents) (record { source = 0; destination = 0; number = 0; length = 0 })
+  eoc-read-is =
+      eoc-answers (ordered .eoc-read) eoc-read-answer
+      (λ c h.
+      let e = k .eoc-read c refl .returned ∙ eoc-found-none (answer (eocReadChecks c)) (messageIn (c .octets)) (other (eoc-read-answer c) h) in
+      λ i. record { source = e i .source; destination = e i .destination; number = e i .number; length = e i .length })
+      (λ c h. k .eoc-read c refl .room-left ∙ kept (answer (eocReadChecks c)) (c .contents) _ (other (eoc-read-answer c) h))
+
+  eoc-hand-up-is : Answers (x .eoc-hand-up) eocHandUpChecks (λ c. c .units) 0
+  eoc-hand-up-is =
+      eoc-answers (ordered .eoc-hand-up) eoc-hand-up-answer
+      (λ c h. ap (λ (u : HandedUp). u .units) (k .eoc-hand-up c refl .returned)
+      ∙ handed-none (answer (eocHandUpChecks c)) (messageIn (c .octets)) (c .units) (other (eoc-hand-up-answer c) h))
+      (λ c h. k .eoc-hand-up c refl .units-left ∙ kept (answer (eocHandUpChecks c)) (c .units) _ (other (eoc-hand-up-answer c) h))
+
   pub data-write-answer : (c : DataWriteCall) → x .data-write c .answer ≡ answer (dataWriteChecks c)
   data-write-answer c =
       ap (λ (w : Written). w .answer) (k .data-write c refl .given) ∙ written-answer (answer (dataWriteChecks c)) (c .form) (c .size) _
@@ -304,6 +386,9 @@ module _ (x : Library) (k : Keeps x) where
     data-crc = data-crc-is;
     data-check = data-answers (ordered .data-check) (λ c. k .data-check c refl .answered) (λ c h. only _) (λ c h. only _);
     data-read = data-read-is;
+    eoc-write = eoc-write-is;
+    eoc-read = eoc-read-is;
+    eoc-hand-up = eoc-hand-up-is;
     scrambler-start = answers (ordered .scrambler-start)
         (λ e. ap (λ (r : Scrambled). r .answer) (k .scrambler-start e refl .crossed ∙ ap crossing (k .scrambler-start e refl .promise))) (λ e h. only _)
         (λ e h. ap (λ (r : Scrambled). r .state) (k .scrambler-start e refl .crossed ∙ ap crossing (k .scrambler-start e refl .promise)));

@@ -14,10 +14,11 @@ use Rattle.host.specs.Supervising.{stateIn, stateOf}
 use Rattle.demands.specs.Handed.{Outcome, None, none, WriteCall, ReadCall, Fields, Rooms, RunCall, FrameCall, Line, EncodeRunCall, Codes, PrecodeCall}
 use Rattle.demands.specs.Handed.{Signal}
 use Rattle.demands.specs.HandedData.{DataWriteCall, DataReadCall}
+use Rattle.demands.specs.HandedEoc.{EocWriteCall, EocReadCall, EocFields, EocUnitsCall}
 use Rattle.demands.specs.HandedCodes.{StepCall, Shown}
 use Rattle.demands.specs.Library.{Library}
 use Rattle.demands.specs.One.{Answers, One}
-use Rattle.demands.specs.Checks.{dataWriteChecks, dataReadChecks}
+use Rattle.demands.specs.Checks.{dataWriteChecks, dataReadChecks, eocWriteChecks, eocReadChecks, eocHandUpChecks}
 use Rattle.demands.specs.Checks.{writeChecks, readChecks, runChecks, frameChecks, encodeRunChecks, historyStartChecks, precodeChecks, stepChecks}
 use Rattle.demands.proofs.One.{answers, ordered, one}
 use Rattle.demands.proofs.Ours.{ours, ours-keep}
@@ -26,12 +27,25 @@ use Rattle.demands.proofs.Ours.{ours, ours-keep}
 pub ours-one : One ours
 ours-one = one ours ours-keep
 
+-- the functions of operations channel messages
+pub record EocParts : Type 0 where
+  pub write : EocWriteCall → Outcome ℕ (List ℕ)
+  pub read : EocReadCall → Outcome EocFields (List ℕ)
+  pub hand-up : EocUnitsCall → Outcome ℕ (List ℕ)
+
+-- what demand 1 asks of them
+pub record EocPartsAnswer (p : EocParts) : Type 0 where
+  pub write : Answers (p .write) eocWriteChecks (λ c. c .room) 0
+  pub read : Answers (p .read) eocReadChecks (λ c. c .contents) (record { source = 0; destination = 0; number = 0; length = 0 })
+  pub hand-up : Answers (p .hand-up) eocHandUpChecks (λ c. c .units) 0
+
 -- the functions that are changed below, and the rest of ours
 pub record Parts : Type 0 where
   pub write : WriteCall → Outcome None (List ℕ)
   pub read : ReadCall → Outcome Fields Rooms
   pub data-write : DataWriteCall → Outcome ℕ (List ℕ)
   pub data-read : DataReadCall → Outcome DataOverhead (List ℕ)
+  pub eoc : EocParts
   pub run : Way → RunCall → Outcome None Line
   pub frame : Way → FrameCall → Outcome None Line
   pub encode-run : EncodeRunCall → Outcome None Codes
@@ -49,6 +63,9 @@ rebuilt p = record {
   data-crc = ours .data-crc;
   data-check = ours .data-check;
   data-read = p .data-read;
+  eoc-write = p .eoc .write;
+  eoc-read = p .eoc .read;
+  eoc-hand-up = p .eoc .hand-up;
   scrambler-start = ours .scrambler-start;
   bit = ours .bit;
   run = p .run;
@@ -75,6 +92,7 @@ pub record PartsAnswer (p : Parts) : Type 0 where
       (record { kind = 0; a = 0; b = 0 })
   pub data-write : Answers (p .data-write) dataWriteChecks (λ c. c .frame) 0
   pub data-read : Answers (p .data-read) dataReadChecks (λ c. c .payload) (overheadFor noOverhead)
+  pub eoc : EocPartsAnswer (p .eoc)
   pub run : (way : Way) → Answers (p .run way) runChecks (λ c. record { state = c .state; output = c .output }) none
   pub frame : (way : Way) → Answers (p .frame way) frameChecks (λ c. record { state = c .state; output = c .output }) none
   pub encode-run : Answers (p .encode-run) encodeRunChecks (λ c. record { register = c .register; codes = c .codes }) none
@@ -92,6 +110,9 @@ rebuilt-one p a = record {
   data-crc = ours-one .data-crc;
   data-check = ours-one .data-check;
   data-read = a .data-read;
+  eoc-write = a .eoc .write;
+  eoc-read = a .eoc .read;
+  eoc-hand-up = a .eoc .hand-up;
   scrambler-start = ours-one .scrambler-start;
   bit = ours-one .bit;
   run = a .run;
@@ -119,6 +140,7 @@ usual = record {
   read = ours .read;
   data-write = ours .data-write;
   data-read = ours .data-read;
+  eoc = record { write = ours .eoc-write; read = ours .eoc-read; hand-up = ours .eoc-hand-up };
   run = ours .run;
   frame = ours .frame;
   encode-run = ours .encode-run;
@@ -134,6 +156,7 @@ usual-answer = record {
   read = ours-one .read;
   data-write = ours-one .data-write;
   data-read = ours-one .data-read;
+  eoc = record { write = ours-one .eoc-write; read = ours-one .eoc-read; hand-up = ours-one .eoc-hand-up };
   run = ours-one .run;
   frame = ours-one .frame;
   encode-run = ours-one .encode-run;
@@ -149,6 +172,7 @@ withStep f = record {
   read = usual .read;
   data-write = usual .data-write;
   data-read = usual .data-read;
+  eoc = usual .eoc;
   run = usual .run;
   frame = usual .frame;
   encode-run = usual .encode-run;
@@ -172,6 +196,7 @@ stepping-one f t = rebuilt-one (withStep (stepping f t)) (record {
   read = usual-answer .read;
   data-write = usual-answer .data-write;
   data-read = usual-answer .data-read;
+  eoc = usual-answer .eoc;
   run = usual-answer .run;
   frame = usual-answer .frame;
   encode-run = usual-answer .encode-run;

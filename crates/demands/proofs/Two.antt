@@ -41,6 +41,7 @@ use Rattle.demands.specs.Symbols.{Symbols, Precoding}
 use Rattle.demands.specs.Two.{Exact}
 use Rattle.demands.proofs.One.{only, same, nothing-sent, found-answer}
 use Rattle.demands.proofs.DataTwo.{data-exact}
+use Rattle.demands.proofs.EocTwo.{messages-exact}
 use Rattle.demands.proofs.Fit.{bit-fit}
 
 -- ---- frames
@@ -260,4 +261,4 @@ module _ (x : Library) (k : Keeps x) where
   }
 
   pub exact : Exact x
-  exact = record { frames = frames; data-frames = data-exact x k; scrambling = scrambling; symbols = symbols; precoding = precoding }
+  exact = record { frames = frames; data-frames = data-exact x k; messages = messages-exact x k; scrambling = scrambling; symbols = symbols; precoding = precoding }

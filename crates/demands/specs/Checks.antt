@@ -10,11 +10,14 @@ use Rattle.precoder.specs.Runs.{runTests as precoderTests}
 use Rattle.supervisor.specs.Step.{startRefusals, stepRefusals, stateRefusals}
 use Rattle.host.specs.Frames.{frameReadRefusals}
 use Rattle.dataframe.specs.Refusals.{crcRefusals, writeRefusals as dataWriteRefusals, checkRefusals as dataCheckRefusals, readRefusals as dataReadRefusals}
+use Rattle.eoc.specs.Refusals.{writeRefusals as eocWriteRefusals, readRefusals as eocReadRefusals}
+use Rattle.eocunits.specs.Units.{handUpRefusals}
 use Rattle.host.specs.Data.{overheadOf}
 use Rattle.host.specs.Symbols.{encoder}
 use Rattle.host.specs.Supervising.{stateIn}
 use Rattle.demands.specs.Handed.{WriteCall, ReadCall, BitCall, RunCall, FrameCall, WordsCall, EncodeCall, EncodeRunCall, PrecodeCall}
 use Rattle.demands.specs.HandedData.{DataWriteCall, DataCrcCall, DataCheckCall, DataReadCall}
+use Rattle.demands.specs.HandedEoc.{EocWriteCall, EocReadCall, EocUnitsCall}
 use Rattle.demands.specs.HandedCodes.{StartCall, StepCall, CodesCall}
 
 -- the checks of writing, with the coefficients as 720 octets
@@ -41,6 +44,18 @@ dataCheckChecks c = dataCheckRefusals (c .form) (c .size) (c .sync) (c .next) (c
 -- and of reading it
 abbrev pub dataReadChecks : DataReadCall → List Refusal
 dataReadChecks c = dataReadRefusals (c .form) (c .size) (c .sync) (c .next) (c .frame) (c .payload)
+
+-- of writing an operations channel message
+abbrev pub eocWriteChecks : EocWriteCall → List Refusal
+eocWriteChecks c = eocWriteRefusals (c .source) (c .destination) (c .number) (c .contents) (c .room)
+
+-- of reading it
+abbrev pub eocReadChecks : EocReadCall → List Refusal
+eocReadChecks c = eocReadRefusals (c .octets) (c .contents)
+
+-- and of handing it up
+abbrev pub eocHandUpChecks : EocUnitsCall → List Refusal
+eocHandUpChecks c = handUpRefusals (c .octets) (c .units)
 
 -- of a scrambler's start
 abbrev pub scramblerStartChecks : ℕ → List Refusal

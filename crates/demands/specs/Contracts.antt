@@ -13,12 +13,14 @@ use Rattle.datachecker.specs.Promises.{DataChecked}
 use Rattle.precoder.specs.Runs.{PrecodesRun, DecodesRun}
 use Rattle.host.specs.Frames.{FrameWritten, FrameRead}
 use Rattle.host.specs.Data.{DataFrameWritten, DataCrcGiven, DataFrameRead}
+use Rattle.host.specs.Channel.{EocWritten, EocRead, EocHanded}
 use Rattle.host.specs.Scrambling.{ScramblerStarted, BitScrambled, ScrambledRun, ScrambledFrame}
 use Rattle.host.specs.Symbols.{ActivationLevelGiven, DataLevelGiven, CodeGiven, EncoderStarted, SymbolEncoded, SymbolsEncoded, HistoryStarted, SampleShaped}
 use Rattle.host.specs.Supervising.{Started, StateStepped, CodesRun}
 use Rattle.demands.specs.Library.{Library}
 use Rattle.demands.specs.Handed.{WriteCall, ReadCall, BitCall, RunCall, FrameCall, WordsCall, EncodeCall, EncodeRunCall, PrecodeCall}
 use Rattle.demands.specs.HandedData.{DataWriteCall, DataCrcCall, DataCheckCall, DataReadCall}
+use Rattle.demands.specs.HandedEoc.{EocWriteCall, EocReadCall, EocUnitsCall}
 use Rattle.demands.specs.HandedCodes.{StartCall, StepCall, CodesCall}
 use Rattle.demands.specs.FromC.{Calls}
 use Rattle.demands.specs.EveryCall.{everyCall}
@@ -46,6 +48,21 @@ pub record KeepsFor (calls : Calls) (x : Library) : Type 0 where
   -- sdsl_data_read(form, size, sync, next, frame, payload)
   pub data-read : (c : DataReadCall) → calls .data-read c ≡ true → DataFrameRead (c .form) (c .size) (c .sync) (c .next) (c .frame) (c .payload)
       (record { answer = x .data-read c .answer; overhead = x .data-read c .numbers }) (x .data-read c .memory)
+  -- sdsl_eoc_write(source, destination, number, contents, room)
+  pub eoc-write : (c : EocWriteCall) → calls .eoc-write c ≡ true → EocWritten (c .source) (c .destination) (c .number) (c .contents) (c .room)
+      (record { answer = x .eoc-write c .answer; length = x .eoc-write c .numbers }) (x .eoc-write c .memory)
+  -- sdsl_eoc_read(octets, contents)
+  pub eoc-read : (c : EocReadCall) → calls .eoc-read c ≡ true → EocRead (c .octets) (c .contents)
+      (record {
+        answer = x .eoc-read c .answer;
+        source = x .eoc-read c .numbers .source;
+        destination = x .eoc-read c .numbers .destination;
+        number = x .eoc-read c .numbers .number;
+        length = x .eoc-read c .numbers .length;
+      }) (x .eoc-read c .memory)
+  -- sdsl_eoc_hand_up(octets, units)
+  pub eoc-hand-up : (c : EocUnitsCall) → calls .eoc-hand-up c ≡ true → EocHanded (c .octets) (c .units)
+      (record { answer = x .eoc-hand-up c .answer; units = x .eoc-hand-up c .numbers }) (x .eoc-hand-up c .memory)
   -- sdsl_scrambler_start(end)
   pub scrambler-start : (end : ℕ) → calls .scrambler-start end ≡ true → ScramblerStarted end
       (record { answer = x .scrambler-start end .answer; state = x .scrambler-start end .memory })

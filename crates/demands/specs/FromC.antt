@@ -9,6 +9,7 @@ use Rattle.host.specs.declared.data.DataOverhead.{DataOverhead}
 use Rattle.host.specs.declared.supervising.Supervisor.{Supervisor}
 use Rattle.demands.specs.Handed.{WriteCall, ReadCall, BitCall, RunCall, FrameCall, WordsCall, EncodeCall, EncodeRunCall, PrecodeCall}
 use Rattle.demands.specs.HandedData.{DataWriteCall, DataCrcCall, DataCheckCall, DataReadCall}
+use Rattle.demands.specs.HandedEoc.{EocWriteCall, EocReadCall, EocUnitsCall}
 use Rattle.demands.specs.HandedCodes.{StartCall, StepCall, CodesCall}
 
 -- a uint32_t
@@ -50,6 +51,9 @@ pub record Calls : Type 0 where
   pub data-crc : DataCrcCall → Bool
   pub data-check : DataCheckCall → Bool
   pub data-read : DataReadCall → Bool
+  pub eoc-write : EocWriteCall → Bool
+  pub eoc-read : EocReadCall → Bool
+  pub eoc-hand-up : EocUnitsCall → Bool
   pub scrambler-start : ℕ → Bool
   pub bit : BitCall → Bool
   pub run : RunCall → Bool
@@ -78,6 +82,9 @@ fromC = record {
   data-crc = λ c. u32 (c .form) && u32 (c .size) && buffer (c .frame);
   data-check = λ c. u32 (c .form) && u32 (c .size) && u32 (c .sync) && u32 (c .next) && buffer (c .frame);
   data-read = λ c. u32 (c .form) && u32 (c .size) && u32 (c .sync) && u32 (c .next) && buffer (c .frame) && buffer (c .payload);
+  eoc-write = λ c. u32 (c .source) && u32 (c .destination) && u32 (c .number) && buffer (c .contents) && buffer (c .room);
+  eoc-read = λ c. buffer (c .octets) && buffer (c .contents);
+  eoc-hand-up = λ c. buffer (c .octets) && buffer (c .units);
   scrambler-start = λ end. u32 end;
   bit = λ c. u32 (c .end) && u32 (c .state) && u32 (c .bit);
   run = λ c. u32 (c .end) && u32 (c .state) && buffer (c .input) && usize (c .bits) && buffer (c .output);

@@ -1,5 +1,6 @@
 pub mod Handed
 pub mod HandedData
+pub mod HandedEoc
 pub mod HandedCodes
 pub mod Library
 pub mod FromC
@@ -11,12 +12,16 @@ pub mod One
 pub mod Frames
 pub mod DataFrames
 pub mod DataBack
+pub mod Messages
+pub mod WholeUnits
+pub mod MessagesBack
 pub mod Symbols
 pub mod Back
 pub mod Two
 pub mod Three
 pub mod WrongLibraries
 pub mod WrongData
+pub mod WrongMessages
 pub mod WrongReserved
 pub mod WrongSupervisors
 pub mod NoStrawMan

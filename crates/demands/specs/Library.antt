@@ -9,6 +9,7 @@ use Rattle.host.specs.declared.supervising.Supervisor.{Supervisor}
 use Rattle.demands.specs.Handed.{Outcome, None, WriteCall, ReadCall, Fields, Rooms, BitCall, RunCall, FrameCall, Line, WordsCall, EncodeCall, Symbol}
 use Rattle.demands.specs.Handed.{EncodeRunCall, Codes, PrecodeCall, Signal}
 use Rattle.demands.specs.HandedData.{DataWriteCall, DataCrcCall, Sixes, DataCheckCall, DataReadCall}
+use Rattle.demands.specs.HandedEoc.{EocWriteCall, EocReadCall, EocFields, EocUnitsCall}
 use Rattle.demands.specs.HandedCodes.{StartCall, StepCall, Shown, CodesCall, Attempts}
 
 -- the functions of sdsl.h
@@ -20,6 +21,9 @@ pub record Library : Type 0 where
   pub data-crc : DataCrcCall → Outcome Sixes None
   pub data-check : DataCheckCall → Outcome None None
   pub data-read : DataReadCall → Outcome DataOverhead (List ℕ)
+  pub eoc-write : EocWriteCall → Outcome ℕ (List ℕ)
+  pub eoc-read : EocReadCall → Outcome EocFields (List ℕ)
+  pub eoc-hand-up : EocUnitsCall → Outcome ℕ (List ℕ)
   pub scrambler-start : ℕ → Outcome None ℕ
   pub bit : Way → BitCall → Outcome ℕ ℕ
   pub run : Way → RunCall → Outcome None Line

@@ -11,6 +11,7 @@ use Rattle.demands.specs.Three.{supervisor}
 use Rattle.demands.specs.WrongLibraries.{Refuses, OneFrame, FrameUnwritten, CoefficientsUnwritten, VendorUnwritten, RunUnwritten, WholeUnwritten}
 use Rattle.demands.specs.WrongLibraries.{HistoryUnwritten, CodesUnwritten, PrecodedUnwritten, DecodedUnwritten, CopiesTheRest, TurnsA, TurnsB}
 use Rattle.demands.specs.WrongData.{OneDataFrame, DataFrameUnwritten, PayloadUnwritten, OwnSix}
+use Rattle.demands.specs.WrongMessages.{OneForm, FormUnwritten, ContentsUnwritten, HandsAll, HandsNothing}
 use Rattle.demands.specs.WrongReserved.{TurnsAway, ElseAsDue, HandsZeros, ReservedUnwritten}
 use Rattle.demands.specs.WrongSupervisors.{MovesOnce, NeverOpens, CallsException, SameTicks, CountsCodes, GivesUp, EndsTooLate}
 
@@ -49,6 +50,11 @@ pub record NoStrawMan : Type 1 where
   pub data-frame-unwritten : Built DataFrameUnwritten
   pub payload-unwritten : Built PayloadUnwritten
   pub own-six : Built OwnSix
+  pub one-form : Built OneForm
+  pub form-unwritten : Built FormUnwritten
+  pub contents-unwritten : Built ContentsUnwritten
+  pub hands-all : Built HandsAll
+  pub hands-nothing : Built HandsNothing
   pub moves-once : Built (λ x. MovesOnce (supervisor x))
   pub never-opens : Built (λ x. NeverOpens (supervisor x))
   pub calls-exception : Built (λ x. CallsException (supervisor x))

@@ -10,6 +10,7 @@ use Rattle.answer.specs.Answer.{Refusal, answer}
 use Rattle.answer.specs.Table.{rising, inTable, inTurn}
 use Rattle.layout.specs.Refusals.{checkRefusals}
 use Rattle.dataframe.specs.Refusals.{dataOrder}
+use Rattle.eoc.specs.Refusals.{eocOrder}
 use Rattle.datareader.specs.Promises.{noOverhead}
 use Rattle.recurrence.specs.Run.{Way}
 use Rattle.symbol.specs.Levels.{activationTests, dataTests, backTests}
@@ -21,6 +22,7 @@ use Rattle.demands.specs.Handed.{Outcome, none}
 use Rattle.demands.specs.Library.{Library}
 use Rattle.demands.specs.Checks.{writeChecks, readChecks, scramblerStartChecks, bitChecks, runChecks, frameChecks, encoderStartChecks, encodeChecks}
 use Rattle.demands.specs.Checks.{dataWriteChecks, dataCrcChecks, dataCheckChecks, dataReadChecks}
+use Rattle.demands.specs.Checks.{eocWriteChecks, eocReadChecks, eocHandUpChecks}
 use Rattle.demands.specs.Checks.{encodeRunChecks, historyStartChecks, precodeChecks, startChecks, stepChecks, codesChecks}
 
 -- a function answers by the table: by these checks, what its memory holds before, and nothing in its other numbers
@@ -38,8 +40,8 @@ pub record Answers {C N M : Type 0} (f : C → Outcome N M) (checks : C → List
 abbrev pub InTheirOrder : {C : Type 0} → List ℕ → (C → List Refusal) → Type 0
 InTheirOrder {C} order checks = (c : C) → inTurn order (checks c) ≡ true
 
--- "Checks run in the order of these numbers": so it is of each function's list of checks. Those of data-mode frames have an order of their own
--- (SCOPE, M32: "the order 1, 2, 4, 5, 9, 6, 7"; theorem `ordered`)
+-- "Checks run in the order of these numbers": so it is of each function's list of checks. Those of data-mode frames and of operations channel
+-- messages have orders of their own (SCOPE, M32: "the order 1, 2, 4, 5, 9, 6, 7"; K: "1, 4, 10, 11, 12, 7"; theorem `ordered`)
 pub record Ordered : Type 0 where
   pub write : InTheirOrder rising writeChecks
   pub check : InTheirOrder rising checkRefusals
@@ -48,6 +50,9 @@ pub record Ordered : Type 0 where
   pub data-crc : InTheirOrder dataOrder dataCrcChecks
   pub data-check : InTheirOrder dataOrder dataCheckChecks
   pub data-read : InTheirOrder dataOrder dataReadChecks
+  pub eoc-write : InTheirOrder eocOrder eocWriteChecks
+  pub eoc-read : InTheirOrder eocOrder eocReadChecks
+  pub eoc-hand-up : InTheirOrder eocOrder eocHandUpChecks
   pub scrambler-start : InTheirOrder rising scramblerStartChecks
   pub bit : InTheirOrder rising bitChecks
   pub run : InTheirOrder rising runChecks
@@ -75,6 +80,9 @@ pub record One (x : Library) : Type 0 where
   pub data-crc : Answers (x .data-crc) dataCrcChecks (λ c. none) (record { carried = 0; due = 0 })
   pub data-check : Answers (x .data-check) dataCheckChecks (λ c. none) none
   pub data-read : Answers (x .data-read) dataReadChecks (λ c. c .payload) (overheadFor noOverhead)
+  pub eoc-write : Answers (x .eoc-write) eocWriteChecks (λ c. c .room) 0
+  pub eoc-read : Answers (x .eoc-read) eocReadChecks (λ c. c .contents) (record { source = 0; destination = 0; number = 0; length = 0 })
+  pub eoc-hand-up : Answers (x .eoc-hand-up) eocHandUpChecks (λ c. c .units) 0
   pub scrambler-start : Answers (x .scrambler-start) scramblerStartChecks (λ c. 0) none
   pub bit : (way : Way) → Answers (x .bit way) bitChecks (λ c. c .state) 0
   pub run : (way : Way) → Answers (x .run way) runChecks (λ c. record { state = c .state; output = c .output }) none

@@ -4,12 +4,14 @@ use Rattle.demands.specs.Library.{Library}
 use Rattle.demands.specs.Frames.{Frames, Scrambling}
 use Rattle.demands.specs.Symbols.{Symbols, Precoding}
 use Rattle.demands.specs.DataFrames.{DataFrames}
+use Rattle.demands.specs.Messages.{Messages}
 use Rattle.demands.specs.Back.{Back}
 
 -- the first sentence of the demand
 pub record Exact (x : Library) : Type 0 where
   pub frames : Frames x
   pub data-frames : DataFrames x
+  pub messages : Messages x
   pub scrambling : Scrambling x
   pub symbols : Symbols x
   pub precoding : Precoding x

@@ -8,6 +8,7 @@ use Rattle.recurrence.specs.Run.{Way}
 use Rattle.demands.specs.Library.{Library}
 use Rattle.demands.specs.Handed.{WriteCall, ReadCall, BitCall, RunCall, FrameCall, WordsCall, EncodeCall, EncodeRunCall, PrecodeCall}
 use Rattle.demands.specs.HandedData.{DataWriteCall, DataCrcCall, DataCheckCall, DataReadCall}
+use Rattle.demands.specs.HandedEoc.{EocWriteCall, EocReadCall, EocUnitsCall}
 use Rattle.demands.specs.HandedCodes.{StartCall, StepCall, CodesCall}
 use Rattle.demands.specs.FromC.{Calls, fromC}
 use Rattle.demands.specs.Contracts.{KeepsFor, Keeps}
@@ -21,6 +22,9 @@ pub record SameFor (calls : Calls) (x y : Library) : Type 0 where
   pub data-crc : (c : DataCrcCall) → calls .data-crc c ≡ true → x .data-crc c ≡ y .data-crc c
   pub data-check : (c : DataCheckCall) → calls .data-check c ≡ true → x .data-check c ≡ y .data-check c
   pub data-read : (c : DataReadCall) → calls .data-read c ≡ true → x .data-read c ≡ y .data-read c
+  pub eoc-write : (c : EocWriteCall) → calls .eoc-write c ≡ true → x .eoc-write c ≡ y .eoc-write c
+  pub eoc-read : (c : EocReadCall) → calls .eoc-read c ≡ true → x .eoc-read c ≡ y .eoc-read c
+  pub eoc-hand-up : (c : EocUnitsCall) → calls .eoc-hand-up c ≡ true → x .eoc-hand-up c ≡ y .eoc-hand-up c
   pub scrambler-start : (end : ℕ) → calls .scrambler-start end ≡ true → x .scrambler-start end ≡ y .scrambler-start end
   pub bit : (way : Way) (c : BitCall) → calls .bit c ≡ true → x .bit way c ≡ y .bit way c
   pub run : (way : Way) (c : RunCall) → calls .run c ≡ true → x .run way c ≡ y .run way c

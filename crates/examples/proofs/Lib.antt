@@ -1,2 +1,3 @@
 pub mod Examples
 pub mod Data
+pub mod Eoc

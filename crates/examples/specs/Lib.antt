@@ -1,3 +1,4 @@
 pub mod Calls
 pub mod Table
 pub mod Data
+pub mod Eoc

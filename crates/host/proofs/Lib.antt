@@ -2,3 +2,4 @@ pub mod FrameLaws
 pub mod SymbolLaws
 pub mod One
 pub mod DataOne
+pub mod ChannelOne

@@ -1,5 +1,6 @@
 pub mod Frames
 pub mod Data
+pub mod Channel
 pub mod Scrambling
 pub mod Symbols
 pub mod Supervising

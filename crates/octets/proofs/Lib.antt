@@ -8,3 +8,4 @@ pub mod Numbers
 pub mod One
 pub mod Turn
 pub mod Sums
+pub mod Whole

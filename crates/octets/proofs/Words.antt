@@ -50,7 +50,7 @@ sets-own l at (b ∷ bs) h =
 
 -- ---- octets in parts
 
-bits-append : (a b : List ℕ) → bitsOf (a ++ b) ≡ bitsOf a ++ bitsOf b
+pub bits-append : (a b : List ℕ) → bitsOf (a ++ b) ≡ bitsOf a ++ bitsOf b
 unfolding bitsOf
 bits-append [] b = refl
 bits-append (x ∷ a) b = ap (λ (l : List ℕ). digitsOf 8 x ++ l) (bits-append a b) ∙ sym (append-assoc (digitsOf 8 x) (bitsOf a) (bitsOf b))
@@ -65,7 +65,7 @@ bits-parts s i h =
     )
 
 -- n octets from octet i on
-octets-part : (s : List ℕ) (i n : ℕ) → i + n ≤ length s → bitsOf (take n (drop i s)) ≡ part (8 * i) (8 * n) (bitsOf s)
+pub octets-part : (s : List ℕ) (i n : ℕ) → i + n ≤ length s → bitsOf (take n (drop i s)) ≡ part (8 * i) (8 * n) (bitsOf s)
 octets-part s i n h =
     bits-parts (drop i s) n (omega (arith, length-drop i s)) .0 ∙ ap (take (8 * n)) (bits-parts s i (omega arith) .1)
 
@@ -168,7 +168,7 @@ sets-rest s i m n v h =
     ∙ sets-more s i m n v
 
 -- whole octets of bits put over octets
-octets-laid : (s bs : List ℕ) (i n : ℕ) → Octets s → Bits bs → length bs ≡ 8 * n → sets s i (octetsOf n bs) ≡ laid s (8 * i) bs
+pub octets-laid : (s bs : List ℕ) (i n : ℕ) → Octets s → Bits bs → length bs ≡ 8 * n → sets s i (octetsOf n bs) ≡ laid s (8 * i) bs
 unfolding laid
 octets-laid s bs i n o h e =
     let O = octetsOf n bs in
@@ -402,7 +402,7 @@ word-laid s i v o = octets-laid s (digitsOf 64 v) i 8 o (digits-bits 64 v) (digi
 
 -- ---- octets 0
 
-octets-zeros : (n : ℕ) → octetsOf n (replicate (8 * n) 0) ≡ replicate n 0
+pub octets-zeros : (n : ℕ) → octetsOf n (replicate (8 * n) 0) ≡ replicate n 0
 unfolding octetsOf valueOf
 octets-zeros zero = refl
 octets-zeros (suc n) =

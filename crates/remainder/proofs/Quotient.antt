@@ -62,6 +62,14 @@ sum-times gs =
 
 -- ---- a register that starts at zero passes zeros over
 
+-- the n low digits of a word, moved up to its end: zeros come before them
+digits-up : (n x : ℕ) → n ≤ 64 → digitsOf 64 (x * 2 ^ (64 - n) % 2 ^ 64) ≡ digitsOf (64 - n) 0 ++ digitsOf n x
+digits-up n x h =
+    let j = 64 - n in
+    let c : 64 ≡ j + n = omega arith in
+    let none : x * 2 ^ j ≡ x * 2 ^ j + 0 = omega arith in
+    digits-mod-pow 64 (x * 2 ^ j) ∙ ap (digitsOf 64) none ∙ digits-join j n 64 x 0 c (pow-pos j)
+
 module _ (k g : ℕ) where
   step-zero : stepOf k g 0 0 ≡ 0
   step-zero =
@@ -73,6 +81,9 @@ module _ (k g : ℕ) where
   unfolding registerOf digitsOf
   zeros-over zero bs = refl
   zeros-over (suc n) bs = ap (λ (r : ℕ). registerOf k g r (digitsOf n 0 ++ bs)) step-zero ∙ zeros-over n bs
+
+  pub up-over : (n x : ℕ) → n ≤ 64 → registerOf k g 0 (digitsOf 64 (x * 2 ^ (64 - n) % 2 ^ 64)) ≡ registerOf k g 0 (digitsOf n x)
+  up-over n x h = ap (registerOf k g 0) (digits-up n x h) ∙ zeros-over (64 - n) (digitsOf n x)
 
 -- ---- words that stand for bits
 
@@ -108,18 +119,18 @@ module _ (k g : ℕ) (hk : 1 ≤ k) (dg : Degree g k) where
       moved : (x y z : ℕ) → bitXor (bitXor x y) z ≡ bitXor (bitXor x z) y
       moved x y z = xor-assoc x y z ∙ ap (bitXor x) (xor-comm y z) ∙ sym (xor-assoc x z y)
 
-  -- a start is the first bits changed by it
-  pub start-in : (r w : ℕ) → k ≤ 64 → r < 2 ^ k → registerOf k g r (digitsOf 64 w) ≡ registerOf k g 0 (digitsOf 64 (bitXor w (turnOf k r)))
-  start-in r w h l =
-      let A = exists-from k g hk dg r (digitsOf 64 w) (digits-bits 64 w) l in
+  -- a start is the first of n bits changed by it
+  pub start-in : (n r w : ℕ) → k ≤ n → r < 2 ^ k → registerOf k g r (digitsOf n w) ≡ registerOf k g 0 (digitsOf n (bitXor w (turnOf k r)))
+  start-in n r w h l =
+      let A = exists-from k g hk dg r (digitsOf n w) (digits-bits n w) l in
       let y = bitXor w (turnOf k r) in
-      let B = exists k g hk dg (digitsOf 64 y) (digits-bits 64 y) in
-      let e : turnOf 64 y * 2 ^ k ≡ bitXor (r * 2 ^ 64) (turnOf 64 w * 2 ^ k) =
-      ap (λ (x : ℕ). x * 2 ^ k) (turn-xor 64 w (turnOf k r)) ∙ shl-xor k (turnOf 64 w) (turnOf 64 (turnOf k r))
-      ∙ ap (bitXor (turnOf 64 w * 2 ^ k)) (start-first k 64 r h l) ∙ xor-comm (turnOf 64 w * 2 ^ k) (r * 2 ^ 64) in
-      let f : bitXor (r * 2 ^ length (digitsOf 64 w)) (turnOf 64 w * 2 ^ k) ≡ bitXor (r * 2 ^ 64) (turnOf 64 w * 2 ^ k) =
-      ap (λ (n : ℕ). bitXor (r * 2 ^ n) (turnOf 64 w * 2 ^ k)) (digits-length 64 w) in
-      left-unique k g dg (turnOf 64 y * 2 ^ k) (registerOf k g r (digitsOf 64 w)) (registerOf k g 0 (digitsOf 64 y)) (A .quotient) (B .quotient)
+      let B = exists k g hk dg (digitsOf n y) (digits-bits n y) in
+      let e : turnOf n y * 2 ^ k ≡ bitXor (r * 2 ^ n) (turnOf n w * 2 ^ k) =
+      ap (λ (x : ℕ). x * 2 ^ k) (turn-xor n w (turnOf k r)) ∙ shl-xor k (turnOf n w) (turnOf n (turnOf k r))
+      ∙ ap (bitXor (turnOf n w * 2 ^ k)) (start-first k n r h l) ∙ xor-comm (turnOf n w * 2 ^ k) (r * 2 ^ n) in
+      let f : bitXor (r * 2 ^ length (digitsOf n w)) (turnOf n w * 2 ^ k) ≡ bitXor (r * 2 ^ n) (turnOf n w * 2 ^ k) =
+      ap (λ (m : ℕ). bitXor (r * 2 ^ m) (turnOf n w * 2 ^ k)) (digits-length n w) in
+      left-unique k g dg (turnOf n y * 2 ^ k) (registerOf k g r (digitsOf n w)) (registerOf k g 0 (digitsOf n y)) (A .quotient) (B .quotient)
       (e ∙ sym f ∙ A .divided) (B .divided) (A .below) (B .below)
 
   -- the word x, and n bits behind it, moved up to the end of two words
@@ -132,9 +143,7 @@ module _ (k g : ℕ) (hk : 1 ≤ k) (dg : Degree g k) where
       let c′ : 64 ≡ n + j = omega arith in
       let B = x / 2 ^ n in
       let lB : B < 2 ^ j = shr-lt j n (subst (λ (m : ℕ). x < 2 ^ m) c hx) in
-      let none : x * 2 ^ j ≡ x * 2 ^ j + 0 = omega arith in
-      let low : digitsOf 64 (x * 2 ^ j % 2 ^ 64) ≡ digitsOf j 0 ++ digitsOf n x =
-      digits-mod-pow 64 (x * 2 ^ j) ∙ ap (digitsOf 64) none ∙ digits-join j n 64 x 0 c (pow-pos j) in
+      let low = digits-up n x (omega arith) in
       let high : digitsOf 64 (bitOr (t * 2 ^ j % 2 ^ 64) B) ≡ digitsOf j B ++ digitsOf n t =
       sym (digits-mod-pow 64 (bitOr (t * 2 ^ j % 2 ^ 64) B))
       ∙ ap (digitsOf 64) (or-mod (t * 2 ^ j % 2 ^ 64) B 64 ∙ ap (λ (y : ℕ). bitOr y (B % 2 ^ 64)) (mod-mod (t * 2 ^ j)) ∙ sym (or-mod (t * 2 ^ j) B 64))

@@ -1,26 +1,27 @@
--- What the answers of `from_start` say, and what a start is: what was left of a message before. Assumes nothing.
+-- What the answers of `from_start` say; what a start is, what was left of a message before; and what lies between two runs from one start that leave
+-- the same. Assumes nothing.
 use mathlib.Core.Path.{_≡_, refl, sym, ap, ap₂, subst, _∙_}
-use mathlib.Core.List.{List, _++_}
+use mathlib.Core.List.{List, _++_, reverse, reverse-reverse}
 use Prim.Native.Nat.{ℕ, suc, _*_, _%_, _^_, _≤_, _<_}
 use native.Mathlib.Nat.{mul-right-comm}
 use native.Mathlib.Decide.{decLe}
 use native.Mathlib.Omega.{arith}
 use borrow.Author.Tests.{ltb-false, leb-false, eqb-false}
-use lib.Bits.{bitXor}
+use lib.Bits.{bitXor, xor-comm, xor-lt}
 use lib.Dec.{eqb, leb, ltb}
-use lib.ListN.{length, drop}
+use lib.ListN.{length, drop, length-reverse}
 use Rattle.answer.specs.Answer.{answer}
 use Rattle.answer.proofs.Laws.{none}
 use lib.Pow.{pow-mono}
 use Rattle.octets.specs.Bits.{bitsOf, part}
-use Rattle.octets.proofs.Digits.{Bits, take-bits, drop-bits}
+use Rattle.octets.proofs.Digits.{Bits, take-bits, drop-bits, reverse-bits, value-one}
 use Rattle.octets.proofs.Laws.{bits-bits}
-use Rattle.octets.proofs.Xor.{xor-assoc, shl-xor}
-use Rattle.remainder.specs.Division.{times, polynomial, Degree, Remainder, RemainderFrom}
+use Rattle.octets.proofs.Xor.{xor-assoc, xor-cancel, shl-xor, mid}
+use Rattle.remainder.specs.Division.{times, polynomial, Degree, Remainder, RemainderFrom, Multiple}
 use Rattle.remainder.specs.Promises.{startRefusals, FromStart}
 use Rattle.remainder.specs.Register.{registerOf}
-use Rattle.remainder.proofs.Division.{add, distrib, exists-from}
-use Rattle.remainder.proofs.Errors.{polynomial-append}
+use Rattle.remainder.proofs.Division.{add, distrib, exists-from, small-multiple}
+use Rattle.remainder.proofs.Errors.{polynomial-append, polynomial-lt, unshifted}
 use Rattle.remainder.proofs.Quotient.{shl-multiple}
 
 -- what an answer of 0 says
@@ -53,6 +54,46 @@ follows k g a b start r hb p q =
           ∙ ap₂ bitXor (M .product) (q .divided) ∙ sym (xor-assoc (times (M .quotient) g) (times (q .quotient) g) r)
           ∙ ap (λ (x : ℕ). bitXor x r) (distrib (M .quotient) (q .quotient) g);
     }
+
+-- two runs of one length from one start, for a generator with a constant term
+module _ (k g : ℕ) (hk : 1 ≤ k) (dg : Degree g k) (o : g % 2 ≡ 1) (r : ℕ) (a b : List ℕ) (hr : r < 2 ^ k) (ha : Bits a) (hb : Bits b)
+    (l : length a ≡ length b) (e : registerOf k g r a ≡ registerOf k g r b) where
+  -- where they leave the same, what lies between them is a multiple
+  pub run-same : Multiple g (bitXor (polynomial a) (polynomial b))
+  run-same =
+      let A = exists-from k g hk dg r a ha hr in
+      let B = exists-from k g hk dg r b hb hr in
+      let p = polynomial a in
+      let q = polynomial b in
+      let R = registerOf k g r a in
+      let S = r * 2 ^ length a in
+      let T = times (A .quotient) g in
+      let U = times (B .quotient) g in
+      let f : bitXor S (q * 2 ^ k) ≡ bitXor U R =
+      ap (λ (m : ℕ). bitXor (r * 2 ^ m) (q * 2 ^ k)) l ∙ B .divided ∙ ap (bitXor U) (sym e) in
+      unshifted g o (bitXor p q) k (record {
+        quotient = add (A .quotient) (B .quotient);
+        product =
+            shl-xor k p q ∙ sym (apart S (p * 2 ^ k) (q * 2 ^ k)) ∙ ap₂ bitXor (A .divided) f
+            ∙ ap₂ bitXor (xor-comm T R) (xor-comm U R) ∙ apart R T U ∙ distrib (A .quotient) (B .quotient) g;
+      })
+    where
+      apart : (x y z : ℕ) → bitXor (bitXor x y) (bitXor x z) ≡ bitXor y z
+      apart x y z = ap (λ (w : ℕ). bitXor w (bitXor x z)) (xor-comm x y) ∙ mid y x z
+
+  -- so they are the same where they have k bits or fewer
+  pub run-one : length a ≤ k → a ≡ b
+  run-one n =
+      let p = polynomial a in
+      let q = polynomial b in
+      let M = run-same in
+      let small = xor-lt k p q (low a ha n) (low b hb (omega arith)) in
+      let z : bitXor p q ≡ 0 = M .product ∙ small-multiple k g dg (M .quotient) (subst (λ (x : ℕ). x < 2 ^ k) (M .product) small) in
+      let v = value-one (reverse a) (reverse b) (reverse-bits a ha) (reverse-bits b hb) (length-reverse a ∙ l ∙ sym (length-reverse b)) (xor-cancel p q z) in
+      sym (reverse-reverse a) ∙ ap reverse v ∙ reverse-reverse b
+    where
+      low : (c : List ℕ) → Bits c → length c ≤ k → polynomial c < 2 ^ k
+      low c h i = omega (arith, polynomial-lt c h, pow-mono i)
 
 -- a generator has one degree
 pub degree-one : (g j k : ℕ) → Degree g j → Degree g k → k ≡ j

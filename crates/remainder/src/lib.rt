@@ -29,9 +29,6 @@ fn step(register: u32, bit: u32, generator: u32, degree: u32) -> u32
 // The bits of a word.
 const WORD: u32 = 64;
 
-// So many bits or more have a word behind the next octet's beginning.
-const WORDS: u32 = 71;
-
 // The word's share of the quotient by the generator's fourth power, turned: 1 + D^16 + D^44 + D^64 from the low end, the first of the bits
 // at weight 1. Its square adds D^32, and that one's nothing within the word.
 fn fourth(x: u64) -> u64
@@ -59,6 +56,13 @@ fn settled(x: u64) -> u64
     let b = ((c ^ (c << 8)) ^ (c << 22)) ^ (c << 32);
     let q = ((b ^ (b << 4)) ^ (b << 11)) ^ (b << 16);
     ((q >> 60) ^ (q >> 53)) ^ (q >> 48)
+}
+
+// The register after the 64 bits of x, from zero.
+fn after_word(x: u64) -> u32
+    ensures { λ r. ⌜ r ≡ registerOf 16 generator 0 (digitsOf 64 x) ⌝ }
+{
+    bitfields::turned(DEGREE, settled(x) as u32)
 }
 
 // The word that stands for x and the n low digits of t behind it: both moved up to the end of two words, and the first of them folded.
@@ -103,8 +107,17 @@ fn by_words(start: u32, s: &[u8], i: usize, count: usize, n: u32) -> u32
     ensures { λ r. ⌜ r ≡ registerOf 16 generator start (part (8 * i) (64 * count + n) (bitsOf (now (s .entry)))) ⌝ }
 {
     let x = words(start, s, i, count);
-    let y = rest(x, s, i + 8 * count, n);
-    bitfields::turned(DEGREE, settled(y) as u32)
+    after_word(rest(x, s, i + 8 * count, n))
+}
+
+// The register after the n bits from octet i on, where a word holds them: the start is added to the first of them, and they are moved up to the
+// word's end. The zeros before them count for nothing.
+fn short(start: u32, s: &[u8], i: usize, n: u32) -> u32
+    requires { ⌜ (start < 2 ^ 16) × (16 ≤ n) × (n ≤ 64) × (8 * i + n ≤ 8 * length (now s)) ⌝ }
+    ensures { λ r. ⌜ r ≡ registerOf 16 generator start (part (8 * i) n (bitsOf (now (s .entry)))) ⌝ }
+{
+    let x = octets::word(s, i) ^ (bitfields::turned(DEGREE, start) as u64);
+    after_word(x << (WORD - n))
 }
 
 // The register after the n bits from place `at` on, bit by bit. Nothing past the end counts.
@@ -125,21 +138,24 @@ fn by_bits(generator: u32, degree: u32, start: u32, s: &[u8], at: usize, n: u32)
     register
 }
 
-// The register of D^16 + D^12 + D^5 + 1 after the n bits from place `at` on: up to an octet, by words, and the rest.
+// The register of D^16 + D^12 + D^5 + 1 after the n bits from place `at` on: up to an octet, and the rest in one word or by words.
 fn after(start: u32, s: &[u8], at: usize, n: u32) -> u32
     requires { ⌜ start < 2 ^ 16 ⌝ }
     ensures { λ r. ⌜ r ≡ registerOf 16 generator start (part at n (bitsOf (now (s .entry)))) ⌝ }
 {
-    if n < WORDS {
+    let lead = ((8 - at % 8) % 8) as u32;
+    if n < lead + DEGREE {
         return by_bits(GENERATOR, DEGREE, start, s, at, n);
     }
     if !octets::has(s, at, n - 1) {
         return by_bits(GENERATOR, DEGREE, start, s, at, n);
     }
-    let lead = ((8 - at % 8) % 8) as u32;
     let register = by_bits(GENERATOR, DEGREE, start, s, at, lead);
     let octet = at / 8 + (at % 8 + 7) / 8;
     let rest = n - lead;
+    if rest <= WORD {
+        return short(register, s, octet, rest);
+    }
     by_words(register, s, octet, (rest / WORD) as usize, rest % WORD)
 }
 

@@ -1,16 +1,13 @@
 -- `remainder::by_words` meets its contract: the words, the bits behind them, and the register that they leave.
 use borrow.Author.Needs.{needs}
-use mathlib.Core.Path.{_≡_, refl, sym, ap, subst, _∙_}
-use Prim.Native.Nat.{ℕ, _+_, _*_, _^_, _<_}
+use mathlib.Core.Path.{_≡_, refl, sym, ap, _∙_}
+use Prim.Native.Nat.{ℕ, _+_, _*_}
 use native.Mathlib.Omega.{arith}
-use lib.Dec.{lit≤, lit<}
+use lib.Dec.{lit≤}
 use Rattle.octets.specs.Bits.{digitsOf, bitsOf, part}
-use Rattle.octets.proofs.Digits.{digits-bits, turned-lt}
-use Rattle.octets.proofs.Turn.{turnOf, turn-turn}
 use Rattle.remainder.specs.Division.{generator}
-use Rattle.remainder.specs.Register.{registerOf}
 use Rattle.remainder.proofs.Errors.{generator-degree}
-use Rattle.remainder.proofs.Quotient.{word-more, register-lt}
+use Rattle.remainder.proofs.Quotient.{word-more}
 use Rattle.remainder.proofs.by_words.Statement.{statement}
 use Rattle.remainder.proofs.by_words.Tie as tie
 
@@ -26,30 +23,19 @@ add-rest c = search needs
 rest-requires : tie.Need-rest-requires
 rest-requires c κs = search needs
 
-settled-requires : tie.Need-settled-requires
-settled-requires c κs = search needs
-
-cast-turned : tie.Need-cast-turned
-cast-turned c =
-    let s = c .settled in
-    let lt : s .result < 2 ^ 16 = subst (λ (x : ℕ). x < 2 ^ 16) (sym (s .ensures)) (turned-lt 16 (registerOf 16 generator 0 (digitsOf 64 (c .before .rest .result)))) in
-    omega arith
-
-turned-requires : tie.Need-turned-requires
-turned-requires c κs = search needs
+after-word-requires : tie.Need-after-word-requires
+after-word-requires c κs = search needs
 
 returns : tie.Need-returns
 returns c =
-    let y = c .before .before .rest in
-    let x = c .before .before .before .words in
-    let z = c .before .before .before .before .before in
+    let y = c .before .rest in
+    let x = c .before .before .words in
+    let z = c .before .before .before .before in
     let a = z .args in
     let s = a .s .now in
     let n = 64 * a .count in
     let p : 8 * (a .i + 8 * a .count) ≡ 8 * a .i + n = omega arith in
-    let R = registerOf 16 generator 0 (digitsOf 64 (y .result)) in
-    c .turned .ensures ∙ ap (turnOf 16) (c .before .settled .ensures)
-    ∙ turn-turn 16 R (register-lt 16 generator (lit≤ tt) generator-degree 0 (digitsOf 64 (y .result)) (lit< tt) (digits-bits 64 (y .result)))
+    c .after-word .ensures
     ∙ sym (word-more 16 generator (lit≤ tt) generator-degree s (8 * a .i) (a .start) (z .pre .0) n (a .n) (n + a .n) (digitsOf 64 (x .result))
     (part (8 * (a .i + 8 * a .count)) (a .n) (bitsOf s)) refl (x .ensures) (ap (λ (q : ℕ). part q (a .n) (bitsOf s)) p)
     ∙ y .ensures)
@@ -62,7 +48,5 @@ by-words-spec =
     mul-rest
     add-rest
     rest-requires
-    settled-requires
-    cast-turned
-    turned-requires
+    after-word-requires
     returns)

@@ -40,7 +40,7 @@ loop-holds c =
       omega arith,
       z .pre .1,
       ap (registerOf 16 generator (a .start)) (sym (ap (digitsOf 64) (w .ensures) ∙ field-digits s (8 * a .i) 64 (omega arith)))
-          ∙ start-in 16 generator (lit≤ tt) generator-degree (a .start) (w .result) (lit≤ tt) (z .pre .0)
+          ∙ start-in 16 generator (lit≤ tt) generator-degree 64 (a .start) (w .result) (lit≤ tt) (z .pre .0)
           ∙ ap (λ (y : ℕ). registerOf 16 generator 0 (digitsOf 64 (bitXor (w .result) y))) (sym (c .turned .ensures)),
     )
 

@@ -1,0 +1,5 @@
+pub mod Escapes
+pub mod RoundTrip
+pub mod Forms
+pub mod Channel
+pub mod Order

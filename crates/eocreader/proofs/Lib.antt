@@ -1,0 +1,4 @@
+pub mod Laws
+pub mod Judging
+pub mod Promise
+pub mod One

@@ -1,0 +1,5 @@
+pub mod Laws
+pub mod Promise
+pub mod Each
+pub mod One
+pub mod Order
