@@ -13,7 +13,7 @@
 .NOTPARALLEL: # two runs of rt at a time would prove the same crate twice; rt itself uses every processor
 
 VERSION = 0.4.0
-PROGRAMS = lister replay sorter
+PROGRAMS = lister messages replay sorter
 PREFIX = /usr/local
 bindir = $(PREFIX)/bin
 libexecdir = $(PREFIX)/libexec

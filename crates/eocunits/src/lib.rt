@@ -18,7 +18,7 @@ pub struct HandedUp {
 }
 
 // Whether a unit answers to a destination.
-fn is_meant(own: u32, destination: u32) -> bool
+pub fn is_meant(own: u32, destination: u32) -> bool
     ensures { λ r. ⌜ r ≡ isMeant own destination ⌝ }
 {
     if destination == own {

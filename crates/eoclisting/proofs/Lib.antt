@@ -1,0 +1,4 @@
+pub mod Laws
+pub mod Reading
+pub mod One
+pub mod Fits

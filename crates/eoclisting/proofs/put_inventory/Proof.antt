@@ -1,0 +1,72 @@
+-- `eoclisting::put_inventory` meets its contract.
+use borrow.Author.Needs.{needs}
+use mathlib.Core.List.{_++_}
+use Rattle.ascii.proofs.Room.{put-more, put-as}
+use Rattle.eoclisting.specs.Contents.{fieldText, softwareText, vendorText, inventoryText}
+use Rattle.eoclisting.proofs.Laws.{inventory-short, inventory-whole}
+use Rattle.eoclisting.proofs.put_inventory.Statement.{statement}
+use Rattle.eoclisting.proofs.put_inventory.Tie as tie
+
+put-short-requires : tie.Need-put-short-requires
+put-short-requires c κs = search needs
+
+same-length : tie.Need-same-length
+same-length c = search needs
+
+returns : tie.Need-returns
+returns c =
+    let p4 = c .before .before .before .before in
+    put-as (c .before .before .put-short .ensures) (inventory-short (p4 .before .before .before .args .contents .now) (p4 .if1 .taken))
+
+put-software-requires : tie.Need-put-software-requires
+put-software-requires c κs = search needs
+
+slice-aggregate-put-field : tie.Need-slice-aggregate-put-field
+slice-aggregate-put-field c = search needs
+
+sub-put-field : tie.Need-sub-put-field
+sub-put-field c = search needs
+
+part-put-field-start : tie.Need-part-put-field-start
+part-put-field-start c = search needs
+
+part-put-field-end : tie.Need-part-put-field-end
+part-put-field-end c = search needs
+
+put-field-requires : tie.Need-put-field-requires
+put-field-requires c κs = search needs
+
+put-vendor-requires : tie.Need-put-vendor-requires
+put-vendor-requires c κs = search needs
+
+same-length-2 : tie.Need-same-length-2
+same-length-2 c = search needs
+
+returns-2 : tie.Need-returns-2
+unfolding inventoryText fieldText
+returns-2 c =
+    let p6 = c .before .before .before .before .before .before in
+    let p12 = p6 .before .before .before .before .before .before in
+    let p14 = p12 .before .before in
+    let s = p14 .before .before .before .args .contents .now in
+    let x = softwareText s in
+    let y = fieldText ", unit " 12 10 s in
+    put-as (put-more (x ++ y) (vendorText s) (put-more x y (p12 .put-software .ensures) (p6 .put-field .ensures)) (c .before .before .put-vendor .ensures))
+    (inventory-whole s (p14 .if1 .left))
+
+pub put-inventory-spec : {M : Type 1} → statement M
+put-inventory-spec =
+    tie.close
+    (tie.spec
+    put-short-requires
+    same-length
+    returns
+    put-software-requires
+    slice-aggregate-put-field
+    sub-put-field
+    part-put-field-start
+    part-put-field-end
+    put-field-requires
+    put-vendor-requires
+    same-length-2
+    returns-2)
