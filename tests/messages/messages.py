@@ -1,6 +1,7 @@
-"""The cases of `messages`: channels by channel.py beside it, and their listings by a second lister below. What that one does, its tables and
-its places are from part 1's clauses 10.5.5.1 to 10.5.5.7.4 and 10.5.5.7.13; only the wording of lines and complaints is the program's. What
-matters most is written out by hand as well. The command to run is given as arguments.
+"""The cases of `messages`: channels by channel.py beside it, and their listings by the one below. Its tables are typed from part 1's clauses
+10.5.5.1 to 10.5.5.7.4 and 10.5.5.7.13. Its author had read the definitions of crate eoclisting, and has the wording of the lines from there, so
+it is a second implementation and not an independent reading. What matters most is written out by hand as well. The command to run is given as
+arguments.
 """
 import os
 import pathlib
