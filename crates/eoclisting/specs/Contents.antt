@@ -64,9 +64,13 @@ unfoldable pub softwareText : List ℕ → List ℕ
 softwareText c =
     formed (text ": SDSL version #") (getD c 0 0 ∷ []) ++ fieldText ", list " 1 3 c ++ fieldText ", issue " 4 2 c ++ fieldText ", software " 6 6 c
 
--- from the vendor ID on, before which an octet is reserved
+-- the vendor ID, before which an octet is reserved
+abbrev pub vendorId : List ℕ → List ℕ
+vendorId c = text ", vendor ID " ++ hexes (part 23 8 c)
+
+-- and what comes from there on
 unfoldable pub vendorText : List ℕ → List ℕ
-vendorText c = text ", vendor ID " ++ hexes (part 23 8 c) ++ fieldText ", model " 31 12 c ++ fieldText ", serial " 43 12 c ++ fieldText ", other " 55 12 c
+vendorText c = vendorId c ++ fieldText ", model " 31 12 c ++ fieldText ", serial " 43 12 c ++ fieldText ", other " 55 12 c
 
 unfoldable pub inventoryText : List ℕ → List ℕ
 inventoryText c = softwareText c ++ fieldText ", unit " 12 10 c ++ vendorText c

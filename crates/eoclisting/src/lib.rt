@@ -3,11 +3,12 @@ ghost use mathlib.Core.Path.{_≡_};
 ghost use mathlib.Core.List.{_++_};
 ghost use Prim.Native.Nat.{_-_, _≤_, _<_};
 ghost use lib.ListN.{length};
+ghost use Rattle.octets.specs.Bits.{part};
 ghost use Rattle.forms.specs.Forms.{rowOf};
 ghost use Rattle.ascii.specs.Promises.{Put};
 ghost use Rattle.eoclisting.specs.Names.{units, sourceRow, requestRow, responseRow, nameRow, nameOf};
 ghost use Rattle.eoclisting.specs.Contents.{hexPart, shortPart, marginText, marginsText, statusPart, stringLength, stringText};
-ghost use Rattle.eoclisting.specs.Contents.{softwareText, vendorText, inventoryPart, contentsText};
+ghost use Rattle.eoclisting.specs.Contents.{softwareText, vendorId, vendorText, inventoryPart, contentsText};
 ghost use Rattle.eoclisting.specs.Line.{wayText, messageLine, reasonRow, refusedLine};
 ghost use Rattle.eoclisting.specs.Promises.{Lined};
 ghost use Rattle.eoclisting.specs.Totals.{leftText, countText, takenText, Totalled};
@@ -269,12 +270,20 @@ fn put_string(room: &mut [u8], at: usize, field: &[u8]) -> usize
     ascii::put(room, next, b'"')
 }
 
-// A string of an inventory, behind what it is.
-fn put_field(room: &mut [u8], at: usize, label: &[u8], field: &[u8]) -> usize
-    ensures { λ r. ⌜ Put (now (room .entry)) at (now (label .entry) ++ stringText (now (field .entry))) r (now (room .exit)) ⌝ }
+// A string of an inventory, behind what it is: the octets from one place to another.
+fn put_field(
+    room: &mut [u8],
+    at: usize,
+    label: &[u8],
+    contents: &[u8],
+    from: usize,
+    to: usize,
+) -> usize
+    requires { ⌜ (from ≤ to) × (to ≤ length (now contents)) ⌝ }
+    ensures { λ r. ⌜ Put (now (room .entry)) at (now (label .entry) ++ stringText (part from (to - from) (now (contents .entry)))) r (now (room .exit)) ⌝ }
 {
     let next = ascii::put_word(room, at, label);
-    put_string(room, next, field)
+    put_string(room, next, &contents[from..to])
 }
 
 // An inventory up to the software's version.
@@ -283,9 +292,18 @@ fn put_software(room: &mut [u8], at: usize, contents: &[u8]) -> usize
     ensures { λ r. ⌜ Put (now (room .entry)) at (softwareText (now (contents .entry))) r (now (room .exit)) ⌝ }
 {
     let mut next = forms::put_form(room, at, b": SDSL version #", &[wide(contents[0])]);
-    next = put_field(room, next, b", list ", &contents[1..4]);
-    next = put_field(room, next, b", issue ", &contents[4..6]);
-    put_field(room, next, b", software ", &contents[6..12])
+    next = put_field(room, next, b", list ", contents, 1, 4);
+    next = put_field(room, next, b", issue ", contents, 4, 6);
+    put_field(room, next, b", software ", contents, 6, 12)
+}
+
+// The vendor ID.
+fn put_vendor_id(room: &mut [u8], at: usize, contents: &[u8]) -> usize
+    requires { ⌜ 67 ≤ length (now contents) ⌝ }
+    ensures { λ r. ⌜ Put (now (room .entry)) at (vendorId (now (contents .entry))) r (now (room .exit)) ⌝ }
+{
+    let next = ascii::put_word(room, at, b", vendor ID ");
+    ascii::put_hexes(room, next, &contents[23..31])
 }
 
 // An inventory from the vendor ID on.
@@ -293,11 +311,10 @@ fn put_vendor(room: &mut [u8], at: usize, contents: &[u8]) -> usize
     requires { ⌜ 67 ≤ length (now contents) ⌝ }
     ensures { λ r. ⌜ Put (now (room .entry)) at (vendorText (now (contents .entry))) r (now (room .exit)) ⌝ }
 {
-    let mut next = ascii::put_word(room, at, b", vendor ID ");
-    next = ascii::put_hexes(room, next, &contents[23..31]);
-    next = put_field(room, next, b", model ", &contents[31..43]);
-    next = put_field(room, next, b", serial ", &contents[43..55]);
-    put_field(room, next, b", other ", &contents[55..67])
+    let mut next = put_vendor_id(room, at, contents);
+    next = put_field(room, next, b", model ", contents, 31, 43);
+    next = put_field(room, next, b", serial ", contents, 43, 55);
+    put_field(room, next, b", other ", contents, 55, 67)
 }
 
 // The contents of an inventory.
@@ -308,7 +325,7 @@ fn put_inventory(room: &mut [u8], at: usize, contents: &[u8]) -> usize
         return put_short(room, at, contents);
     }
     let mut next = put_software(room, at, contents);
-    next = put_field(room, next, b", unit ", &contents[12..22]);
+    next = put_field(room, next, b", unit ", contents, 12, 22);
     put_vendor(room, next, contents)
 }
 

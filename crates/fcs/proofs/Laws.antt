@@ -12,13 +12,16 @@ use lib.Seq.{take-all}
 use Rattle.octets.specs.Bits.{digitsOf, valueOf, bitsOf, octetsOf, part}
 use Rattle.octets.proofs.Digits.{digits-take, digits-value, value-digits, reverse-bits, digits-bits, digits-length, turned-lt}
 use Rattle.octets.proofs.Laws.{Octets, octets-length, bits-bits, bits-length}
-use Rattle.octets.proofs.Words.{octets-octets, octets-part, digits-drop}
+use Rattle.octets.specs.Promises.{WordRead}
+use Rattle.octets.proofs.Words.{octets-octets, octets-part, digits-drop, word-front}
 use Rattle.octets.proofs.Turn.{turnOf, turn-digits, turn-xor}
 use Rattle.remainder.specs.Division.{checkBits, RemainderFrom, generator}
-use Rattle.remainder.proofs.Division.{exists-from, unique-from}
+use Rattle.remainder.proofs.Division.{exists, unique, exists-from, unique-from}
 use Rattle.remainder.proofs.Errors.{check-bits, generator-degree}
+use Rattle.remainder.proofs.Quotient.{up-over, start-in}
 use Rattle.remainder.specs.declared.Left.{Left}
-use Rattle.remainder.specs.Promises.{FromStart}
+use Rattle.remainder.specs.Promises.{WordLeft, FromStart}
+use Rattle.remainder.specs.Register.{registerOf}
 use Rattle.fcs.specs.Promises.{Sequenced}
 use Rattle.fcs.specs.Sequence.{ones, sent, Sequence, register, sequenceOf}
 
@@ -31,13 +34,17 @@ pub sequence-octets : (s : List ℕ) → Octets (sequenceOf s)
 unfolding sequenceOf
 sequence-octets s = octets-octets 2 (checkBits 16 (ones - register s)) (check-bits 16 (ones - register s))
 
+-- the register after octets is what is left of the division
+pub register-left : (s : List ℕ) → RemainderFrom 16 generator ones (bitsOf s) (register s)
+register-left s = exists-from 16 generator (lit≤ tt) generator-degree ones (bitsOf s) (bits-bits s) (lit≤ tt)
+
 -- what is computed is the check sequence
 pub sequence-is : (s : List ℕ) → Sequence s (sequenceOf s)
 unfolding sequenceOf
 sequence-is s =
     record {
       left = register s;
-      divided = exists-from 16 generator (lit≤ tt) generator-degree ones (bitsOf s) (bits-bits s) (lit≤ tt);
+      divided = register-left s;
       as-sent = refl;
     }
 
@@ -85,20 +92,44 @@ bits-first s n = pick (decLe n (length s))
     pick (yes h) = sym (octets-part s 0 n (omega arith))
     pick (no h) = take-all (8 * n) (bitsOf s) (omega (arith, bits-length s)) ∙ ap bitsOf (sym (take-all n s (omega arith)))
 
--- what `from_start` gives behind sixteen ones
-pub left-is : (s : List ℕ) (at n : ℕ) (r : Left) → FromStart generator 16 ones s at n r → RemainderFrom 16 generator ones (part at n (bitsOf s)) (r .remainder)
-left-is s at n r f = f .given (f .answered)
+-- of the first n octets, by what `from_start` gives
+pub long-is : (s : List ℕ) (n : ℕ) (r : Left) (t : ℕ) → FromStart generator 16 ones s 0 (8 * n) r → t ≡ turnOf 16 (r .remainder)
+    → t ≡ turnOf 16 (register (take n s))
+long-is s n r t f e =
+    let T = take n s in
+    let d = subst (λ (b : List ℕ). RemainderFrom 16 generator ones b (r .remainder)) (bits-first s n) (f .given (f .answered)) in
+    e ∙ ap (turnOf 16) (unique-from 16 generator generator-degree ones (bitsOf T) (r .remainder) (register T) d (register-left T))
 
--- so the code's number, of the first n octets, is their check sequence
-pub sequenced : (s : List ℕ) (n : ℕ) (r : Left) (t : ℕ) → FromStart generator 16 ones s 0 (8 * n) r → t ≡ turnOf 16 (r .remainder) → Sequenced s n (ones - t)
-sequenced s n r t f e =
-    let d = left-is s 0 (8 * n) r f in
+-- sixteen ones are the same from either end
+ones-turned : ones ≡ turnOf 16 ones
+unfolding valueOf digitsOf
+ones-turned = refl
+
+-- and by what is left of a word
+pub short-is : (s : List ℕ) (n w r : ℕ) → 2 ≤ n → n ≤ 8 → n ≤ length s → WordRead s 0 w → WordLeft (bitXor w ones * 2 ^ (64 - 8 * n) % 2 ^ 64) r
+    → r ≡ turnOf 16 (register (take n s))
+short-is s n w r h k l e p =
+    let x = bitXor w ones * 2 ^ (64 - 8 * n) % 2 ^ 64 in
+    let D = digitsOf 64 x in
+    p .turned
+    ∙ ap (turnOf 16)
+    (unique 16 generator generator-degree D (p .left) (registerOf 16 generator 0 D) (p .divided)
+    (exists 16 generator (lit≤ tt) generator-degree D (digits-bits 64 x))
+    ∙ up-over 16 generator (8 * n) (bitXor w ones) (omega arith)
+    ∙ ap (λ (o : ℕ). registerOf 16 generator 0 (digitsOf (8 * n) (bitXor w o))) ones-turned
+    ∙ sym (start-in 16 generator (lit≤ tt) generator-degree (8 * n) ones w (omega arith) (lit≤ tt))
+    ∙ ap (registerOf 16 generator ones) (word-front s 0 (8 * n) w (omega arith) (omega arith) e ∙ bits-first s n))
+
+-- turned over it is the check sequence, as a number
+pub sequenced : (s : List ℕ) (n t : ℕ) → t ≡ turnOf 16 (register (take n s)) → Sequenced s n (ones - t)
+sequenced s n t e =
+    let d = register-left (take n s) in
     record {
       two-octets = omega arith;
       right =
           record {
-            left = r .remainder;
-            divided = subst (λ (b : List ℕ). RemainderFrom 16 generator ones b (r .remainder)) (bits-first s n) d;
-            as-sent = ap (λ (x : ℕ). (ones - x) % 256 ∷ (ones - x) / 256 ∷ []) e ∙ sent-is (r .remainder) (d .below);
+            left = register (take n s);
+            divided = d;
+            as-sent = ap (λ (x : ℕ). (ones - x) % 256 ∷ (ones - x) / 256 ∷ []) e ∙ sent-is (register (take n s)) (d .below);
           };
     }

@@ -1,5 +1,10 @@
 // The check sequence of an operations channel message (002, clause 10.5.5.4; RFC 1662, FCS-16).
-ghost use Prim.Native.Nat.{_*_};
+ghost use mathlib.Core.Path.{_≡_};
+ghost use mathlib.Core.List.{reverse};
+ghost use Prim.Native.Nat.{_≤_};
+ghost use lib.ListN.{length, take};
+ghost use Rattle.octets.specs.Bits.{digitsOf, valueOf};
+ghost use Rattle.fcs.specs.Sequence.{register};
 ghost use Rattle.fcs.specs.Promises.{Sequenced};
 
 // x^16 + x^12 + x^5 + 1, each power a digit.
@@ -11,12 +16,55 @@ const DEGREE: u32 = 16;
 // Sixteen ones: the register's start, and what turns it over.
 const ONES: u32 = 0xffff;
 
+// The bits and the octets of a word.
+const WORD: u32 = 64;
+
+const WORD_OCTETS: u16 = 8;
+
+// The octets of a message without contents: addresses and number.
+const BARE: u16 = 2;
+
+// The register after n octets, turned round, where a word holds them: the ones are added to the first of them, and they are moved up to the
+// word's end. The zeros before them count for nothing.
+fn short(s: &[u8], n: u16) -> u32
+    requires { ⌜ (2 ≤ n) × (n ≤ 8) × (n ≤ length (now s)) ⌝ }
+    ensures { λ r. ⌜ r ≡ valueOf (reverse (digitsOf 16 (register (take n (now (s .entry)))))) ⌝ }
+{
+    let x = octets::word(s, 0) ^ (ONES as u64);
+    remainder::word_left(x << (WORD - 8 * (n as u32)))
+}
+
+// The register after n octets, turned round. Nothing past the end counts.
+fn long(s: &[u8], n: u16) -> u32
+    ensures { λ r. ⌜ r ≡ valueOf (reverse (digitsOf 16 (register (take n (now (s .entry)))))) ⌝ }
+{
+    let left = remainder::from_start(GENERATOR, DEGREE, ONES, s, 0, 8 * (n as u32)).remainder;
+    bitfields::turned(DEGREE, left)
+}
+
+// The same. Most requests have no contents, and of two octets the compiler makes one load and a few shifts.
+fn behind_ones(s: &[u8], n: u16) -> u32
+    ensures { λ r. ⌜ r ≡ valueOf (reverse (digitsOf 16 (register (take n (now (s .entry)))))) ⌝ }
+{
+    if s.len() < (n as usize) {
+        return long(s, n);
+    }
+    if n == BARE {
+        return short(&s[0..2], BARE);
+    }
+    if n < BARE {
+        return long(s, n);
+    }
+    if WORD_OCTETS < n {
+        return long(s, n);
+    }
+    short(s, n)
+}
+
 // The check sequence of the first n octets, its first octet low: of two octets as they are sent, the first is r % 256 and the second r / 256.
 // Nothing past the end counts.
 pub fn sequence(s: &[u8], n: u16) -> u32
     ensures { λ r. ⌜ Sequenced (now (s .entry)) n r ⌝ }
 {
-    let left = remainder::from_start(GENERATOR, DEGREE, ONES, s, 0, 8 * (n as u32)).remainder;
-    let turned = bitfields::turned(DEGREE, left);
-    ONES - turned
+    ONES - behind_ones(s, n)
 }

@@ -8,7 +8,7 @@ ghost use Rattle.answer.specs.Answer.{answer};
 ghost use Rattle.octets.specs.Bits.{digitsOf, valueOf, bitsOf, part};
 ghost use Rattle.remainder.specs.Division.{Degree, generator};
 ghost use Rattle.remainder.specs.Register.{stepOf, registerOf};
-ghost use Rattle.remainder.specs.Promises.{CheckBits, startRefusals, FromStart};
+ghost use Rattle.remainder.specs.Promises.{CheckBits, WordLeft, startRefusals, FromStart};
 
 // D^16 + D^12 + D^5 + 1, each power a digit.
 const GENERATOR: u32 = 0x11021;
@@ -56,6 +56,13 @@ fn settled(x: u64) -> u64
     let b = ((c ^ (c << 8)) ^ (c << 22)) ^ (c << 32);
     let q = ((b ^ (b << 4)) ^ (b << 11)) ^ (b << 16);
     ((q >> 60) ^ (q >> 53)) ^ (q >> 48)
+}
+
+// What is left of the 64 bits of a word, the lowest first, with its digits turned round: c1 is the digit of weight 1.
+pub fn word_left(x: u64) -> u32
+    ensures { λ r. ⌜ WordLeft x r ⌝ }
+{
+    settled(x) as u32
 }
 
 // The register after the 64 bits of x, from zero.

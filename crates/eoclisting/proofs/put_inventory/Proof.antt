@@ -24,15 +24,6 @@ put-software-requires c κs = search needs
 slice-aggregate-put-field : tie.Need-slice-aggregate-put-field
 slice-aggregate-put-field c = search needs
 
-sub-put-field : tie.Need-sub-put-field
-sub-put-field c = search needs
-
-part-put-field-start : tie.Need-part-put-field-start
-part-put-field-start c = search needs
-
-part-put-field-end : tie.Need-part-put-field-end
-part-put-field-end c = search needs
-
 put-field-requires : tie.Need-put-field-requires
 put-field-requires c κs = search needs
 
@@ -46,13 +37,13 @@ returns-2 : tie.Need-returns-2
 unfolding inventoryText fieldText
 returns-2 c =
     let p6 = c .before .before .before .before .before .before in
-    let p12 = p6 .before .before .before .before .before .before in
-    let p14 = p12 .before .before in
-    let s = p14 .before .before .before .args .contents .now in
+    let p11 = p6 .before .before .before .before .before in
+    let p13 = p11 .before .before in
+    let s = p13 .before .before .before .args .contents .now in
     let x = softwareText s in
     let y = fieldText ", unit " 12 10 s in
-    put-as (put-more (x ++ y) (vendorText s) (put-more x y (p12 .put-software .ensures) (p6 .put-field .ensures)) (c .before .before .put-vendor .ensures))
-    (inventory-whole s (p14 .if1 .left))
+    put-as (put-more (x ++ y) (vendorText s) (put-more x y (p11 .put-software .ensures) (p6 .put-field .ensures)) (c .before .before .put-vendor .ensures))
+    (inventory-whole s (p13 .if1 .left))
 
 pub put-inventory-spec : {M : Type 1} → statement M
 put-inventory-spec =
@@ -63,9 +54,6 @@ put-inventory-spec =
     returns
     put-software-requires
     slice-aggregate-put-field
-    sub-put-field
-    part-put-field-start
-    part-put-field-end
     put-field-requires
     put-vendor-requires
     same-length-2

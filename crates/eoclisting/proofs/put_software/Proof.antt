@@ -29,44 +29,17 @@ put-form-requires c κs = search needs
 slice-aggregate-put-field : tie.Need-slice-aggregate-put-field
 slice-aggregate-put-field c = search needs
 
-sub-put-field : tie.Need-sub-put-field
-sub-put-field c = search needs
-
-part-put-field-start : tie.Need-part-put-field-start
-part-put-field-start c = search needs
-
-part-put-field-end : tie.Need-part-put-field-end
-part-put-field-end c = search needs
-
 put-field-requires : tie.Need-put-field-requires
 put-field-requires c κs = search needs
 
 slice-aggregate-put-field-2 : tie.Need-slice-aggregate-put-field-2
 slice-aggregate-put-field-2 c = search needs
 
-sub-put-field-2 : tie.Need-sub-put-field-2
-sub-put-field-2 c = search needs
-
-part-put-field-start-2 : tie.Need-part-put-field-start-2
-part-put-field-start-2 c = search needs
-
-part-put-field-end-2 : tie.Need-part-put-field-end-2
-part-put-field-end-2 c = search needs
-
 put-field-requires-2 : tie.Need-put-field-requires-2
 put-field-requires-2 c κs = search needs
 
 slice-aggregate-put-field-3 : tie.Need-slice-aggregate-put-field-3
 slice-aggregate-put-field-3 c = search needs
-
-sub-put-field-3 : tie.Need-sub-put-field-3
-sub-put-field-3 c = search needs
-
-part-put-field-start-3 : tie.Need-part-put-field-start-3
-part-put-field-start-3 c = search needs
-
-part-put-field-end-3 : tie.Need-part-put-field-end-3
-part-put-field-end-3 c = search needs
 
 put-field-requires-3 : tie.Need-put-field-requires-3
 put-field-requires-3 c κs = search needs
@@ -77,18 +50,18 @@ same-length c = search needs
 returns : tie.Need-returns
 unfolding softwareText fieldText
 returns c =
-    let p8 = c .before .before .before .before .before .before .before .before in
-    let p14 = p8 .before .before .before .before .before .before in
-    let p20 = p14 .before .before .before .before .before .before in
-    let p22 = p20 .before .before in
-    let s = p22 .before .before .before .before .before .before .args .contents .now in
+    let p7 = c .before .before .before .before .before .before .before in
+    let p12 = p7 .before .before .before .before .before in
+    let p17 = p12 .before .before .before .before .before in
+    let p19 = p17 .before .before in
+    let s = p19 .before .before .before .before .before .before .args .contents .now in
     let x = formed (text ": SDSL version #") (getD s 0 0 ∷ []) in
     let l = fieldText ", list " 1 3 s in
     let i = fieldText ", issue " 4 2 s in
     put-more (x ++ l ++ i) (fieldText ", software " 6 6 s)
     (put-more (x ++ l) i
-    (put-more x l (put-as (p20 .put-form .ensures) (ap (λ (v : ℕ). formed (text ": SDSL version #") (v ∷ [])) (p22 .wide .ensures))) (p14 .put-field .ensures))
-    (p8 .put-field2 .ensures))
+    (put-more x l (put-as (p17 .put-form .ensures) (ap (λ (v : ℕ). formed (text ": SDSL version #") (v ∷ [])) (p19 .wide .ensures))) (p12 .put-field .ensures))
+    (p7 .put-field2 .ensures))
     (c .before .before .put-field3 .ensures)
 
 pub put-software-spec : {M : Type 1} → statement M
@@ -101,19 +74,10 @@ put-software-spec =
     slice-aggregate-put-form-2
     put-form-requires
     slice-aggregate-put-field
-    sub-put-field
-    part-put-field-start
-    part-put-field-end
     put-field-requires
     slice-aggregate-put-field-2
-    sub-put-field-2
-    part-put-field-start-2
-    part-put-field-end-2
     put-field-requires-2
     slice-aggregate-put-field-3
-    sub-put-field-3
-    part-put-field-start-3
-    part-put-field-end-3
     put-field-requires-3
     same-length
     returns)
