@@ -9,8 +9,10 @@ use native.Mathlib.Omega.{arith}
 use borrow.Author.Tests.{eq-eqb, ne-eqb, le-leb, lt-leb}
 use lib.Dec.{eqb, leb, lit≤}
 use lib.ListN.{length, getD, take, drop, set, length-set, length-take, length-drop, length-append, take-append-drop}
-use lib.Seq.{getD-drop, getD-take, drop-drop, take-add, take-at, drop-at, take-all, length-take-le, paste}
-use Rattle.octets.proofs.Whole.{drop-all}
+use lib.Seq.{getD-drop, getD-take, drop-drop, take-add, take-at, drop-at, take-all, length-take-le}
+use Rattle.octets.specs.Bits.{bitsOf, part, laid}
+use Rattle.octets.proofs.Laws.{Octets}
+use Rattle.octets.proofs.Whole.{set-octets, copied, drop-all}
 use Rattle.eoc.specs.Message.{addresses}
 use Rattle.eoc.specs.Addresses.{isMeant}
 use Rattle.eocunits.specs.Units.{ownOf, recordsOf, joined, someWide}
@@ -156,14 +158,22 @@ module _ (s : List ℕ) (count : ℕ) where
 -- ---- one record
 
 -- the octets of a record, put one after the other
-pub record-put : (unit exit contents : List ℕ) (a b c d : ℕ) → length unit ≡ 79 → length contents ≡ 73
-    → exit ≡ paste (set (set (set (set (set unit 1 1) 2 a) 3 b) 4 c) 5 d) 6 contents 73
+pub record-put : (unit exit contents : List ℕ) (a b c d : ℕ) → length unit ≡ 79 → Octets unit → length contents ≡ 73 → Octets contents → a < 256 → b < 256 → c < 256
+    → d < 256 → exit ≡ laid (set (set (set (set (set unit 1 1) 2 a) 3 b) 4 c) 5 d) 48 (part 0 584 (bitsOf contents))
     → exit ≡ getD unit 0 0 ∷ (1 ∷ a ∷ b ∷ c ∷ d ∷ contents)
-record-put unit exit contents a b c d l m e =
-    let U = set (set (set (set (set unit 1 1) 2 a) 3 b) 4 c) 5 d in
+record-put unit exit contents a b c d l o m p ha hb hc hd e =
+    let u₁ = set unit 1 1 in
+    let u₂ = set u₁ 2 a in
+    let u₃ = set u₂ 3 b in
+    let u₄ = set u₃ 4 c in
+    let U = set u₄ 5 d in
+    let o₂ : Octets u₂ = set-octets u₁ 2 a (set-octets unit 1 1 o (lit≤ tt)) ha in
+    let oU : Octets U = set-octets u₄ 5 d (set-octets u₃ 4 c (set-octets u₂ 3 b o₂ hb) hc) hd in
     let lU : length U ≡ 79 = simp length-set l in
-    e ∙ ap₂ (λ (x y : List ℕ). take 6 U ++ x ++ y) (take-all 73 contents (omega (arith, m))) (drop-all 79 U (omega (arith, lU)))
-    ∙ append-nil (take 6 U ++ contents) ∙ ap (λ (x : List ℕ). x ++ contents) (six unit l)
+    let all : part 0 73 contents ≡ contents = take-all 73 contents (omega (arith, m)) in
+    e ∙ copied U contents 6 0 73 oU p (omega (arith, m)) (omega (arith, lU))
+    ∙ ap₂ (λ (x y : List ℕ). take 6 U ++ (x ++ y)) all (drop-all (6 + 73) U (omega (arith, lU)))
+    ∙ ap (λ (x : List ℕ). take 6 U ++ x) (append-nil contents) ∙ ap (λ (x : List ℕ). x ++ contents) (six unit l)
   where
     six : (unit : List ℕ) → length unit ≡ 79 → take 6 (set (set (set (set (set unit 1 1) 2 a) 3 b) 4 c) 5 d) ≡ getD unit 0 0 ∷ 1 ∷ a ∷ b ∷ c ∷ d ∷ []
     six (x ∷ x1 ∷ x2 ∷ x3 ∷ x4 ∷ x5 ∷ rest) h = refl

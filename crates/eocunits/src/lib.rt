@@ -3,7 +3,6 @@ ghost use mathlib.Core.Path.{_≡_};
 ghost use mathlib.Core.List.{_∷_, _++_, map};
 ghost use Prim.Native.Nat.{_+_, _*_, _<_, _≤_};
 ghost use lib.ListN.{length, getD, take, drop};
-ghost use lib.Seq.{paste};
 ghost use Rattle.eoc.specs.Addresses.{isMeant};
 ghost use Rattle.eocunits.specs.Units.{recordsOf, joined, someWide};
 ghost use Rattle.eocunits.specs.Handing.{tailOf, putIn, countMeant};
@@ -11,9 +10,6 @@ ghost use Rattle.eocunits.specs.Promises.{MessageHandedUp};
 
 // The octets of a record: own address; 1 once a message stands in it; source; destination; message number; length; 73 of contents.
 pub const RECORD: usize = 79;
-
-// Those before the contents.
-const BEFORE: usize = 6;
 
 // What handing up gives: the answer, and how many units took the message.
 pub struct HandedUp {
@@ -56,18 +52,6 @@ fn wide(octet: u8) -> u32
     octet as u32
 }
 
-// The contents stand from octet 6 of a record on.
-fn put_contents(unit: &mut [u8], contents: &[u8])
-    requires { ⌜ (length (now unit) ≡ 79) × (length (now contents) ≡ 73) ⌝ }
-    ensures { λ r. ⌜ now (unit .exit) ≡ paste (now (unit .entry)) 6 (now (contents .entry)) 73 ⌝ }
-{
-    let mut k = 0;
-    while k < eoc::CONTENTS {
-        unit[BEFORE + k] = contents[k];
-        k += 1;
-    }
-}
-
 // A record takes a message: all but its own address is written.
 fn put_record(unit: &mut [u8], found: eocreader::Found, contents: &[u8])
     requires { ⌜ (length (now unit) ≡ 79) × (length (now contents) ≡ 73) × (found .source < 256) × (found .destination < 256) × (found .number < 256)
@@ -79,7 +63,7 @@ fn put_record(unit: &mut [u8], found: eocreader::Found, contents: &[u8])
     unit[3] = found.destination as u8;
     unit[4] = found.number as u8;
     unit[5] = found.length as u8;
-    put_contents(unit, contents);
+    octets::copy(unit, 48, contents, 0, 584);
 }
 
 // The record from octet `at` on takes a message.

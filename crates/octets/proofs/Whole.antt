@@ -1,11 +1,11 @@
 -- Whole octets copied and cleared, said of octets and not of their bits. Assumes nothing.
-use mathlib.Core.Path.{_≡_, refl, sym, ap, _∙_, subst}
+use mathlib.Core.Path.{_≡_, refl, sym, ap, ap₂, _∙_, subst}
 use mathlib.Core.List.{List, [], _∷_, _++_, append-assoc}
-use Prim.Native.Nat.{ℕ, zero, suc, _+_, _*_, _≤_, _<_}
+use Prim.Native.Nat.{ℕ, zero, suc, _+_, _*_, _/_, _%_, _≤_, _<_}
 use native.Mathlib.Omega.{arith}
 use lib.Dec.{lit≤}
 use lib.ListN.{length, getD, set, take, drop, replicate, length-take, length-drop, length-replicate}
-use lib.Seq.{sets, sets-eq, getD-drop}
+use lib.Seq.{sets, sets-eq, getD-drop, paste}
 use Rattle.octets.specs.Bits.{bitsOf, octetsOf, part, laid}
 use Rattle.octets.proofs.Digits.{zeros-bits}
 use Rattle.octets.proofs.Laws.{Octets, bits-bits, bits-length, octets-bits, sets-below}
@@ -58,6 +58,18 @@ copied s source at from n o p h l =
     let e : length x ≡ n = omega (arith, length-take n (drop from source), length-drop from source) in
     ap (laid s (8 * at)) (sym (octets-part source from n h)) ∙ laid-octets s x at o (take-octets n (drop from source) (drop-octets from source p)) (omega (arith, e))
     ∙ ap (λ (k : ℕ). take at s ++ (x ++ drop (at + k) s)) e
+
+-- n bits that are whole octets, pasted
+pub copied-all : (s source exit : List ℕ) (at from n : ℕ) → Octets s → Octets source
+    → (at % 8 ≡ 0) × (n % 8 ≡ 0) × (at / 8 + n / 8 ≤ length s) → (from % 8 ≡ 0) × (n % 8 ≡ 0) × (from / 8 + n / 8 ≤ length source)
+    → exit ≡ paste s (at / 8) (drop (from / 8) source) (n / 8) → exit ≡ laid s at (part from n (bitsOf source))
+copied-all s source exit at from n o p h k e =
+    let a : 8 * (at / 8) ≡ at = omega (arith, h .0) in
+    let f : 8 * (from / 8) ≡ from = omega (arith, k .0) in
+    let m : 8 * (n / 8) ≡ n = omega (arith, h .1) in
+    e ∙ append-assoc (take (at / 8) s) (part (from / 8) (n / 8) source) (drop (at / 8 + n / 8) s)
+    ∙ sym (copied s source (at / 8) (from / 8) (n / 8) o p (k .2) (h .2))
+    ∙ ap₂ (λ (i : ℕ) (b : List ℕ). laid s i b) a (ap₂ (λ (j c : ℕ). part j c (bitsOf source)) f m)
 
 -- n octets made zero
 pub cleared : (s : List ℕ) (at n : ℕ) → Octets s → at + n ≤ length s

@@ -1,11 +1,12 @@
 // Bits in octets (SCOPE, "The activation frame"): bit n of the paper stands at place n - 1, with weight 2 to the power
 // (n-1) mod 8 in octet (n-1)/8. Every function takes every input: what lies past the end reads 0 and is not written.
 ghost use mathlib.Core.Path.{_≡_};
+ghost use mathlib.Core.Bool.{true};
 ghost use mathlib.Core.List.{_++_};
-ghost use Prim.Native.Nat.{_+_, _-_, _*_, _%_, _<_, _≤_, min};
+ghost use Prim.Native.Nat.{_+_, _-_, _*_, _/_, _%_, _<_, _≤_, min};
 ghost use lib.Dec.{eqb};
 ghost use lib.ListN.{length, take, drop, replicate};
-ghost use lib.Seq.{sets};
+ghost use lib.Seq.{sets, paste};
 ghost use Rattle.octets.specs.Bits.{digitsOf, valueOf, bitsOf, octetsOf, part, laid};
 ghost use Rattle.octets.specs.Promises.{BitRead, HasBit, WordRead, WordPut, BitsRead, BitsPut, FrontPut, Copied, Cleared, IsClear, Signed, Twos};
 
@@ -199,7 +200,7 @@ fn step(at: usize, k: u32, n: u32) -> u32
 }
 
 // The n bits from place `at` on become those of the source from place `from` on; past the source's end they stay.
-pub fn copy(s: &mut [u8], at: usize, source: &[u8], from: usize, n: u32)
+fn copy_bits(s: &mut [u8], at: usize, source: &[u8], from: usize, n: u32)
     ensures { λ r. ⌜ Copied (now (s .entry)) at (now (source .entry)) from n (now (s .exit)) ⌝ }
 {
     let all = there(source, from, n);
@@ -208,6 +209,42 @@ pub fn copy(s: &mut [u8], at: usize, source: &[u8], from: usize, n: u32)
         let m = step(at, k, all - k);
         put_at(s, at, k, m, long(source, from, k));
         k += m;
+    }
+}
+
+// The octets from octet i on become those of the source from octet j on, so many. The compiler takes many at once.
+fn copy_octets(s: &mut [u8], i: usize, source: &[u8], j: usize, count: usize)
+    requires { ⌜ (i + count ≤ length (now s)) × (j + count ≤ length (now source)) ⌝ }
+    ensures { λ r. ⌜ now (s .exit) ≡ paste (now (s .entry)) i (drop j (now (source .entry))) count ⌝ }
+{
+    let mut k = 0;
+    while k < count {
+        s[i + k] = source[j + k];
+        k += 1;
+    }
+}
+
+// Whether the n bits from place `at` on are whole octets that are there.
+fn in_octets(s: &[u8], at: usize, n: u32) -> bool
+    ensures { λ r. ⌜ (r ≡ true → (at % 8 ≡ 0) × (n % 8 ≡ 0) × (at / 8 + n / 8 ≤ length (now (s .entry)))) ⌝ }
+{
+    if at % 8 != 0 {
+        return false;
+    }
+    if n % 8 != 0 {
+        return false;
+    }
+    at / 8 + (n / 8) as usize <= s.len()
+}
+
+// The same, by octets where all are there and begin at one.
+pub fn copy(s: &mut [u8], at: usize, source: &[u8], from: usize, n: u32)
+    ensures { λ r. ⌜ Copied (now (s .entry)) at (now (source .entry)) from n (now (s .exit)) ⌝ }
+{
+    if in_octets(s, at, n) & in_octets(source, from, n) {
+        copy_octets(s, at / 8, source, from / 8, (n / 8) as usize);
+    } else {
+        copy_bits(s, at, source, from, n);
     }
 }
 

@@ -34,20 +34,21 @@ cast-unit-4 c = search needs
 slice-write-unit-5 : tie.Need-slice-write-unit-5
 slice-write-unit-5 c = simp length-set (omega (arith, c .before .before .before .before .before .before .pre))
 
-put-contents-requires : tie.Need-put-contents-requires
-put-contents-requires c κs = search needs
+copy-requires : tie.Need-copy-requires
+copy-requires c κs = search needs
 
 same-length : tie.Need-same-length
-same-length c = c .before .before .put-contents .kept .0 ∙ simp length-set refl
+same-length c = c .before .before .copy .kept .0 ∙ simp length-set refl
 
 returns : tie.Need-returns
 returns c =
     let k = c .before .before in
     let b = k .before .before .before .before .before .before .before .before in
     let a = b .args in
-    let f = a .found in
-    record-put (a .unit .now) (k .put-contents .last .0) (a .contents .now) (f .source) (f .destination) (f .number) (f .length) (b .pre .0) (b .pre .1)
-    (k .put-contents .ensures)
+    let p = b .pre in
+    record-put (a .unit .now) (k .copy .last .0) (a .contents .now) (a .found .source) (a .found .destination) (a .found .number) (a .found .length) (p .0) (λ i. omega (arith, k .before .before .before .before .before .before .before .slice-known .given i)) (p .1)
+    (λ i. omega (arith, k .before .before .before .before .before .before .shared-slice-known .given i)) (p .2) (p .3) (p .4)
+    (p .5) (k .copy .ensures)
 
 pub put-record-spec : {M : Type 1} → statement M
 put-record-spec =
@@ -62,6 +63,6 @@ put-record-spec =
     slice-write-unit-4
     cast-unit-4
     slice-write-unit-5
-    put-contents-requires
+    copy-requires
     same-length
     returns)

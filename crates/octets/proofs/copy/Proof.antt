@@ -1,90 +1,65 @@
--- `octets::copy` meets its contract. The first k of the bits that are there are laid.
+-- `octets::copy` meets its contract.
 use borrow.Author.Needs.{needs}
-use mathlib.Core.Path.{_≡_, ap, _∙_}
-use Prim.Native.Nat.{ℕ, _+_, _-_, _*_, _≤_, _<_, min}
+use mathlib.Core.Path.{_≡_, refl}
+use mathlib.Core.Bool.{Bool, true, false, _&&_, false≢true}
 use native.Mathlib.Omega.{arith}
-use lib.ListN.{length}
-use Rattle.octets.specs.Bits.{bitsOf, part, laid}
-use Rattle.octets.proofs.Laws.{laid-none, laid-length, part-clipped}
-use Rattle.octets.proofs.Words.{part-laid}
+use Rattle.octets.proofs.Whole.{copied-all}
 use Rattle.octets.proofs.copy.Statement.{statement}
 use Rattle.octets.proofs.copy.Tie as tie
 
-abbrev Inv-loop : tie.InvT-loop
-Inv-loop s₀ at source from n all k₀ s k = (k ≤ all) × (s ≡ laid s₀ at (part from k (bitsOf source)))
+-- where two tests hold together, each holds
+both : (a b : Bool) → a && b ≡ true → (a ≡ true) × (b ≡ true)
+both true b e = (refl, e)
+both false b e = absurd (false≢true e)
 
-abbrev μ-loop : tie.MeasureT-loop
-μ-loop s₀ at source from n all k₀ s k = all - k
+in-octets-requires : tie.Need-in-octets-requires
+in-octets-requires c κs = search needs
 
-there-requires : tie.Need-there-requires Inv-loop μ-loop
-there-requires c κs = search needs
+in-octets-requires-2 : tie.Need-in-octets-requires-2
+in-octets-requires-2 c κs = search needs
 
-loop-holds : tie.Need-loop-holds Inv-loop μ-loop
-loop-holds c =
-    let a = c .before .before .before .args in
-    (omega arith, laid-none (a .s .now) (a .at) (λ i. omega (arith, c .before .before .slice-known .given i)))
+cast-copy-octets : tie.Need-cast-copy-octets
+cast-copy-octets c = search needs
 
-sub-step : tie.Need-sub-step Inv-loop μ-loop
-sub-step c = omega arith
+copy-octets-requires : tie.Need-copy-octets-requires
+copy-octets-requires c κs =
+    let q = c .before .before in
+    let t = both (q .before .in-octets .result) (q .in-octets2 .result) (c .before .if1 .taken) in
+    (q .before .in-octets .ensures (t .0) .2, q .in-octets2 .ensures (t .1) .2)
 
-step-requires : tie.Need-step-requires Inv-loop μ-loop
-step-requires c κs = search needs
+copy-bits-requires : tie.Need-copy-bits-requires
+copy-bits-requires c κs = search needs
 
-long-requires : tie.Need-long-requires Inv-loop μ-loop
-long-requires c κs = search needs
+same-length : tie.Need-same-length
+same-length c = search needs
 
-put-at-requires : tie.Need-put-at-requires Inv-loop μ-loop
-put-at-requires c κs = c .before .before .step .ensures .2
-
-add-k : tie.Need-add-k Inv-loop μ-loop
-add-k c = omega (arith, c .before .before .before .before .before .step .ensures)
-
--- a step goes on
-on : (all k m : ℕ) → k < all → min (all - k) 1 ≤ m → all - (k + m) < all - k
-on all k m h l = omega arith
-
-loop-less : tie.Need-loop-less Inv-loop μ-loop
-loop-less c =
-    let t = c .before .before .before .before .before in
-    on (t .before .before .before .there .result) (t .before .before .loop .k) (t .step .result) (t .before .loop-test .taken) (t .step .ensures .1)
-
-loop-again : tie.Need-loop-again Inv-loop μ-loop
-loop-again c =
-    let word = c .before .before .before .long in
-    let t = c .before .before .before .before .before in
-    let m = t .step .result in
-    let l = t .before .before .loop in
-    let all = t .before .before .before .there in
-    let a = t .before .before .before .before .before .before .args in (
-      omega (arith, t .step .ensures),
-      part-laid (a .s .now) (a .at) (a .source .now) (a .from) (l .k) m (omega (arith, t .step .ensures)) (omega (arith, t .step .ensures, all .ensures))
-          (l .inv .1) (word .ensures) (c .before .before .put-at .ensures),
-    )
-
-same-length : tie.Need-same-length Inv-loop μ-loop
-same-length c = ap length (c .before .loop .inv .1) ∙ simp laid-length
-
-returns : tie.Need-returns Inv-loop μ-loop
+returns : tie.Need-returns
 returns c =
-    let a = c .before .before .before .before .before .args in
-    let l = c .before .loop in
-    let e : l .k ≡ min (a .n) (8 * length (a .source .now) - a .from) = omega (arith, c .before .before .there .ensures) in
-    l .inv .1 ∙ ap (laid (a .s .now) (a .at)) (ap (λ (j : ℕ). part (a .from) j (bitsOf (a .source .now))) e ∙ part-clipped (a .source .now) (a .from) (a .n))
+    let o = c .before .before in
+    let q = o .before .before .before in
+    let t = both (q .before .in-octets .result) (q .in-octets2 .result) (o .before .before .if1 .taken) in
+    let z = q .before .before .before in
+    let a = z .before .before .args in
+    copied-all (a .s .now) (a .source .now) (o .copy-octets .last .0) (a .at) (a .from) (a .n) (λ i. omega (arith, z .before .slice-known .given i))
+    (λ i. omega (arith, z .shared-slice-known .given i)) (q .before .in-octets .ensures (t .0)) (q .in-octets2 .ensures (t .1))
+    (o .copy-octets .ensures)
+
+same-length-2 : tie.Need-same-length-2
+same-length-2 c = search needs
+
+returns-2 : tie.Need-returns-2
+returns-2 c = search needs
 
 pub copy-spec : {M : Type 1} → statement M
 copy-spec =
     tie.close
     (tie.spec
-    Inv-loop
-    μ-loop
-    there-requires
-    loop-holds
-    sub-step
-    step-requires
-    long-requires
-    put-at-requires
-    add-k
-    loop-less
-    loop-again
+    in-octets-requires
+    in-octets-requires-2
+    cast-copy-octets
+    copy-octets-requires
+    copy-bits-requires
     same-length
-    returns)
+    returns
+    same-length-2
+    returns-2)
