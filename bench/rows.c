@@ -363,9 +363,9 @@ const struct row rows[] = {
     {"read a message of 75 octets", "message", BATCH, 1, 1, read_75, read_75_others, false},
     {"read a message of 75 octets, contents all 7E", "message", BATCH, 1, 1, read_75_flags, read_75_flags_others, false},
     {"hand a message of 20 octets up to 4 units", "message", BATCH, 1, 1, hand_up_20, hand_up_20_others, false},
-    {"check sequence of 2 octets", "message", BATCH, 4, 1, sequence_2, sequence_2_others, false},
-    {"check sequence of 20 octets", "message", BATCH, 4, 1, sequence_20, sequence_20_others, false},
-    {"check sequence of 75 octets", "message", BATCH, 4, 1, sequence_75, sequence_75_others, false},
+    {"check sequence of 2 octets", "message", BATCH, 1, 4, sequence_2, sequence_2_others, false},
+    {"check sequence of 20 octets", "message", BATCH, 1, 4, sequence_20, sequence_20_others, false},
+    {"check sequence of 75 octets", "message", BATCH, 1, 4, sequence_75, sequence_75_others, false},
 };
 const size_t row_count = ITEMS(rows);
 const struct row *const encoder_row = &rows[9], *const precoder_row = &rows[11], *const data_row = &rows[16],
