@@ -42,7 +42,8 @@ fn long(s: &[u8], n: u16) -> u32
     bitfields::turned(DEGREE, left)
 }
 
-// The same. Most requests have no contents, and of two octets the compiler makes one load and a few shifts.
+// The register after n octets, turned round, the shortest way. Most requests have no contents: of their two octets the compiler makes one load
+// and a few shifts.
 fn behind_ones(s: &[u8], n: u16) -> u32
     ensures { λ r. ⌜ r ≡ valueOf (reverse (digitsOf 16 (register (take n (now (s .entry)))))) ⌝ }
 {

@@ -199,7 +199,7 @@ fn step(at: usize, k: u32, n: u32) -> u32
     }
 }
 
-// The n bits from place `at` on become those of the source from place `from` on; past the source's end they stay.
+// The n bits from place `at` on become those of the source from place `from` on, 64 at a time; past the source's end they stay.
 fn copy_bits(s: &mut [u8], at: usize, source: &[u8], from: usize, n: u32)
     ensures { λ r. ⌜ Copied (now (s .entry)) at (now (source .entry)) from n (now (s .exit)) ⌝ }
 {
@@ -237,7 +237,8 @@ fn in_octets(s: &[u8], at: usize, n: u32) -> bool
     at / 8 + (n / 8) as usize <= s.len()
 }
 
-// The same, by octets where all are there and begin at one.
+// The n bits from place `at` on become those of the source from place `from` on; past the source's end they stay. Whole octets that are all
+// there go as octets.
 pub fn copy(s: &mut [u8], at: usize, source: &[u8], from: usize, n: u32)
     ensures { λ r. ⌜ Copied (now (s .entry)) at (now (source .entry)) from n (now (s .exit)) ⌝ }
 {
