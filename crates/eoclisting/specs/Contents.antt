@@ -68,7 +68,7 @@ softwareText c =
 abbrev pub vendorId : List ℕ → List ℕ
 vendorId c = text ", vendor ID " ++ hexes (part 23 8 c)
 
--- and what comes from there on
+-- table 10.10 from the vendor ID on
 unfoldable pub vendorText : List ℕ → List ℕ
 vendorText c = vendorId c ++ fieldText ", model " 31 12 c ++ fieldText ", serial " 43 12 c ++ fieldText ", other " 55 12 c
 

@@ -7,18 +7,10 @@ ghost use Rattle.octets.specs.Bits.{digitsOf, valueOf};
 ghost use Rattle.fcs.specs.Sequence.{register};
 ghost use Rattle.fcs.specs.Promises.{Sequenced};
 
-// x^16 + x^12 + x^5 + 1, each power a digit.
-const GENERATOR: u32 = 0x11021;
-
-// The generator's degree: so many bits.
-const DEGREE: u32 = 16;
-
 // Sixteen ones: the register's start, and what turns it over.
 const ONES: u32 = 0xffff;
 
-// The bits and the octets of a word.
-const WORD: u32 = 64;
-
+// The octets of a word.
 const WORD_OCTETS: u16 = 8;
 
 // The octets of a message without contents: addresses and number.
@@ -31,15 +23,22 @@ fn short(s: &[u8], n: u16) -> u32
     ensures { λ r. ⌜ r ≡ valueOf (reverse (digitsOf 16 (register (take n (now (s .entry)))))) ⌝ }
 {
     let x = octets::word(s, 0) ^ (ONES as u64);
-    remainder::word_left(x << (WORD - 8 * (n as u32)))
+    remainder::word_left(x << (remainder::WORD - 8 * (n as u32)))
 }
 
 // The register after n octets, turned round. Nothing past the end counts.
 fn long(s: &[u8], n: u16) -> u32
     ensures { λ r. ⌜ r ≡ valueOf (reverse (digitsOf 16 (register (take n (now (s .entry)))))) ⌝ }
 {
-    let left = remainder::from_start(GENERATOR, DEGREE, ONES, s, 0, 8 * (n as u32)).remainder;
-    bitfields::turned(DEGREE, left)
+    let left = remainder::from_start(
+        remainder::GENERATOR,
+        remainder::DEGREE,
+        ONES,
+        s,
+        0,
+        8 * (n as u32),
+    );
+    bitfields::turned(remainder::DEGREE, left.remainder)
 }
 
 // The register after n octets, turned round, the shortest way. Most requests have no contents: of their two octets the compiler makes one load

@@ -61,14 +61,14 @@ copied s source at from n o p h l =
 
 -- n bits that are whole octets, pasted
 pub copied-all : (s source exit : List ℕ) (at from n : ℕ) → Octets s → Octets source
-    → (at % 8 ≡ 0) × (n % 8 ≡ 0) × (at / 8 + n / 8 ≤ length s) → (from % 8 ≡ 0) × (n % 8 ≡ 0) × (from / 8 + n / 8 ≤ length source)
+    → (at % 8 ≡ 0) × (from % 8 ≡ 0) × (n % 8 ≡ 0) × (at / 8 + n / 8 ≤ length s) × (from / 8 + n / 8 ≤ length source)
     → exit ≡ paste s (at / 8) (drop (from / 8) source) (n / 8) → exit ≡ laid s at (part from n (bitsOf source))
-copied-all s source exit at from n o p h k e =
+copied-all s source exit at from n o p h e =
     let a : 8 * (at / 8) ≡ at = omega (arith, h .0) in
-    let f : 8 * (from / 8) ≡ from = omega (arith, k .0) in
-    let m : 8 * (n / 8) ≡ n = omega (arith, h .1) in
+    let f : 8 * (from / 8) ≡ from = omega (arith, h .1) in
+    let m : 8 * (n / 8) ≡ n = omega (arith, h .2) in
     e ∙ append-assoc (take (at / 8) s) (part (from / 8) (n / 8) source) (drop (at / 8 + n / 8) s)
-    ∙ sym (copied s source (at / 8) (from / 8) (n / 8) o p (k .2) (h .2))
+    ∙ sym (copied s source (at / 8) (from / 8) (n / 8) o p (h .4) (h .3))
     ∙ ap₂ (λ (i : ℕ) (b : List ℕ). laid s i b) a (ap₂ (λ (j c : ℕ). part j c (bitsOf source)) f m)
 
 -- n octets made zero

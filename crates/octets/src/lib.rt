@@ -224,17 +224,18 @@ fn copy_octets(s: &mut [u8], i: usize, source: &[u8], j: usize, count: usize)
     }
 }
 
-// Whether the n bits from place `at` on are whole octets that are there.
-fn in_octets(s: &[u8], at: usize, n: u32) -> bool
-    ensures { λ r. ⌜ (r ≡ true → (at % 8 ≡ 0) × (n % 8 ≡ 0) × (at / 8 + n / 8 ≤ length (now (s .entry)))) ⌝ }
+// Whether n bits from a place of each on are whole octets that are there.
+fn in_octets(s: &[u8], at: usize, source: &[u8], from: usize, n: u32) -> bool
+    ensures { λ r. ⌜ (r ≡ true → (at % 8 ≡ 0) × (from % 8 ≡ 0) × (n % 8 ≡ 0) × (at / 8 + n / 8 ≤ length (now (s .entry)))
+        × (from / 8 + n / 8 ≤ length (now (source .entry)))) ⌝ }
 {
-    if at % 8 != 0 {
+    if at % 8 + from % 8 + (n % 8) as usize != 0 {
         return false;
     }
-    if n % 8 != 0 {
+    if s.len() < at / 8 + (n / 8) as usize {
         return false;
     }
-    at / 8 + (n / 8) as usize <= s.len()
+    from / 8 + (n / 8) as usize <= source.len()
 }
 
 // The n bits from place `at` on become those of the source from place `from` on; past the source's end they stay. Whole octets that are all
@@ -242,7 +243,7 @@ fn in_octets(s: &[u8], at: usize, n: u32) -> bool
 pub fn copy(s: &mut [u8], at: usize, source: &[u8], from: usize, n: u32)
     ensures { λ r. ⌜ Copied (now (s .entry)) at (now (source .entry)) from n (now (s .exit)) ⌝ }
 {
-    if in_octets(s, at, n) & in_octets(source, from, n) {
+    if in_octets(s, at, source, from, n) {
         copy_octets(s, at / 8, source, from / 8, (n / 8) as usize);
     } else {
         copy_bits(s, at, source, from, n);

@@ -11,10 +11,10 @@ ghost use Rattle.remainder.specs.Register.{stepOf, registerOf};
 ghost use Rattle.remainder.specs.Promises.{CheckBits, WordLeft, startRefusals, FromStart};
 
 // D^16 + D^12 + D^5 + 1, each power a digit.
-const GENERATOR: u32 = 0x11021;
+pub const GENERATOR: u32 = 0x11021;
 
 // The generator's degree: so many check bits.
-const DEGREE: u32 = 16;
+pub const DEGREE: u32 = 16;
 
 // The register one bit further, for a generator of that degree.
 fn step(register: u32, bit: u32, generator: u32, degree: u32) -> u32
@@ -27,7 +27,7 @@ fn step(register: u32, bit: u32, generator: u32, degree: u32) -> u32
 }
 
 // The bits of a word.
-const WORD: u32 = 64;
+pub const WORD: u32 = 64;
 
 // The word's share of the quotient by the generator's fourth power, turned: 1 + D^16 + D^44 + D^64 from the low end, the first of the bits
 // at weight 1. Its square adds D^32, and that one's nothing within the word.
@@ -69,7 +69,7 @@ pub fn word_left(x: u64) -> u32
 fn after_word(x: u64) -> u32
     ensures { λ r. ⌜ r ≡ registerOf 16 generator 0 (digitsOf 64 x) ⌝ }
 {
-    bitfields::turned(DEGREE, settled(x) as u32)
+    bitfields::turned(DEGREE, word_left(x))
 }
 
 // The word that stands for x and the n low digits of t behind it: both moved up to the end of two words, and the first of them folded.

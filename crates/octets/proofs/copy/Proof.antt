@@ -1,31 +1,20 @@
 -- `octets::copy` meets its contract.
 use borrow.Author.Needs.{needs}
-use mathlib.Core.Path.{_≡_, refl}
-use mathlib.Core.Bool.{Bool, true, false, _&&_, false≢true}
 use native.Mathlib.Omega.{arith}
 use Rattle.octets.proofs.Whole.{copied-all}
 use Rattle.octets.proofs.copy.Statement.{statement}
 use Rattle.octets.proofs.copy.Tie as tie
 
--- where two tests hold together, each holds
-both : (a b : Bool) → a && b ≡ true → (a ≡ true) × (b ≡ true)
-both true b e = (refl, e)
-both false b e = absurd (false≢true e)
-
 in-octets-requires : tie.Need-in-octets-requires
 in-octets-requires c κs = search needs
-
-in-octets-requires-2 : tie.Need-in-octets-requires-2
-in-octets-requires-2 c κs = search needs
 
 cast-copy-octets : tie.Need-cast-copy-octets
 cast-copy-octets c = search needs
 
 copy-octets-requires : tie.Need-copy-octets-requires
 copy-octets-requires c κs =
-    let q = c .before .before in
-    let t = both (q .before .in-octets .result) (q .in-octets2 .result) (c .before .if1 .taken) in
-    (q .before .in-octets .ensures (t .0) .2, q .in-octets2 .ensures (t .1) .2)
+    let e = c .before .before .in-octets .ensures (c .before .if1 .taken) in
+    (e .3, e .4)
 
 copy-bits-requires : tie.Need-copy-bits-requires
 copy-bits-requires c κs = search needs
@@ -37,12 +26,10 @@ returns : tie.Need-returns
 returns c =
     let o = c .before .before in
     let q = o .before .before .before in
-    let t = both (q .before .in-octets .result) (q .in-octets2 .result) (o .before .before .if1 .taken) in
-    let z = q .before .before .before in
+    let z = q .before .before in
     let a = z .before .before .args in
     copied-all (a .s .now) (a .source .now) (o .copy-octets .last .0) (a .at) (a .from) (a .n) (λ i. omega (arith, z .before .slice-known .given i))
-    (λ i. omega (arith, z .shared-slice-known .given i)) (q .before .in-octets .ensures (t .0)) (q .in-octets2 .ensures (t .1))
-    (o .copy-octets .ensures)
+    (λ i. omega (arith, z .shared-slice-known .given i)) (q .in-octets .ensures (o .before .before .if1 .taken)) (o .copy-octets .ensures)
 
 same-length-2 : tie.Need-same-length-2
 same-length-2 c = search needs
@@ -55,7 +42,6 @@ copy-spec =
     tie.close
     (tie.spec
     in-octets-requires
-    in-octets-requires-2
     cast-copy-octets
     copy-octets-requires
     copy-bits-requires
