@@ -584,6 +584,67 @@ struct sdsl_scrambled sdsl_descramble_frame(uint32_t end, uint32_t state,
                                             const uint8_t *in, size_t in_len,
                                             uint8_t *out, size_t out_len);
 
+/* ---- The receiver: bits as they come off the line ---- */
+
+#define SDSL_LINE_OCTETS 532         /* the room in which a receiver keeps the last bits of the line */
+#define SDSL_LUMP_BITS_MAX 4096      /* bits that one call takes, at most */
+#define SDSL_HEARD_MAX 4294967295u   /* bits that a receiver takes in all */
+#define SDSL_PLACE_MIN 23            /* the least place of a frame: 23 bits come before it */
+
+/* A receiver's state. Keep it, with its line room, and pass both to the next call; do not change them. */
+struct sdsl_receiver {
+    uint32_t end;   /* the end whose bits are heard, enum sdsl_end */
+    uint32_t heard; /* the bits so far */
+    uint32_t from;  /* the place to go on from: behind the last frame that was given */
+};
+
+/* What a start and a call give. */
+struct sdsl_received {
+    uint32_t answer;            /* enum sdsl_answer */
+    uint32_t given;             /* 1 where a frame was given, else 0 */
+    uint32_t place;             /* the place of its first sync bit, 23 or more; with none 0 */
+    struct sdsl_receiver state; /* for the next call; after a refusal the one that was passed in */
+};
+
+/*
+ * Starts a receiver.
+ *   end  the end whose bits are heard: an LTU hears SDSL_NTU, an NTU hears SDSL_LTU
+ * It needs a line room of SDSL_LINE_OCTETS octets beside it, which may hold anything.
+ * Answers 0, 2 (end).
+ */
+struct sdsl_received sdsl_receive_start(uint32_t end);
+
+/*
+ * Takes the next bits off the line, however many the line chip has, and gives the activation frame that ends in them, if one does.
+ *   state  what the start or the last call gave
+ *   line   532 octets, the last bits of the line, oldest first: written by every call that is not refused
+ *   lump   the bits, as they lie in a frame: the first at weight 1 of octet 0
+ *   bits   how many, 0 to 4,096; the rest of the lump is not looked at. With 0 the pointer may be NULL
+ *   frame  529 octets, written only where `given` is 1: the frame, descrambled, its pad zero. sdsl_frame_read takes it with answer 0
+ * Bits are counted from 0, the first that the receiver took; a frame's place is that of its first sync bit.
+ * A frame lies at a place with at least 23 bits before it, where one of the two sync words stands, and the rest, descrambled with those
+ * 23 bits as state, reads with answer 0. The earliest such place is given, then the earliest behind that frame's last bit, and so on,
+ * in the call that brings the frame's last bit. What is given, and where, does not depend on how the bits were cut into lumps. A call
+ * never gives two: a frame has 4,227 bits.
+ * Answers 0, 1 (bits over eight times the lump's octets, or line or frame of another length), 2 (end), 4 (bits over 4,096, or more than
+ * 4,294,967,295 in all).
+ *
+ * Example:
+ *     uint8_t frame[SDSL_FRAME_OCTETS] = {0x6B, 0x3E}, sent[SDSL_FRAME_OCTETS], line[SDSL_LINE_OCTETS], heard[SDSL_FRAME_OCTETS];
+ *     const uint8_t before[3] = {0, 0, 0x40}; // 23 bits: their last is a one, so the LTU's scrambler stands at 1
+ *     sdsl_scramble_frame(SDSL_LTU, 1, frame, sizeof frame, sent, sizeof sent);
+ *     struct sdsl_received got = sdsl_receive_start(SDSL_LTU);
+ *     got = sdsl_receive(got.state, line, sizeof line, before, sizeof before, 23, heard, sizeof heard);
+ *     got = sdsl_receive(got.state, line, sizeof line, sent, sizeof sent, 4096, heard, sizeof heard);
+ *     assert(got.answer == SDSL_DONE && got.given == 0); // 131 bits are still to come, from octet 512 on
+ *     got = sdsl_receive(got.state, line, sizeof line, sent + 512, sizeof sent - 512, 131, heard, sizeof heard);
+ *     assert(got.given == 1 && got.place == 23 && memcmp(heard, frame, sizeof frame) == 0);
+ */
+struct sdsl_received sdsl_receive(struct sdsl_receiver state,
+                                  uint8_t *line, size_t line_len,
+                                  const uint8_t *lump, size_t lump_len, size_t bits,
+                                  uint8_t *frame, size_t frame_len);
+
 /* ---- Symbols: levels and the encoder (clauses 4.1.6 and 4.3.3) ---- */
 
 #define SDSL_SYMBOL_MAX 7u         /* three bits X1 X2 X3, X1 at weight 4 */

@@ -3,3 +3,4 @@ pub mod SymbolLaws
 pub mod One
 pub mod DataOne
 pub mod ChannelOne
+pub mod ReceivingOne

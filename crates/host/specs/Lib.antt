@@ -2,5 +2,6 @@ pub mod Frames
 pub mod Data
 pub mod Channel
 pub mod Scrambling
+pub mod Receiving
 pub mod Symbols
 pub mod Supervising

@@ -2,6 +2,7 @@
 mod channel;
 mod data;
 mod frames;
+mod receiving;
 mod scrambling;
 mod supervising;
 mod symbols;

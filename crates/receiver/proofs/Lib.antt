@@ -1,0 +1,10 @@
+pub mod Earliest
+pub mod Window
+pub mod Laws
+pub mod Given
+pub mod Cut
+pub mod Call
+pub mod InCall
+pub mod Sent
+pub mod Apart
+pub mod One
