@@ -69,6 +69,10 @@ void card_start(struct card *card, uint32_t end, uint64_t seed)
     must(encoder.answer, "sdsl_encoder_start");
     card->send.reg = encoder.reg;
     card->hear.reg = encoder.reg;
+    /* Here a card makes one attempt. With more of them, start a receiver for each. */
+    struct sdsl_received frames = sdsl_receive_start(far_end(card));
+    must(frames.answer, "sdsl_receive_start");
+    card->hear.frames = frames.state;
     must(sdsl_history_start(card->send.history, sizeof card->send.history), "sdsl_history_start");
     must(sdsl_history_start(card->hear.history, sizeof card->hear.history), "sdsl_history_start");
 }
@@ -76,6 +80,11 @@ void card_start(struct card *card, uint32_t end, uint64_t seed)
 const char *card_phase(const struct card *card)
 {
     return sdsl_phase_text(card->state.phase);
+}
+
+uint32_t far_end(const struct card *card)
+{
+    return card->end == SDSL_LTU ? SDSL_NTU : SDSL_LTU;
 }
 
 void card_tell(const struct card *card, const char *format, ...)

@@ -44,17 +44,14 @@ struct sender {
     uint64_t chance;                  /* what makes the payload */
 };
 
-/* Receiver. Activation: the last bits of the line, by their number in time, and where the next frame begins. */
-#define WINDOW 8192
+/* Receiver. In activation the library finds the frames: it wants its state and the line room back with each lump of bits. */
 struct receiver {
     unsigned adapted; /* milliseconds of signal so far */
-    uint8_t window[WINDOW];
-    size_t bits;
-    bool locked;
-    size_t next;
-    unsigned finals;
-    unsigned silent; /* symbols of silence in a row */
-    bool begun;      /* the first symbol of data mode was heard */
+    struct sdsl_receiver frames;
+    uint8_t line[SDSL_LINE_OCTETS];
+    unsigned given, finals; /* frames; final ones among them */
+    unsigned silent;        /* symbols of silence in a row */
+    bool begun;             /* the first symbol of data mode was heard */
     uint32_t scrambler, reg;
     uint8_t history[SDSL_HISTORY_OCTETS];
     struct record data;
@@ -86,6 +83,7 @@ void card_report(struct card *card, uint32_t code);
 void card_tick(struct card *card);
 
 const char *card_phase(const struct card *card); /* its name */
+uint32_t far_end(const struct card *card);       /* whose bits it hears */
 
 /* A line of the story. */
 void card_tell(const struct card *card, const char *format, ...) __attribute__((format(printf, 2, 3)));

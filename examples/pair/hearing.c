@@ -7,39 +7,11 @@
 /* How long a receiver adapts before it has converged: a maker's own affair (clause 4.1), here three seconds of signal. */
 #define ADAPTING 3000
 
-/* Bits before a frame that the descrambler needs: with them its state is the sender's. */
-#define STATE_BITS 23
-
 /* So much silence between activation and data mode is no loss of a symbol or two. */
 #define SILENT_SYMBOLS 8
 
-#define NO_SYNC 2 /* neither SDSL_TRAINING nor SDSL_FINAL */
-
-static uint32_t far_end(const struct card *card)
-{
-    return card->end == SDSL_LTU ? SDSL_NTU : SDSL_LTU;
-}
-
-static unsigned window_bit(const struct receiver *r, size_t number)
-{
-    return r->window[number % WINDOW];
-}
-
-/* The sync word that begins with bit `start` of the line. */
-static unsigned sync_at(const struct receiver *r, size_t start)
-{
-    static const char words[2][SDSL_SYNC_BITS + 1] = {"11111001101011", "11010110011111"};
-    for (unsigned kind = SDSL_TRAINING; kind <= SDSL_FINAL; kind++) {
-        unsigned i = 0;
-        while (i < SDSL_SYNC_BITS && window_bit(r, start + i) == (unsigned)(words[kind][i] - '0')) {
-            i++;
-        }
-        if (i == SDSL_SYNC_BITS) {
-            return kind;
-        }
-    }
-    return NO_SYNC;
-}
+/* Where in a millisecond the host asks the line chip for bits: it takes as many as there are, and the second time there are none. */
+static const unsigned asked[] = {31, 31, 32, 65, BLOCK};
 
 static uint32_t last_bit_first(uint32_t word)
 {
@@ -64,26 +36,32 @@ static void tell_reserved(const struct card *card, const uint8_t reserved[SDSL_R
     }
 }
 
-/* A frame of the far card, from bit `start` of the line: descrambled, checked, read, and reported. */
-static void hear_frame(struct card *card, size_t start)
+/* Frames that were not given, by where the one that was given begins. Before the first nobody can tell. */
+static void tell_missed(const struct card *card, uint32_t due, uint32_t place)
 {
-    struct receiver *r = &card->hear;
+    uint32_t missed = due == 0 ? 0 : (place - due) / SDSL_FRAME_BITS;
+    if (missed > 0) {
+        card_tell(card, "misses %u frame%s", missed, missed == 1 ? "" : "s");
+    }
+}
+
+/* A frame of the far card that was given: it reads, and is reported. */
+static void hear_frame(struct card *card, const uint8_t frame[SDSL_FRAME_OCTETS])
+{
     struct wishes got = {0};
-    uint8_t line[SDSL_FRAME_OCTETS] = {0}, frame[SDSL_FRAME_OCTETS], reserved[SDSL_RESERVED_OCTETS];
-    uint32_t state = 0;
-    for (size_t i = start - STATE_BITS; i < start; i++) {
-        state = state << 1 | window_bit(r, i);
-    }
-    for (size_t i = 0; i < SDSL_FRAME_BITS; i++) {
-        line[i / 8] |= (uint8_t)(window_bit(r, start + i) << (i % 8));
-    }
-    must(sdsl_descramble_frame(far_end(card), state, line, sizeof line, frame, sizeof frame).answer, "sdsl_descramble_frame");
+    uint8_t reserved[SDSL_RESERVED_OCTETS];
     struct sdsl_frame_fields fields =
-        sdsl_frame_read(frame, sizeof frame, got.coefficients, sizeof got.coefficients, got.vendor, sizeof got.vendor,
+        sdsl_frame_read(frame, SDSL_FRAME_OCTETS, got.coefficients, sizeof got.coefficients, got.vendor, sizeof got.vendor,
                         reserved, sizeof reserved);
-    if (fields.answer != SDSL_DONE) {
-        card_tell(card, "refuses a frame (%u): %s", fields.answer, sdsl_answer_text(fields.answer));
-    } else if (fields.kind == SDSL_TRAINING && (card->state.phase == SDSL_SR || card->state.phase == SDSL_TC)) {
+    must(fields.answer, "sdsl_frame_read");
+    card->hear.given++;
+    if (fields.kind == SDSL_FINAL) {
+        card->hear.finals++;
+        card_tell(card, "hears F_c (%u of 2)", card->hear.finals);
+        if (card->hear.finals == 2) {
+            card_report(card, SDSL_SECOND_FC_OVER);
+        }
+    } else if (card->state.phase == SDSL_SR || card->state.phase == SDSL_TC) {
         got.a = card->turned ? last_bit_first(fields.a) : fields.a;
         got.b = card->turned ? last_bit_first(fields.b) : fields.b;
         card->far = got;
@@ -91,30 +69,43 @@ static void hear_frame(struct card *card, size_t start)
         tell_reserved(card, reserved);
         card_report(card, card->end == SDSL_LTU ? SDSL_TR_SEEN : SDSL_TC_SEEN);
     }
-    r->finals += sync_at(r, start) == SDSL_FINAL;
-    if (r->finals == 2) {
-        card_report(card, SDSL_SECOND_FC_OVER);
-    }
 }
 
-/* One bit in activation. Two sync words a frame apart show where frames begin, and that holds until one is missing. */
-static void hear_bit(struct card *card, unsigned bit)
+/* Whether the far card's frames are awaited. */
+static bool hears_frames(const struct card *card)
+{
+    uint32_t phase = card->state.phase;
+    return (phase == SDSL_SR || phase == SDSL_TR || phase == SDSL_TC) && card->hear.adapted >= ADAPTING;
+}
+
+/*
+ * A millisecond of frames, lump by lump. The receiver gives each frame in the lump that brings its last bit; one that was spoilt on the
+ * line is not given. Returns how many symbols were taken: those behind the last frame that is awaited are not.
+ */
+static unsigned hear_frames(struct card *card, const int32_t in[BLOCK])
 {
     struct receiver *r = &card->hear;
-    r->window[r->bits % WINDOW] = (uint8_t)bit;
-    r->bits++;
-    if (!r->locked && r->bits >= STATE_BITS + SDSL_FRAME_BITS + SDSL_SYNC_BITS) {
-        size_t start = r->bits - SDSL_FRAME_BITS - SDSL_SYNC_BITS;
-        if (sync_at(r, start) != NO_SYNC && sync_at(r, start + SDSL_FRAME_BITS) != NO_SYNC) {
-            r->locked = true;
-            r->next = start;
+    unsigned taken = 0;
+    for (size_t l = 0; l < sizeof asked / sizeof asked[0]; l++) {
+        uint8_t lump[BLOCK / 8] = {0}, frame[SDSL_FRAME_OCTETS];
+        unsigned bits = asked[l] - taken;
+        for (unsigned i = 0; i < bits; i++) {
+            lump[i / 8] |= (uint8_t)((in[taken + i] > 0) << (i % 8));
+        }
+        uint32_t due = r->frames.from; /* frames follow one another, so the next begins here; before the first this is 0 */
+        struct sdsl_received got = sdsl_receive(r->frames, r->line, sizeof r->line, lump, sizeof lump, bits, frame, sizeof frame);
+        must(got.answer, "sdsl_receive");
+        r->frames = got.state;
+        taken += bits;
+        if (got.given) {
+            tell_missed(card, due, got.place);
+            hear_frame(card, frame);
+            if (!hears_frames(card)) {
+                return taken - (got.state.heard - got.state.from);
+            }
         }
     }
-    if (r->locked && r->bits >= r->next + SDSL_FRAME_BITS) {
-        r->locked = sync_at(r, r->next) != NO_SYNC;
-        r->next += SDSL_FRAME_BITS;
-        hear_frame(card, r->next - SDSL_FRAME_BITS);
-    }
+    return taken;
 }
 
 /*
@@ -209,13 +200,9 @@ void card_hear(struct card *card, const int32_t in[BLOCK])
         signal = signal || in[i] != 0;
     }
     hear_signal(card, signal);
-    for (unsigned i = 0; i < BLOCK; i++) {
-        uint32_t phase = card->state.phase;
-        if ((phase == SDSL_SR || phase == SDSL_TR || phase == SDSL_TC) && card->hear.adapted >= ADAPTING) {
-            hear_bit(card, in[i] > 0);
-        } else if (phase == SDSL_FC || phase == SDSL_SETTLING || phase == SDSL_VALID) {
-            hear_rest(card, in + i, BLOCK - i);
-            return;
-        }
+    unsigned taken = hears_frames(card) ? hear_frames(card, in) : 0;
+    uint32_t phase = card->state.phase;
+    if (phase == SDSL_FC || phase == SDSL_SETTLING || phase == SDSL_VALID) {
+        hear_rest(card, in + taken, BLOCK - taken);
     }
 }

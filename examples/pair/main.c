@@ -166,7 +166,10 @@ int main(int argc, char **argv)
         printf("on the line: %s of the LTU's frame 1 flipped\n", down.flipped == 1 ? "one bit" : "no bit");
     }
     if (o.drop) {
-        printf("on the line: %u symbols lost; the LTU sent %u frames, the last two F_c\n", down.dropped, ltu.send.frames);
+        printf("on the line: %u symbols lost\n", down.dropped);
+    }
+    if (o.flip || o.drop) {
+        printf("the LTU sent %u frames, %u of them F_c; the NTU was given %u\n", ltu.send.frames, ltu.send.finals, ntu.hear.given);
     }
     if (heard(&ltu, &ntu) < PAYLOAD_BITS || heard(&ntu, &ltu) < PAYLOAD_BITS) {
         printf("not trained: the LTU is in %s, the NTU in %s\n", card_phase(&ltu), card_phase(&ntu));
