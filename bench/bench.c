@@ -20,7 +20,10 @@
 #include <time.h>
 
 #define SIDES 8 /* ours, plain C, and up to six others */
-#define ROWS 48
+#define ROWS 56
+
+/* A symbol lasts so long at the paper's highest rate, 2,312 kbit/s and 8 kbit/s of overhead with three bits to a symbol. */
+#define SYMBOL_NANOSECONDS (3e6 / (2312 + 8))
 
 /* One side of a row. */
 struct side {
@@ -283,9 +286,13 @@ static void print_table(void)
         double ratio = side[1].best / side[0].best;
         double asked = rows[r].beside_other ? side[2].best / side[0].best : ratio;
         int target = emulated() ? rows[r].target : rows[r].native;
-        printf("| %s | %s | %.*f | %.*f | %.2f | %d%s, %s | %.2f |", rows[r].operation, rows[r].unit, digits, side[1].best, digits,
-               side[0].best, ratio, target, rows[r].beside_other ? " in the last column" : "", asked >= target ? "met" : "not met",
-               dear_best[r][worst_of(r)] / side[0].best);
+        char aim[64] = "none";
+        if (target > 0) {
+            snprintf(aim, sizeof aim, "%d%s, %s", target, rows[r].beside_other ? " in the last column" : "",
+                     asked >= target ? "met" : "not met");
+        }
+        printf("| %s | %s | %.*f | %.*f | %.2f | %s | %.2f |", rows[r].operation, rows[r].unit, digits, side[1].best, digits,
+               side[0].best, ratio, aim, dear_best[r][worst_of(r)] / side[0].best);
         if (side[2].other == NULL) {
             printf(" | | |\n");
         } else {
@@ -314,13 +321,20 @@ static void print_worst(void)
     }
 }
 
-/* The paper's highest rate: 2,312 kbit/s and 8 kbit/s of overhead, three bits to a symbol. */
 static void print_to_spare(const struct row *row)
 {
-    double symbol = 3e6 / (2312 + 8);
     double own = sides[row - rows][0].best;
     printf("%s: %.1f ns of the %.1f ns that a symbol lasts at the highest rate: one core keeps up %.1f times%s.\n",
-           row->operation, own, symbol, symbol / own, emulated() ? " (EMULATED; says little of a real x86-64)" : "");
+           row->operation, own, SYMBOL_NANOSECONDS, SYMBOL_NANOSECONDS / own,
+           emulated() ? " (EMULATED; says little of a real x86-64)" : "");
+}
+
+/* In activation a symbol has one bit. */
+static void print_limit(const struct limit *limit)
+{
+    double own = sides[limit->row - rows][0].best, most = limit->part * SYMBOL_NANOSECONDS;
+    printf("%s: %.1f ns of the %.1f ns that a bit lasts at the highest rate; it may take %.1f: %s.\n", limit->row->operation, own,
+           SYMBOL_NANOSECONDS, most, emulated() ? "not judged (EMULATED)" : own <= most ? "met" : "not met");
 }
 
 /* The longest that a data-mode frame took: by the usual inputs of a row, or by its dearest. */
@@ -357,7 +371,7 @@ static int write_frames_to(const char *folder)
 int main(int count, char **words)
 {
     if (!make_inputs()) {
-        fprintf(stderr, "bench: sdsl_data_write or sdsl_eoc_write refused an input\n");
+        fprintf(stderr, "bench: an input was refused by sdsl_data_write or sdsl_eoc_write, or a stream is not what it has to be\n");
         return 2;
     }
     if (count == 3 && strcmp(words[1], "--frames") == 0) {
@@ -392,6 +406,9 @@ int main(int count, char **words)
     print_to_spare(encoder_row);
     print_to_spare(precoder_row);
     print_longest();
+    for (size_t i = 0; i < LIMITS; i++) {
+        print_limit(&limits[i]);
+    }
     print_worst();
     printf("%s\n", differing == 0 ? "All sides agree." : "SIDES DIFFER.");
     return differing == 0 ? 0 : 1;

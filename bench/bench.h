@@ -6,6 +6,7 @@
  *   data.c      inputs and operations of the data-mode frame
  *   eoc.c       inputs and operations of messages of the operations channel
  *   onepass.c   those messages in plain C, in one pass
+ *   receive.c   streams of bits for the receiver, a pass over one of them, and the receiver in plain C, by the bit
  *   narrow.c    the precoder in plain C with narrow products
  *   dear.c      the inputs that are dearest by construction
  *   others.c    other ways: a bit-serial register in plain C, and where they were found libosmocore, libcrcutil and GNU Radio
@@ -29,8 +30,9 @@
 #define CARDS 340   /* frames for the sorter */
 #define RUN 2048    /* symbols in a run of the encoder or precoder */
 #define CODES 20000 /* codes for the supervisor */
+#define LUMP SDSL_LUMP_BITS_MAX /* bits that the receiver takes in a call, at most */
 
-/* A side: the functions of sdsl.h, ours or those of tests/second/reference.c. */
+/* A side: the functions of sdsl.h, ours or those of tests/second/reference.c; the receiver's in plain C are in receive.c. */
 struct library {
     const char *name;
     __typeof__(sdsl_frame_write) *frame_write;
@@ -52,6 +54,8 @@ struct library {
     __typeof__(sdsl_eoc_write) *eoc_write;
     __typeof__(sdsl_eoc_read) *eoc_read;
     __typeof__(sdsl_eoc_hand_up) *eoc_hand_up;
+    __typeof__(sdsl_receive_start) *receive_start;
+    __typeof__(sdsl_receive) *receive;
     uint32_t (*sequence)(const uint8_t *octets, size_t count); /* the check sequence alone; sdsl.h does not have it */
 };
 extern const struct library ours, plain;
@@ -75,7 +79,7 @@ struct row {
     const char *operation;
     const char *unit; /* what the nanoseconds are for */
     size_t units;     /* in a pass */
-    int target;       /* how many times as fast as plain C it has to be, emulated */
+    int target;       /* how many times as fast as plain C it has to be, emulated; 0 where nothing is asked */
     int native;       /* and on a real x86-64 */
     void (*pass)(const struct library *library);
     const struct other *others; /* other ways, the first one in the main table; the last has no name */
@@ -86,6 +90,14 @@ extern const size_t row_count;
 extern const struct row *const encoder_row, *const precoder_row;
 extern const struct row *const data_row, *const message_row; /* the first of the data-mode frame's, and the first behind them */
 #define DATA_NANOSECONDS 60000                               /* that a data-mode frame may take */
+
+/* What a bit may take in the receiver, as a part of the time that it lasts at the highest rate; on a real x86-64. */
+struct limit {
+    const struct row *row;
+    double part;
+};
+#define LIMITS 3
+extern const struct limit limits[LIMITS];
 
 /* The inputs that are dearest by construction, one for each row: cases, and a pass over one of them. */
 #define CASES 520 /* of one row, at most */
@@ -150,6 +162,19 @@ bool make_message_inputs(void); /* false where a message was refused */
 typedef void message_operation(const struct library *library, const struct message_set *set, const struct message *one, size_t i);
 message_operation write_message, read_message, hand_up_message, sequence_of_message;
 
+/* Streams of bits for the receiver: of chance, of frames one behind the other, and the dear ones. */
+enum { CHANCE_STREAM, FRAMES_STREAM, WORST_STREAM, NEARLY_STREAM, ONES_STREAM, STREAMS };
+#define DEAR_STREAMS (STREAMS - WORST_STREAM)
+#define CHANCE_BITS (31 * LUMP)
+#define FRAMES_BITS (BATCH * SDSL_FRAME_BITS)
+#define WORST_BITS LUMP  /* and so many of the other dear ones */
+bool make_streams(void); /* false where one is not what it has to be */
+
+/* So many bits of a stream, in lumps of so many, to a receiver that has heard what goes before them. How many frames were given. */
+size_t receive(const struct library *library, size_t stream, size_t bits, size_t lump);
+__typeof__(sdsl_receive_start) plain_receive_start;
+__typeof__(sdsl_receive) plain_receive;
+
 /* Messages in plain C, in one pass: the check sequence by the bit, and by libosmocore's table. They have no other functions. */
 extern const struct library one_pass, one_pass_table;
 uint32_t sequence_by_bit(const uint8_t *octets, size_t count);
@@ -203,5 +228,13 @@ __typeof__(sdsl_unprecode) narrow_unprecode;
     PASS(sequence_2, sequence_of_message, ORDINARY_2) \
     PASS(sequence_20, sequence_of_message, ORDINARY_20) \
     PASS(sequence_75, sequence_of_message, ORDINARY_75)
+
+/* And of the receiver: PASS(name, stream, bits in a pass, bits in a lump). */
+#define RECEIVE_PASSES(PASS) \
+    PASS(receive_chance, CHANCE_STREAM, CHANCE_BITS, LUMP) \
+    PASS(receive_by_8, CHANCE_STREAM, 4 * LUMP, 8) \
+    PASS(receive_by_1, CHANCE_STREAM, LUMP, 1) \
+    PASS(receive_frames, FRAMES_STREAM, FRAMES_BITS, LUMP) \
+    PASS(receive_worst, WORST_STREAM, WORST_BITS, LUMP)
 
 #endif

@@ -306,6 +306,20 @@ static void message_name(size_t which, char *text, size_t room)
 MESSAGE_PASSES(MESSAGE_PASS)
 SEQUENCE_PASSES(MESSAGE_PASS)
 
+/* ---- The receiver: each row's lumps, of the dear streams ---- */
+
+static void stream_name(size_t which, char *text, size_t room)
+{
+    static const char *const names[DEAR_STREAMS] = {"a sync word at every 7th and 9th bit in turn", "as many, each with a wrong bit",
+                                                    "every bit one"};
+    snprintf(text, room, "%s", names[which]);
+}
+
+#define RECEIVE_PASS(name, stream, bits, lump) \
+    static void name(const struct library *library, size_t which) { receive(library, WORST_STREAM + which, WORST_BITS, lump); }
+
+RECEIVE_PASSES(RECEIVE_PASS)
+
 /* For operations that do not look at a message's form. */
 #define UNREAD_CASES WRONG_SEQUENCE
 
@@ -332,6 +346,9 @@ const struct dear dears[] = {
     {MESSAGE_CASES, BATCH, hand_up_20, message_name},
     {UNREAD_CASES, BATCH, sequence_2, message_name}, {UNREAD_CASES, BATCH, sequence_20, message_name},
     {UNREAD_CASES, BATCH, sequence_75, message_name},
+    {DEAR_STREAMS, WORST_BITS, receive_chance, stream_name}, {DEAR_STREAMS, WORST_BITS, receive_by_8, stream_name},
+    {DEAR_STREAMS, WORST_BITS, receive_by_1, stream_name}, {DEAR_STREAMS, WORST_BITS, receive_frames, stream_name},
+    {DEAR_STREAMS, WORST_BITS, receive_worst, stream_name},
 };
 const size_t dear_count = ITEMS(dears);
 

@@ -11,14 +11,14 @@ const struct library ours = {
     sdsl_frame_write, sdsl_frame_check, sdsl_frame_read, sdsl_scramble_frame, sdsl_descramble_frame,
     sdsl_encode, sdsl_encode_run, sdsl_precode, sdsl_unprecode, sdsl_start, sdsl_step, sdsl_run_codes,
     sdsl_data_write, sdsl_data_crc, sdsl_data_read, sdsl_data_check,
-    sdsl_eoc_write, sdsl_eoc_read, sdsl_eoc_hand_up, our_sequence,
+    sdsl_eoc_write, sdsl_eoc_read, sdsl_eoc_hand_up, sdsl_receive_start, sdsl_receive, our_sequence,
 };
 const struct library plain = {
     "plain C",
     ref_frame_write, ref_frame_check, ref_frame_read, ref_scramble_frame, ref_descramble_frame,
     ref_encode, ref_encode_run, ref_precode, ref_unprecode, ref_start, ref_step, ref_run_codes,
     ref_data_write, ref_data_crc, ref_data_read, ref_data_check,
-    ref_eoc_write, ref_eoc_read, ref_eoc_hand_up, sequence_by_bit,
+    ref_eoc_write, ref_eoc_read, ref_eoc_hand_up, plain_receive_start, plain_receive, sequence_by_bit,
 };
 
 struct results results;
@@ -126,7 +126,7 @@ bool make_inputs(void)
     make_symbols();
     make_codes();
     make_dear_inputs();
-    return make_data_inputs() && make_message_inputs();
+    return make_data_inputs() && make_message_inputs() && make_streams();
 }
 
 /* ---- A pass of each operation ---- */
@@ -321,6 +321,11 @@ MESSAGE_PASSES(MESSAGE_PASS)
 
 SEQUENCE_PASSES(SEQUENCE_PASS)
 
+#define RECEIVE_PASS(name, stream, bits, lump) \
+    static void name(const struct library *library) { receive(library, stream, bits, lump); }
+
+RECEIVE_PASSES(RECEIVE_PASS)
+
 const struct row rows[] = {
     {"write a training frame", "frame", BATCH, 4, 25, write_training, NULL, false},
     {"write a final frame", "frame", BATCH, 4, 10, write_final, NULL, false},
@@ -366,7 +371,13 @@ const struct row rows[] = {
     {"check sequence of 2 octets", "message", BATCH, 1, 4, sequence_2, sequence_2_others, false},
     {"check sequence of 20 octets", "message", BATCH, 1, 4, sequence_20, sequence_20_others, false},
     {"check sequence of 75 octets", "message", BATCH, 1, 4, sequence_75, sequence_75_others, false},
+    {"receive random bits in lumps of 4,096", "bit", CHANCE_BITS, 2, 2, receive_chance, NULL, false},
+    {"receive random bits in lumps of 8", "bit", 4 * LUMP, 0, 0, receive_by_8, NULL, false},
+    {"receive random bits in lumps of 1", "bit", LUMP, 0, 0, receive_by_1, NULL, false},
+    {"receive frames back to back in lumps of 4,096", "bit", FRAMES_BITS, 0, 0, receive_frames, NULL, false},
+    {"receive the worst stream in lumps of 4,096", "bit", WORST_BITS, 0, 0, receive_worst, NULL, false},
 };
 const size_t row_count = ITEMS(rows);
 const struct row *const encoder_row = &rows[9], *const precoder_row = &rows[11], *const data_row = &rows[16],
                         *const message_row = &rows[30];
+const struct limit limits[LIMITS] = {{&rows[44], 0.01}, {&rows[48], 1.0 / 3}, {&rows[46], 1}};
