@@ -224,6 +224,8 @@ module _ (x : Library) (one : One x) where
     bit = λ way. never (one .bit way);
     run = λ way. never (one .run way);
     frame = λ way. never (one .frame way);
+    receive-start = never (one .receive-start);
+    receive = never (one .receive);
     activation = never (one .activation);
     level = never (one .level);
     code = never (one .code);

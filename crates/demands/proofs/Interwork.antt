@@ -2,17 +2,17 @@
 use mathlib.Core.Path.{_≡_, refl, sym, ap, ap₂, _∙_, subst}
 use mathlib.Core.Bool.{true, not}
 use mathlib.Core.Logic.{⊎-elim}
-use mathlib.Core.List.{List, [], _∷_}
+use mathlib.Core.List.{List, [], _∷_, _++_, reverse}
 use Prim.Native.Nat.{ℕ, _+_, _*_, _≤_, _<_, _^_}
 use native.Mathlib.Omega.{arith}
 use borrow.Author.Tests.{eq-eqb, eqb-true, ltb-false, le-ltb, lt-leb, not-false}
 use lib.Dec.{eqb, ltb, leb}
 use lib.IntN.{ℤ}
-use lib.ListN.{length, getD, drop, replicate}
+use lib.ListN.{length, getD, take, drop, replicate}
 use lib.Seq.{sets-eq, take-at, length-take-le}
 use Rattle.answer.specs.Answer.{answer}
 use Rattle.answer.proofs.Laws.{none as none-applies, passed, given as held-given}
-use Rattle.octets.specs.Bits.{valueOf, bitsOf, octetsOf, part, laid}
+use Rattle.octets.specs.Bits.{digitsOf, valueOf, bitsOf, octetsOf, part, laid}
 use Rattle.octets.proofs.Digits.{Bits, nil-bits, cons-bits, take-bits, drop-bits}
 use Rattle.octets.proofs.Laws.{bits-bits, bits-length, octets-length, laid-length, laid-bits}
 use Rattle.octets.proofs.Words.{octets-octets}
@@ -44,7 +44,10 @@ use Rattle.demands.specs.Back.{overTheLine, Back}
 use Rattle.demands.specs.Symbols.{Precoding}
 use Rattle.demands.specs.Two.{Exact}
 use Rattle.demands.proofs.DataTwo.{data-interwork}
+use Rattle.demands.specs.Receiving.{Receives}
+use Rattle.demands.specs.ReceivingBack.{ReceivedBack}
 use Rattle.demands.proofs.EocTwo.{messages-interwork}
+use Rattle.demands.proofs.LineTwo.{one-frame-given}
 use Rattle.demands.proofs.Fit.{many, lengths-fit, training-fit, kind-fit, read-right, bit-fit}
 
 -- ---- frames
@@ -276,6 +279,27 @@ module _ (x y : Library) (ex : Exact x) (ey : Exact y) where
       ap (λ (o : Outcome None Line). y .read (record { frame = o .memory .output; coefficients = coefficients; vendor = vendor; reserved = reserved }))
       (frame-comes-back x y (ex .scrambling) (ey .scrambling) call received r (w .1) m)
 
+-- ---- over the line
+
+module _ (x y : Library) (ef : Frames x) (es : Scrambling x) (ry : Receives y) where
+  received-back : ReceivedBack x y
+  received-back c end state room line ls h he hs lr ll j n =
+      let F = x .write c .memory in
+      let w = written-out x ef c h in
+      let X : Scrambler = record { end = end; state = state } in
+      let call : FrameCall = record { end = end; state = state; frame = F; output = room } in
+      let R = frameChecks call in
+      let r : Right R =
+      passed 1 (drop 1 R) (ap not (eq-eqb _ _ (w .0))) ∙ passed 1 (drop 2 R) (ap not (eq-eqb _ _ lr))
+      ∙ passed 2 (drop 3 R) (le-ltb 1 end he) ∙ passed 4 (drop 4 R) (lt-leb (2 ^ 23) state hs)
+      ∙ passed 6 [] (ap not (eq-eqb _ _ (sound (bitsOf F) (w .2) .clear))) in
+      let t = tap-range end in
+      let v = es .frame-scrambled call r in
+      let out : x .frame scramble call .memory .output ≡ frameOut scramble X F =
+      ap (λ (m : Outcome None Line). m .memory .output) (v .2) ∙ ap (around F) (scrambles-run (tapOf end) (t .0) (t .1) state (clocked F) (v .0) (v .1)) in
+      one-frame-given y ry end state F line ls he hs (w .1) (passed 1 (bitRefusals (bitsOf F)) (ap not (eq-eqb _ _ (w .0))) ∙ w .2) ll
+      (j ∙ ap (λ (s : List ℕ). reverse (digitsOf 23 state) ++ take 4227 (bitsOf s)) out) n
+
 -- ---- the two sentences
 
 pub interwork : (x y : Library) → Exact x → Exact y → Back x y
@@ -289,5 +313,6 @@ interwork x y ex ey =
       run = run-back x y (ex .scrambling) (ey .scrambling);
       frame = frame-comes-back x y (ex .scrambling) (ey .scrambling);
       whole = whole-way x y ex ey;
+      received = received-back x y (ex .frames) (ex .scrambling) (ey .receiving);
       precoded = precoded-back x y (ex .precoding) (ey .precoding);
     }

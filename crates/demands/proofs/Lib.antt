@@ -3,7 +3,9 @@ pub mod DataLaws
 pub mod DataOurs
 pub mod DataTwo
 pub mod EocOurs
+pub mod LineOurs
 pub mod EocTwo
+pub mod LineTwo
 pub mod Fit
 pub mod Two
 pub mod Interwork
@@ -13,11 +15,13 @@ pub mod Refuted
 pub mod Rejected
 pub mod DataRejected
 pub mod EocRejected
+pub mod LineRejected
 pub mod ReservedRejected
 pub mod Follow
 pub mod Rebuilt
 pub mod WrongSteps
 pub mod DataWrong
 pub mod EocWrong
+pub mod LineWrong
 pub mod WrongFunctions
 pub mod Widened

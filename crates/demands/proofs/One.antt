@@ -65,6 +65,11 @@ use Rattle.host.specs.Symbols.{encoder}
 use Rattle.host.proofs.One.{frame-write-order, frame-read-order, history-start-order}
 use Rattle.demands.specs.Handed.{Outcome, None, none}
 use Rattle.demands.specs.HandedData.{DataWriteCall, DataCrcCall, DataReadCall}
+use Rattle.receiver.specs.declared.Received.{Received as Got}
+use Rattle.receiver.proofs.One.{receive-order}
+use Rattle.receiver.proofs.Cut.{answer-is, refused-is}
+use Rattle.host.specs.Receiving.{receiverIn}
+use Rattle.demands.specs.HandedLine.{ReceiveCall}
 use Rattle.demands.specs.HandedEoc.{EocWriteCall, EocReadCall, EocFields, EocUnitsCall}
 use Rattle.demands.specs.Library.{Library}
 use Rattle.demands.specs.Contracts.{Keeps}
@@ -72,7 +77,7 @@ use Rattle.demands.specs.One.{Answers, InTheirOrder, Ordered, One}
 use Rattle.demands.specs.Frames.{done}
 use Rattle.demands.specs.Checks.{writeChecks, readChecks, scramblerStartChecks, bitChecks, runChecks, frameChecks, encoderStartChecks, encodeChecks}
 use Rattle.demands.specs.Checks.{dataWriteChecks, dataCrcChecks, dataReadChecks}
-use Rattle.demands.specs.Checks.{eocWriteChecks, eocReadChecks, eocHandUpChecks}
+use Rattle.demands.specs.Checks.{eocWriteChecks, eocReadChecks, eocHandUpChecks, receiveStartChecks, receiveChecks}
 use Rattle.demands.specs.Checks.{encodeRunChecks, historyStartChecks, precodeChecks, startChecks, stepChecks, codesChecks}
 
 -- the numbers of an order are the table's
@@ -147,6 +152,8 @@ ordered = record {
   bit = in-turn bitChecks (λ c. bit-order (record { end = c .end; state = c .state }) (c .bit));
   run = in-turn runChecks (λ c. scrambler-order scramble (record { end = c .end; state = c .state }) (c .input) (c .bits) (c .output));
   frame = in-turn frameChecks (λ c. frame-order scramble (record { end = c .end; state = c .state }) (c .frame) (c .output));
+  receive-start = in-turn receiveStartChecks scrambler-start-order;
+  receive = in-turn receiveChecks (λ c. receive-order (receiverIn (c .state)) (c .line) (c .lump) (c .bits) (c .frame));
   activation = in-turn activationTests activation-order;
   level = in-turn dataTests data-order;
   code = in-turn backTests back-order;
@@ -327,6 +334,28 @@ module _ (x : Library) (k : Keeps x) where
       ∙ ap overheadFor (data-found-none (answer (dataReadChecks c)) (c .form) (c .size) (bitsOf (c .frame)) (other (data-read-answer c) h)))
       (λ c h. k .data-read c refl .payload-left ∙ kept (answer (dataReadChecks c)) (c .payload) _ (other (data-read-answer c) h))
 
+  receive-start-is : Answers (x .receive-start) receiveStartChecks (λ c. record { end = c; heard = 0; from = 0 }) (record { given = 0; place = 0 })
+  receive-start-is =
+      answers (ordered .receive-start) (λ c. ap (λ (g : Got). g .answer) (k .receive-start c refl))
+      (λ c h. ap (λ (g : Got). record { given = g .given; place = g .place }) (k .receive-start c refl))
+      (λ c h. ap (λ (g : Got). record { end = g .next .end; heard = g .next .heard; from = g .next .from }) (k .receive-start c refl))
+
+  pub receive-answer : (c : ReceiveCall) → x .receive c .answer ≡ answer (receiveChecks c)
+  receive-answer c = ap (λ (g : Got). g .answer) (k .receive c refl .returned) ∙ answer-is (answer (receiveChecks c)) (receiverIn (c .state)) _ (c .bits)
+
+  receive-is : Answers (x .receive) receiveChecks (λ c. record { state = c .state; line = c .line; frame = c .frame }) (record { given = 0; place = 0 })
+  receive-is =
+      answers (ordered .receive) receive-answer
+      (λ c h.
+      let e = k .receive c refl .returned ∙ refused-is (answer (receiveChecks c)) (receiverIn (c .state)) _ (c .bits) (other (receive-answer c) h) in
+      λ i. record { given = e i .given; place = e i .place })
+      (λ c h.
+      let z = other (receive-answer c) h in
+      let e = k .receive c refl .returned ∙ refused-is (answer (receiveChecks c)) (receiverIn (c .state)) _ (c .bits) z in
+      let l = k .receive c refl .line-left ∙ kept (answer (receiveChecks c)) _ _ z in
+      let f = k .receive c refl .room-left ∙ kept (answer (receiveChecks c)) _ _ z in
+      λ i. record { state = record { end = e i .next .end; heard = e i .next .heard; from = e i .next .from }; line = l i; frame = f i })
+
   read-answer : (c : _) → x .read c .answer ≡ answer (readChecks c)
   read-answer c = ap (λ (f : FrameFields). f .answer) (k .read c refl .found) ∙ found-answer (answer (readChecks c)) _
 
@@ -395,6 +424,8 @@ module _ (x : Library) (k : Keeps x) where
     bit = bit-is;
     run = run-is;
     frame = frame-is;
+    receive-start = receive-start-is;
+    receive = receive-is;
     activation = answers (ordered .activation) (λ c. k .activation c refl .answered) (λ c h. k .activation c refl .level ∙ kept _ _ _ h) (λ c h. only _);
     level = answers (ordered .level) (λ c. k .level c refl .answered) (λ c h. k .level c refl .level ∙ kept _ _ _ h) (λ c h. only _);
     code = answers (ordered .code) (λ c. k .code c refl .answered) (λ c h. k .code c refl .code ∙ kept _ _ _ h) (λ c h. only _);

@@ -40,6 +40,7 @@ use Rattle.demands.specs.Checks.{encodeRunChecks, historyStartChecks, pr
 use Rattle.demands.specs.Two.{Two}
 use Rattle.demands.specs.Three.{Three, supervisor}
 use Rattle.demands.proofs.One.{one}
+use Rattle.demands.proofs.LineOurs.{starts, receives-lump, starts-keep, receives-lump-keep}
 use Rattle.demands.proofs.EocOurs.{eoc-writes, eoc-reads, eoc-hands-up, eoc-writes-keep, eoc-reads-keep, eoc-hands-up-keep}
 use Rattle.demands.proofs.DataOurs.{writes, gives, checks, reads, writes-keep, gives-keep, checks-keep, reads-keep}
 use Rattle.demands.proofs.Two.{exact as exact-of}
@@ -83,6 +84,8 @@ ours = record {
   eoc-write = eoc-writes;
   eoc-read = eoc-reads;
   eoc-hand-up = eoc-hands-up;
+  receive-start = starts;
+  receive = receives-lump;
   scrambler-start = λ end. record { answer = answer (scramblerStartChecks end); numbers = none; memory = 0 };
   bit = λ way c.
       let n = answer (bitChecks c) in
@@ -184,6 +187,8 @@ ours-keep = record {
   eoc-write = λ c h. eoc-writes-keep c;
   eoc-read = λ c h. eoc-reads-keep c;
   eoc-hand-up = λ c h. eoc-hands-up-keep c;
+  receive-start = λ end h. starts-keep end;
+  receive = λ c h. receives-lump-keep c;
   scrambler-start = λ end h. record {
     ran = record { answer = ours .scrambler-start end .answer; next = record { end = end; state = 0 } };
     crossed = refl;

@@ -15,10 +15,11 @@ use Rattle.demands.specs.Handed.{Outcome, None, none, WriteCall, ReadCal
 use Rattle.demands.specs.Handed.{Signal}
 use Rattle.demands.specs.HandedData.{DataWriteCall, DataReadCall}
 use Rattle.demands.specs.HandedEoc.{EocWriteCall, EocReadCall, EocFields, EocUnitsCall}
+use Rattle.demands.specs.HandedLine.{ReceiveCall, GivenPlace, LineRooms}
 use Rattle.demands.specs.HandedCodes.{StepCall, Shown}
 use Rattle.demands.specs.Library.{Library}
 use Rattle.demands.specs.One.{Answers, One}
-use Rattle.demands.specs.Checks.{dataWriteChecks, dataReadChecks, eocWriteChecks, eocReadChecks, eocHandUpChecks}
+use Rattle.demands.specs.Checks.{dataWriteChecks, dataReadChecks, eocWriteChecks, eocReadChecks, eocHandUpChecks, receiveChecks}
 use Rattle.demands.specs.Checks.{writeChecks, readChecks, runChecks, frameChecks, encodeRunChecks, historyStartChecks, precodeChecks, stepChecks}
 use Rattle.demands.proofs.One.{answers, ordered, one}
 use Rattle.demands.proofs.Ours.{ours, ours-keep}
@@ -46,6 +47,7 @@ pub record Parts : Type 0 where
   pub data-write : DataWriteCall → Outcome ℕ (List ℕ)
   pub data-read : DataReadCall → Outcome DataOverhead (List ℕ)
   pub eoc : EocParts
+  pub receive : ReceiveCall → Outcome GivenPlace LineRooms
   pub run : Way → RunCall → Outcome None Line
   pub frame : Way → FrameCall → Outcome None Line
   pub encode-run : EncodeRunCall → Outcome None Codes
@@ -70,6 +72,8 @@ rebuilt p = record {
   bit = ours .bit;
   run = p .run;
   frame = p .frame;
+  receive-start = ours .receive-start;
+  receive = p .receive;
   activation = ours .activation;
   level = ours .level;
   code = ours .code;
@@ -93,6 +97,7 @@ pub record PartsAnswer (p : Parts) : Type 0 where
   pub data-write : Answers (p .data-write) dataWriteChecks (λ c. c .frame) 0
   pub data-read : Answers (p .data-read) dataReadChecks (λ c. c .payload) (overheadFor noOverhead)
   pub eoc : EocPartsAnswer (p .eoc)
+  pub receive : Answers (p .receive) receiveChecks (λ c. record { state = c .state; line = c .line; frame = c .frame }) (record { given = 0; place = 0 })
   pub run : (way : Way) → Answers (p .run way) runChecks (λ c. record { state = c .state; output = c .output }) none
   pub frame : (way : Way) → Answers (p .frame way) frameChecks (λ c. record { state = c .state; output = c .output }) none
   pub encode-run : Answers (p .encode-run) encodeRunChecks (λ c. record { register = c .register; codes = c .codes }) none
@@ -117,6 +122,8 @@ rebuilt-one p a = record {
   bit = ours-one .bit;
   run = a .run;
   frame = a .frame;
+  receive-start = ours-one .receive-start;
+  receive = a .receive;
   activation = ours-one .activation;
   level = ours-one .level;
   code = ours-one .code;
@@ -141,6 +148,7 @@ usual = record {
   data-write = ours .data-write;
   data-read = ours .data-read;
   eoc = record { write = ours .eoc-write; read = ours .eoc-read; hand-up = ours .eoc-hand-up };
+  receive = ours .receive;
   run = ours .run;
   frame = ours .frame;
   encode-run = ours .encode-run;
@@ -157,6 +165,7 @@ usual-answer = record {
   data-write = ours-one .data-write;
   data-read = ours-one .data-read;
   eoc = record { write = ours-one .eoc-write; read = ours-one .eoc-read; hand-up = ours-one .eoc-hand-up };
+  receive = ours-one .receive;
   run = ours-one .run;
   frame = ours-one .frame;
   encode-run = ours-one .encode-run;
@@ -173,6 +182,7 @@ withStep f = record {
   data-write = usual .data-write;
   data-read = usual .data-read;
   eoc = usual .eoc;
+  receive = usual .receive;
   run = usual .run;
   frame = usual .frame;
   encode-run = usual .encode-run;
@@ -197,6 +207,7 @@ stepping-one f t = rebuilt-one (withStep (stepping f t)) (record {
   data-write = usual-answer .data-write;
   data-read = usual-answer .data-read;
   eoc = usual-answer .eoc;
+  receive = usual-answer .receive;
   run = usual-answer .run;
   frame = usual-answer .frame;
   encode-run = usual-answer .encode-run;

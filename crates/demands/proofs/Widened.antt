@@ -25,6 +25,8 @@ widen x = record {
   bit = λ way c. cond (fromC .bit c) (x .bit way c) (ours .bit way c);
   run = λ way c. cond (fromC .run c) (x .run way c) (ours .run way c);
   frame = λ way c. cond (fromC .frame c) (x .frame way c) (ours .frame way c);
+  receive-start = λ e. cond (fromC .receive-start e) (x .receive-start e) (ours .receive-start e);
+  receive = λ c. cond (fromC .receive c) (x .receive c) (ours .receive c);
   activation = λ b. cond (fromC .activation b) (x .activation b) (ours .activation b);
   level = λ b. cond (fromC .level b) (x .level b) (ours .level b);
   code = λ l. cond (fromC .code l) (x .code l) (ours .code l);
@@ -57,6 +59,8 @@ module _ (x : Library) (k : KeepsFor fromC x) where
     bit = λ way c h. by-cases (fromC .bit c) (λ e. rw e (k .bit way c e)) (λ e. rw e (ours-keep .bit way c refl));
     run = λ way c h. by-cases (fromC .run c) (λ e. rw e (k .run way c e)) (λ e. rw e (ours-keep .run way c refl));
     frame = λ way c h. by-cases (fromC .frame c) (λ e. rw e (k .frame way c e)) (λ e. rw e (ours-keep .frame way c refl));
+    receive-start = λ e h. by-cases (fromC .receive-start e) (λ t. rw t (k .receive-start e t)) (λ t. rw t (ours-keep .receive-start e refl));
+    receive = λ c h. by-cases (fromC .receive c) (λ e. rw e (k .receive c e)) (λ e. rw e (ours-keep .receive c refl));
     activation = λ b h. by-cases (fromC .activation b) (λ e. rw e (k .activation b e)) (λ e. rw e (ours-keep .activation b refl));
     level = λ b h. by-cases (fromC .level b) (λ e. rw e (k .level b e)) (λ e. rw e (ours-keep .level b refl));
     code = λ l h. by-cases (fromC .code l) (λ e. rw e (k .code l e)) (λ e. rw e (ours-keep .code l refl));
@@ -92,6 +96,8 @@ module _ (x : Library) (k : KeepsFor fromC x) where
     bit = λ way c e. chosen (fromC .bit c) (x .bit way c) (ours .bit way c) e;
     run = λ way c e. chosen (fromC .run c) (x .run way c) (ours .run way c) e;
     frame = λ way c e. chosen (fromC .frame c) (x .frame way c) (ours .frame way c) e;
+    receive-start = λ e t. chosen (fromC .receive-start e) (x .receive-start e) (ours .receive-start e) t;
+    receive = λ c e. chosen (fromC .receive c) (x .receive c) (ours .receive c) e;
     activation = λ b e. chosen (fromC .activation b) (x .activation b) (ours .activation b) e;
     level = λ b e. chosen (fromC .level b) (x .level b) (ours .level b) e;
     code = λ l e. chosen (fromC .code l) (x .code l) (ours .code l) e;

@@ -41,6 +41,7 @@ use Rattle.demands.proofs.Ours.{ours, ours-keep}
 use Rattle.demands.proofs.Rebuilt.{ours-one, Parts, rebuilt, rebuilt-one, usual, usual-answer}
 use Rattle.demands.proofs.ReservedRejected.{call, call-right, trains, some-set}
 use Rattle.demands.proofs.DataWrong.{one-data-frame-built, data-frame-built, payload-built, own-six-built}
+use Rattle.demands.proofs.LineWrong.{never-gives-built, first-only-built}
 use Rattle.demands.proofs.EocWrong.{one-form-built, form-built, contents-built, hands-all-built, hands-nothing-built}
 use Rattle.demands.proofs.WrongSteps.{moves-once-built, never-opens-built, calls-exception-built, same-ticks-built, counts-codes-built, gives-up-built, ends-too-late-built}
 
@@ -53,6 +54,7 @@ withWrite f = record {
   data-write = usual .data-write;
   data-read = usual .data-read;
   eoc = usual .eoc;
+  receive = usual .receive;
   run = usual .run;
   frame = usual .frame;
   encode-run = usual .encode-run;
@@ -69,6 +71,7 @@ write-one f a = rebuilt-one (withWrite f) (record {
   data-write = usual-answer .data-write;
   data-read = usual-answer .data-read;
   eoc = usual-answer .eoc;
+  receive = usual-answer .receive;
   run = usual-answer .run;
   frame = usual-answer .frame;
   encode-run = usual-answer .encode-run;
@@ -105,6 +108,7 @@ withRead f = record {
   data-write = usual .data-write;
   data-read = usual .data-read;
   eoc = usual .eoc;
+  receive = usual .receive;
   run = usual .run;
   frame = usual .frame;
   encode-run = usual .encode-run;
@@ -128,6 +132,7 @@ read-one f a = rebuilt-one (withRead f) (record {
   data-write = usual-answer .data-write;
   data-read = usual-answer .data-read;
   eoc = usual-answer .eoc;
+  receive = usual-answer .receive;
   run = usual-answer .run;
   frame = usual-answer .frame;
   encode-run = usual-answer .encode-run;
@@ -309,6 +314,7 @@ withRun f = record {
   data-write = usual .data-write;
   data-read = usual .data-read;
   eoc = usual .eoc;
+  receive = usual .receive;
   run = f;
   frame = usual .frame;
   encode-run = usual .encode-run;
@@ -326,6 +332,7 @@ run-one f a = rebuilt-one (withRun f) (record {
   data-write = usual-answer .data-write;
   data-read = usual-answer .data-read;
   eoc = usual-answer .eoc;
+  receive = usual-answer .receive;
   run = a;
   frame = usual-answer .frame;
   encode-run = usual-answer .encode-run;
@@ -429,6 +436,7 @@ withHistory = record {
   data-write = usual .data-write;
   data-read = usual .data-read;
   eoc = usual .eoc;
+  receive = usual .receive;
   run = usual .run;
   frame = usual .frame;
   encode-run = usual .encode-run;
@@ -447,6 +455,7 @@ history-built = (
     data-write = usual-answer .data-write;
     data-read = usual-answer .data-read;
     eoc = usual-answer .eoc;
+    receive = usual-answer .receive;
     run = usual-answer .run;
     frame = usual-answer .frame;
     encode-run = usual-answer .encode-run;
@@ -482,6 +491,7 @@ withRest f e p d = record {
   data-write = usual .data-write;
   data-read = usual .data-read;
   eoc = usual .eoc;
+  receive = usual .receive;
   run = usual .run;
   frame = f;
   encode-run = e;
@@ -502,6 +512,7 @@ module _ (f : Way → FrameCall → Outcome None Line) (e : EncodeRunCall → Ou
     data-write = usual-answer .data-write;
     data-read = usual-answer .data-read;
     eoc = usual-answer .eoc;
+    receive = usual-answer .receive;
     run = usual-answer .run;
     frame = af;
     encode-run = ae;
@@ -584,6 +595,8 @@ no-straw-man = record {
   contents-unwritten = contents-built;
   hands-all = hands-all-built;
   hands-nothing = hands-nothing-built;
+  never-gives = never-gives-built;
+  first-only = first-only-built;
   moves-once = moves-once-built;
   never-opens = never-opens-built;
   calls-exception = calls-exception-built;

@@ -15,6 +15,7 @@ use Rattle.demands.specs.Checks.{writeChecks, bitChecks, runChecks, fram
 use Rattle.demands.specs.Frames.{Right, Octets, done, noneSet}
 use Rattle.demands.specs.DataBack.{DataBack}
 use Rattle.demands.specs.MessagesBack.{MessagesBack}
+use Rattle.demands.specs.ReceivingBack.{ReceivedBack}
 
 -- a frame that one card scrambles into room on the line, and the other descrambles into room of its own
 abbrev pub overTheLine : Library → Library → ℕ → ℕ → List ℕ → List ℕ → List ℕ → List ℕ
@@ -59,6 +60,8 @@ pub record Back (x y : Library) : Type 0 where
       → state < 2 ^ 23 → length line ≡ frameLength → length received ≡ frameLength
       → let reading : List ℕ → ReadCall = λ f. record { frame = f; coefficients = coefficients; vendor = vendor; reserved = reserved } in
       y .read (reading (overTheLine x y end state line received (x .write c .memory))) ≡ y .read (reading (x .write c .memory))
+  -- and over the line: a frame that is written and scrambled is what the receiver gives, however the bits are cut
+  pub received : ReceivedBack x y
   -- "The receiving end, given y, the same coefficients and the same past, gets x back."
   pub precoded : (c : PrecodeCall) (room : List ℕ) → Right (precodeChecks c) → Octets (c .symbols) → length room ≡ length (c .symbols)
       → y .decode (record { coefficients = c .coefficients; history = c .history; symbols = x .precode c .memory .room; room = room })

@@ -13,11 +13,14 @@ use Rattle.dataframe.specs.Refusals.{crcRefusals, writeRefusals as dataWriteRef
 use Rattle.eoc.specs.Refusals.{writeRefusals as eocWriteRefusals, readRefusals as eocReadRefusals}
 use Rattle.eocunits.specs.Units.{handUpRefusals}
 use Rattle.host.specs.Data.{overheadOf}
+use Rattle.receiver.specs.Promises.{receiveRefusals}
+use Rattle.host.specs.Receiving.{receiverIn}
 use Rattle.host.specs.Symbols.{encoder}
 use Rattle.host.specs.Supervising.{stateIn}
 use Rattle.demands.specs.Handed.{WriteCall, ReadCall, BitCall, RunCall, FrameCall, WordsCall, EncodeCall, EncodeRunCall, PrecodeCall}
 use Rattle.demands.specs.HandedData.{DataWriteCall, DataCrcCall, DataCheckCall, DataReadCall}
 use Rattle.demands.specs.HandedEoc.{EocWriteCall, EocReadCall, EocUnitsCall}
+use Rattle.demands.specs.HandedLine.{ReceiveCall}
 use Rattle.demands.specs.HandedCodes.{StartCall, StepCall, CodesCall}
 
 -- the checks of writing, with the coefficients as 720 octets
@@ -72,6 +75,14 @@ runChecks c = runRefusals (record { end = c .end; state = c .state }) (c .input)
 -- and a frame
 abbrev pub frameChecks : FrameCall → List Refusal
 frameChecks c = frameRefusals (record { end = c .end; state = c .state }) (c .frame) (c .output)
+
+-- of a receiver's start
+abbrev pub receiveStartChecks : ℕ → List Refusal
+receiveStartChecks end = unknownEnd end ∷ []
+
+-- and of a lump
+abbrev pub receiveChecks : ReceiveCall → List Refusal
+receiveChecks c = receiveRefusals (receiverIn (c .state)) (c .line) (c .lump) (c .bits) (c .frame)
 
 -- of an encoder's start
 abbrev pub encoderStartChecks : WordsCall → List Refusal

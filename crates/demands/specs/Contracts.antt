@@ -15,12 +15,14 @@ use Rattle.host.specs.Frames.{FrameWritten, FrameRead}
 use Rattle.host.specs.Data.{DataFrameWritten, DataCrcGiven, DataFrameRead}
 use Rattle.host.specs.Channel.{EocWritten, EocRead, EocHanded}
 use Rattle.host.specs.Scrambling.{ScramblerStarted, BitScrambled, ScrambledRun, ScrambledFrame}
+use Rattle.host.specs.Receiving.{ReceiverStarted, LumpReceived}
 use Rattle.host.specs.Symbols.{ActivationLevelGiven, DataLevelGiven, CodeGiven, EncoderStarted, SymbolEncoded, SymbolsEncoded, HistoryStarted, SampleShaped}
 use Rattle.host.specs.Supervising.{Started, StateStepped, CodesRun}
 use Rattle.demands.specs.Library.{Library}
 use Rattle.demands.specs.Handed.{WriteCall, ReadCall, BitCall, RunCall, FrameCall, WordsCall, EncodeCall, EncodeRunCall, PrecodeCall}
 use Rattle.demands.specs.HandedData.{DataWriteCall, DataCrcCall, DataCheckCall, DataReadCall}
 use Rattle.demands.specs.HandedEoc.{EocWriteCall, EocReadCall, EocUnitsCall}
+use Rattle.demands.specs.HandedLine.{ReceiveCall}
 use Rattle.demands.specs.HandedCodes.{StartCall, StepCall, CodesCall}
 use Rattle.demands.specs.FromC.{Calls}
 use Rattle.demands.specs.EveryCall.{everyCall}
@@ -75,6 +77,22 @@ pub record KeepsFor (calls : Calls) (x : Library) : Type 0 where
   -- sdsl_scramble_frame(end, state, frame, output), sdsl_descramble_frame(end, state, frame, output)
   pub frame : (way : Way) (c : FrameCall) → calls .frame c ≡ true → ScrambledFrame way (c .end) (c .state) (c .frame) (c .output)
       (record { answer = x .frame way c .answer; state = x .frame way c .memory .state }) (x .frame way c .memory .output)
+  -- sdsl_receive_start(end)
+  pub receive-start : (end : ℕ) → calls .receive-start end ≡ true → ReceiverStarted end
+      (record {
+        answer = x .receive-start end .answer;
+        given = x .receive-start end .numbers .given;
+        place = x .receive-start end .numbers .place;
+        state = x .receive-start end .memory;
+      })
+  -- sdsl_receive(state, line, lump, bits, frame)
+  pub receive : (c : ReceiveCall) → calls .receive c ≡ true → LumpReceived (c .state) (c .line) (c .lump) (c .bits) (c .frame)
+      (record {
+        answer = x .receive c .answer;
+        given = x .receive c .numbers .given;
+        place = x .receive c .numbers .place;
+        state = x .receive c .memory .state;
+      }) (x .receive c .memory .line) (x .receive c .memory .frame)
   -- sdsl_activation_level(bit)
   pub activation : (bit : ℕ) → calls .activation bit ≡ true → ActivationLevelGiven bit
       (record { answer = x .activation bit .answer; sixteenths = x .activation bit .numbers })

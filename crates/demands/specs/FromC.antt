@@ -6,10 +6,12 @@ use lib.Dec.{ltb}
 use lib.IntN.{ℤ, pos, negsuc}
 use lib.ListN.{length}
 use Rattle.host.specs.declared.data.DataOverhead.{DataOverhead}
+use Rattle.host.specs.declared.receiving.Receiver.{Receiver}
 use Rattle.host.specs.declared.supervising.Supervisor.{Supervisor}
 use Rattle.demands.specs.Handed.{WriteCall, ReadCall, BitCall, RunCall, FrameCall, WordsCall, EncodeCall, EncodeRunCall, PrecodeCall}
 use Rattle.demands.specs.HandedData.{DataWriteCall, DataCrcCall, DataCheckCall, DataReadCall}
 use Rattle.demands.specs.HandedEoc.{EocWriteCall, EocReadCall, EocUnitsCall}
+use Rattle.demands.specs.HandedLine.{ReceiveCall}
 use Rattle.demands.specs.HandedCodes.{StartCall, StepCall, CodesCall}
 
 -- a uint32_t
@@ -38,6 +40,10 @@ buffer s = usize (length s) && octets s
 abbrev pub overhead : DataOverhead → Bool
 overhead o = u32 (o .indicators) && u32 (o .eoc) && u32 (o .spare) && u32 (o .stuffing) && u32 (o .crc)
 
+-- a struct sdsl_receiver
+abbrev pub receiver : Receiver → Bool
+receiver s = u32 (s .end) && u32 (s .heard) && u32 (s .from)
+
 -- a struct sdsl_supervisor
 abbrev pub supervisor : Supervisor → Bool
 supervisor s = u32 (s .end) && u32 (s .phase) && u32 (s .ticks) && u32 (s .attempt) && u32 (s .silence) && u32 (s .converged) && u32 (s .seen)
@@ -58,6 +64,8 @@ pub record Calls : Type 0 where
   pub bit : BitCall → Bool
   pub run : RunCall → Bool
   pub frame : FrameCall → Bool
+  pub receive-start : ℕ → Bool
+  pub receive : ReceiveCall → Bool
   pub activation : ℕ → Bool
   pub level : ℕ → Bool
   pub code : ℤ → Bool
@@ -89,6 +97,8 @@ fromC = record {
   bit = λ c. u32 (c .end) && u32 (c .state) && u32 (c .bit);
   run = λ c. u32 (c .end) && u32 (c .state) && buffer (c .input) && usize (c .bits) && buffer (c .output);
   frame = λ c. u32 (c .end) && u32 (c .state) && buffer (c .frame) && buffer (c .output);
+  receive-start = λ end. u32 end;
+  receive = λ c. receiver (c .state) && buffer (c .line) && buffer (c .lump) && usize (c .bits) && buffer (c .frame);
   activation = λ bit. u32 bit;
   level = λ code. u32 code;
   code = λ sixteenths. i32 sixteenths;

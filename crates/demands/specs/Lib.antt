@@ -1,6 +1,7 @@
 pub mod Handed
 pub mod HandedData
 pub mod HandedEoc
+pub mod HandedLine
 pub mod HandedCodes
 pub mod Library
 pub mod FromC
@@ -15,6 +16,8 @@ pub mod DataBack
 pub mod Messages
 pub mod WholeUnits
 pub mod MessagesBack
+pub mod Receiving
+pub mod ReceivingBack
 pub mod Symbols
 pub mod Back
 pub mod Two
@@ -22,6 +25,7 @@ pub mod Three
 pub mod WrongLibraries
 pub mod WrongData
 pub mod WrongMessages
+pub mod WrongReceivers
 pub mod WrongReserved
 pub mod WrongSupervisors
 pub mod NoStrawMan

@@ -5,11 +5,13 @@ use lib.Ieee.{Float}
 use lib.IntN.{ℤ}
 use Rattle.recurrence.specs.Run.{Way}
 use Rattle.host.specs.declared.data.DataOverhead.{DataOverhead}
+use Rattle.host.specs.declared.receiving.Receiver.{Receiver}
 use Rattle.host.specs.declared.supervising.Supervisor.{Supervisor}
 use Rattle.demands.specs.Handed.{Outcome, None, WriteCall, ReadCall, Fields, Rooms, BitCall, RunCall, FrameCall, Line, WordsCall, EncodeCall, Symbol}
 use Rattle.demands.specs.Handed.{EncodeRunCall, Codes, PrecodeCall, Signal}
 use Rattle.demands.specs.HandedData.{DataWriteCall, DataCrcCall, Sixes, DataCheckCall, DataReadCall}
 use Rattle.demands.specs.HandedEoc.{EocWriteCall, EocReadCall, EocFields, EocUnitsCall}
+use Rattle.demands.specs.HandedLine.{ReceiveCall, GivenPlace, LineRooms}
 use Rattle.demands.specs.HandedCodes.{StartCall, StepCall, Shown, CodesCall, Attempts}
 
 -- the functions of sdsl.h
@@ -28,6 +30,8 @@ pub record Library : Type 0 where
   pub bit : Way → BitCall → Outcome ℕ ℕ
   pub run : Way → RunCall → Outcome None Line
   pub frame : Way → FrameCall → Outcome None Line
+  pub receive-start : ℕ → Outcome GivenPlace Receiver
+  pub receive : ReceiveCall → Outcome GivenPlace LineRooms
   pub activation : ℕ → Outcome ℤ None
   pub level : ℕ → Outcome ℤ None
   pub code : ℤ → Outcome ℕ None

@@ -22,7 +22,7 @@ use Rattle.demands.specs.Handed.{Outcome, none}
 use Rattle.demands.specs.Library.{Library}
 use Rattle.demands.specs.Checks.{writeChecks, readChecks, scramblerStartChecks, bitChecks, runChecks, frameChecks, encoderStartChecks, encodeChecks}
 use Rattle.demands.specs.Checks.{dataWriteChecks, dataCrcChecks, dataCheckChecks, dataReadChecks}
-use Rattle.demands.specs.Checks.{eocWriteChecks, eocReadChecks, eocHandUpChecks}
+use Rattle.demands.specs.Checks.{eocWriteChecks, eocReadChecks, eocHandUpChecks, receiveStartChecks, receiveChecks}
 use Rattle.demands.specs.Checks.{encodeRunChecks, historyStartChecks, precodeChecks, startChecks, stepChecks, codesChecks}
 
 -- a function answers by the table: by these checks, what its memory holds before, and nothing in its other numbers
@@ -57,6 +57,8 @@ pub record Ordered : Type 0 where
   pub bit : InTheirOrder rising bitChecks
   pub run : InTheirOrder rising runChecks
   pub frame : InTheirOrder rising frameChecks
+  pub receive-start : InTheirOrder rising receiveStartChecks
+  pub receive : InTheirOrder rising receiveChecks
   pub activation : InTheirOrder rising activationTests
   pub level : InTheirOrder rising dataTests
   pub code : InTheirOrder rising backTests
@@ -70,7 +72,7 @@ pub record Ordered : Type 0 where
   pub step : InTheirOrder rising stepChecks
   pub run-codes : InTheirOrder rising codesChecks
 
--- THE DEMAND, function by function: its checks, what its memory holds before (for the start of a state: 0, or no state), and the numbers that a refusal gives
+-- THE DEMAND, function by function: its checks, what its memory holds before (for the start of a state: 0, or no state; for a receiver's the end that was handed in, and zeros), and the numbers that a refusal gives
 pub record One (x : Library) : Type 0 where
   pub write : Answers (x .write) writeChecks (λ c. c .frame) none
   pub check : Answers (x .check) checkRefusals (λ c. none) none
@@ -87,6 +89,8 @@ pub record One (x : Library) : Type 0 where
   pub bit : (way : Way) → Answers (x .bit way) bitChecks (λ c. c .state) 0
   pub run : (way : Way) → Answers (x .run way) runChecks (λ c. record { state = c .state; output = c .output }) none
   pub frame : (way : Way) → Answers (x .frame way) frameChecks (λ c. record { state = c .state; output = c .output }) none
+  pub receive-start : Answers (x .receive-start) receiveStartChecks (λ c. record { end = c; heard = 0; from = 0 }) (record { given = 0; place = 0 })
+  pub receive : Answers (x .receive) receiveChecks (λ c. record { state = c .state; line = c .line; frame = c .frame }) (record { given = 0; place = 0 })
   pub activation : Answers (x .activation) activationTests (λ c. none) (pos 0)
   pub level : Answers (x .level) dataTests (λ c. none) (pos 0)
   pub code : Answers (x .code) backTests (λ c. none) 0

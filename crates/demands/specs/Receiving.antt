@@ -50,8 +50,8 @@ pub data NoneRefused (x : Library) : Receiver → List ℕ → List LumpCall →
 
 -- lumps that fit: the count is within the lump and within 4,096, the frame room has 529 octets, and all bits do not pass 4,294,967,295 after so many
 pub data AllFit : ℕ → List LumpCall → Type 0 where
-  none : (heard : ℕ) → AllFit heard []
-  one : (heard : ℕ) (l : LumpCall) (ls : List LumpCall) → l .lump .count ≤ 8 * length (l .lump .octets) → l .lump .count ≤ mostBits
+  no-lump : (heard : ℕ) → AllFit heard []
+  lump-fits : (heard : ℕ) (l : LumpCall) (ls : List LumpCall) → l .lump .count ≤ 8 * length (l .lump .octets) → l .lump .count ≤ mostBits
       → length (l .room) ≡ frameLength → heard + l .lump .count ≤ mostHeard → AllFit (heard + l .lump .count) ls → AllFit heard (l ∷ ls)
 
 -- BITS OFF THE LINE

@@ -13,7 +13,7 @@ use Rattle.receiver.specs.Calls.{joinedBits, allHanded}
 use Rattle.demands.specs.Handed.{WriteCall}
 use Rattle.demands.specs.Library.{Library}
 use Rattle.demands.specs.Checks.{writeChecks}
-use Rattle.demands.specs.Frames.{Right, Octets}
+use Rattle.demands.specs.Frames.{Right}
 use Rattle.demands.specs.Receiving.{LumpCall, lumpsOf, heardBy, NoneRefused}
 
 -- the bits on the line: the sender's last 23, the oldest first, and a frame that x scrambles
@@ -25,7 +25,7 @@ sentBy x end state frame room =
 -- BACK: a frame that x writes and scrambles behind its last 23 bits, y gives at place 23, as it was written
 abbrev pub ReceivedBack : Library → Library → Type 0
 ReceivedBack x y =
-    (c : WriteCall) (end state : ℕ) (room line : List ℕ) (ls : List LumpCall) → Right (writeChecks c) → Octets (c .vendor) → end ≤ 1 → state < 2 ^ reach
+    (c : WriteCall) (end state : ℕ) (room line : List ℕ) (ls : List LumpCall) → Right (writeChecks c) → end ≤ 1 → state < 2 ^ reach
     → length room ≡ frameLength → length line ≡ lineLength → joinedBits (lumpsOf ls) ≡ sentBy x end state (x .write c .memory) room
     → NoneRefused y (y .receive-start end .memory) line ls
     → allHanded (heardBy y end line ls) ≡ record { place = reach; frame = x .write c .memory } ∷ []

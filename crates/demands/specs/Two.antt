@@ -5,6 +5,7 @@ use Rattle.demands.specs.Frames.{Frames, Scrambling}
 use Rattle.demands.specs.Symbols.{Symbols, Precoding}
 use Rattle.demands.specs.DataFrames.{DataFrames}
 use Rattle.demands.specs.Messages.{Messages}
+use Rattle.demands.specs.Receiving.{Receives}
 use Rattle.demands.specs.Back.{Back}
 
 -- the first sentence of the demand
@@ -13,6 +14,7 @@ pub record Exact (x : Library) : Type 0 where
   pub data-frames : DataFrames x
   pub messages : Messages x
   pub scrambling : Scrambling x
+  pub receiving : Receives x
   pub symbols : Symbols x
   pub precoding : Precoding x
 

@@ -24,6 +24,8 @@ pub record EightUnused (x : Library) : Type 0 where
   pub bit : (way : Way) → NeverEight (x .bit way)
   pub run : (way : Way) → NeverEight (x .run way)
   pub frame : (way : Way) → NeverEight (x .frame way)
+  pub receive-start : NeverEight (x .receive-start)
+  pub receive : NeverEight (x .receive)
   pub activation : NeverEight (x .activation)
   pub level : NeverEight (x .level)
   pub code : NeverEight (x .code)

@@ -9,6 +9,7 @@ use Rattle.demands.specs.Library.{Library}
 use Rattle.demands.specs.Handed.{WriteCall, ReadCall, BitCall, RunCall, FrameCall, WordsCall, EncodeCall, EncodeRunCall, PrecodeCall}
 use Rattle.demands.specs.HandedData.{DataWriteCall, DataCrcCall, DataCheckCall, DataReadCall}
 use Rattle.demands.specs.HandedEoc.{EocWriteCall, EocReadCall, EocUnitsCall}
+use Rattle.demands.specs.HandedLine.{ReceiveCall}
 use Rattle.demands.specs.HandedCodes.{StartCall, StepCall, CodesCall}
 use Rattle.demands.specs.FromC.{Calls, fromC}
 use Rattle.demands.specs.Contracts.{KeepsFor, Keeps}
@@ -29,6 +30,8 @@ pub record SameFor (calls : Calls) (x y : Library) : Type 0 where
   pub bit : (way : Way) (c : BitCall) → calls .bit c ≡ true → x .bit way c ≡ y .bit way c
   pub run : (way : Way) (c : RunCall) → calls .run c ≡ true → x .run way c ≡ y .run way c
   pub frame : (way : Way) (c : FrameCall) → calls .frame c ≡ true → x .frame way c ≡ y .frame way c
+  pub receive-start : (end : ℕ) → calls .receive-start end ≡ true → x .receive-start end ≡ y .receive-start end
+  pub receive : (c : ReceiveCall) → calls .receive c ≡ true → x .receive c ≡ y .receive c
   pub activation : (bit : ℕ) → calls .activation bit ≡ true → x .activation bit ≡ y .activation bit
   pub level : (code : ℕ) → calls .level code ≡ true → x .level code ≡ y .level code
   pub code : (sixteenths : ℤ) → calls .code sixteenths ≡ true → x .code sixteenths ≡ y .code sixteenths

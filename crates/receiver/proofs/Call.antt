@@ -3,7 +3,7 @@ use mathlib.Core.Path.{_≡_, refl, sym, ap, ap₂, subst, _∙_}
 use mathlib.Core.Bool.{Bool, true, false, cond, _&&_}
 use mathlib.Core.Logic.{_⊎_, inl, inr}
 use mathlib.Core.List.{List, _++_}
-use Prim.Native.Nat.{ℕ, zero, suc, _+_, _-_, _*_, _≤_, _<_, min, max}
+use Prim.Native.Nat.{ℕ, _+_, _-_, _*_, _≤_, _<_, min, max}
 use native.Mathlib.Decide.{decLe}
 use native.Mathlib.Omega.{arith}
 use borrow.Author.Tests.{ltb-true, lt-leb}
@@ -21,7 +21,7 @@ use Rattle.receiver.specs.declared.Receiver.{Receiver}
 use Rattle.receiver.specs.declared.Received.{Received}
 use Rattle.receiver.proofs.Earliest.{First, first-is, first-one}
 use Rattle.receiver.proofs.Window.{lies-more, frame-more}
-use Rattle.receiver.proofs.Cut.{call-sound, takes-sound, takes-there}
+use Rattle.receiver.proofs.Cut.{call-sound, refused-is, takes-sound, takes-there}
 
 -- a refused call
 pub refused-call : (x : Receiver) (line lump : List ℕ) (count : ℕ) (frame : List ℕ) (n : ℕ) → n ≡ answer (receiveRefusals x line lump count frame) → (n ≡ 0 → ⊥)
@@ -30,14 +30,10 @@ refused-call x line lump count frame n e z =
     let R = receiveRefusals x line lump count frame in
     let y : answer R ≡ 0 → ⊥ = λ k. z (e ∙ k) in
     record {
-      returned = of n z ∙ ap (λ (k : ℕ). receivedOf k x (found x line lump count) count) e;
+      returned = sym (refused-is n x (found x line lump count) count z) ∙ ap (λ (k : ℕ). receivedOf k x (found x line lump count) count) e;
       line-left = sym (kept (answer R) line _ y);
       room-left = sym (kept (answer R) frame _ y);
     }
-  where
-    of : (k : ℕ) → (k ≡ 0 → ⊥) → record { answer = k; given = 0; place = 0; next = x } ≡ receivedOf k x (found x line lump count) count
-    of zero h = absurd (h refl)
-    of (suc k) h = refl
 
 module _ (x : Receiver) (line lump : List ℕ) (count : ℕ) (frame room : List ℕ) (sound : answer (receiveRefusals x line lump count frame) ≡ 0)
     (joins : bitsOf room ≡ joined line lump count ++ replicate (4096 - count) 0) where

@@ -113,6 +113,11 @@ pub answer-is : (n : ℕ) (x : Receiver) (b count : ℕ) → receivedOf n x b co
 answer-is zero x b count = refl
 answer-is (suc n) x b count = refl
 
+-- a refusal gives nothing else
+pub refused-is : (n : ℕ) (x : Receiver) (b count : ℕ) → (n ≡ 0 → ⊥) → receivedOf n x b count ≡ record { answer = n; given = 0; place = 0; next = x }
+refused-is zero x b count h = absurd (h refl)
+refused-is (suc n) x b count h = refl
+
 -- a place that a call takes
 pub takes-sound : (x : Receiver) (B : List ℕ) (b : ℕ) → takes x B b ≡ true
     → (4279 ≤ x .heard + b) × (x .from + 4256 ≤ x .heard + b) × (liesAt (x .end) B b ≡ true)

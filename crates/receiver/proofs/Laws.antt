@@ -1,11 +1,14 @@
 -- Laws for the functions. Assumes nothing.
 use mathlib.Core.Path.{_≡_, refl, sym, ap, ap₂, subst, _∙_}
 use mathlib.Core.Bool.{Bool, true, false, cond, not, _||_, _&&_}
+use mathlib.Core.Logic.{_⊎_, inl, inr}
 use mathlib.Core.List.{List, [], _++_, reverse, append-nil}
 use Prim.Native.Nat.{ℕ, suc, _+_, _-_, _*_, _/_, _%_, _^_, _≤_, _<_, min, max}
 use native.Mathlib.Decide.{decLe}
+use native.Mathlib.Nat.{mul-comm, div-div-eq-div-mul, zero-div}
 use native.Mathlib.Omega.{arith}
-use borrow.Author.Tests.{eq-eqb, ne-eqb, lt-ltb, le-ltb, lt-leb}
+use borrow.Author.Tests.{eqb-true, eq-eqb, ne-eqb, lt-ltb, le-ltb, lt-leb}
+use lib.Bits.{bitAnd, bitXor, and-step, xor-add-and, and-shr, xor-shr}
 use lib.Dec.{eqb, leb, ltb}
 use lib.ListN.{length, take, drop, replicate, length-append, length-drop, length-replicate, replicate-append-replicate}
 use lib.Seq.{length-take-le, take-all, drop-at, sets, sets-eq}
@@ -43,9 +46,108 @@ pub sync-is : (x : ℕ) → x % 16384 ≡ 13727 → true ≡ syncIn x
 unfolding valueOf trainingSync finalSync
 sync-is x e = sym (ap (λ (t : Bool). t || eqb (x % 2 ^ 14) 15979) (eq-eqb _ _ e))
 
+-- one of the two
+which : (v : ℕ) → syncIn v ≡ true → (v % 2 ^ 14 ≡ 13727) ⊎ (v % 2 ^ 14 ≡ 15979)
+unfolding valueOf trainingSync finalSync
+which v e = pick (eqb (v % 2 ^ 14) 13727) refl
+  where
+    pick : (t : Bool) → eqb (v % 2 ^ 14) 13727 ≡ t → (v % 2 ^ 14 ≡ 13727) ⊎ (v % 2 ^ 14 ≡ 15979)
+    pick true f = inl (eqb-true _ _ f)
+    pick false f = inr (eqb-true _ _ (sym (ap (λ (s : Bool). s || eqb (v % 2 ^ 14) 15979) f) ∙ e))
+
 pub sync-other : (x : ℕ) → (x % 16384 ≡ 13727 → ⊥) → eqb (x % 16384) 15979 ≡ syncIn x
 unfolding valueOf trainingSync finalSync
 sync-other x e = sym (ap (λ (t : Bool). t || eqb (x % 2 ^ 14) 15979) (ne-eqb _ _ e))
+
+-- ---- all digits at once
+
+-- the digits of a conjunction and of an exclusive or
+and-one : (a b : ℕ) → a % 2 ≡ 1 → b % 2 ≡ 1 → bitAnd a b % 2 ≡ 1
+and-one a b h k = ap (λ (n : ℕ). n % 2) (and-step a b) ∙ omega (arith, h, k)
+
+xor-one : (a b : ℕ) → a % 2 + b % 2 ≡ 1 → bitXor a b % 2 ≡ 1
+xor-one a b h = omega (arith, h, xor-add-and a b)
+
+first-one-of : (a b : ℕ) → a ≡ 1 → b ≡ 0 → a + b ≡ 1
+first-one-of a b h k = ap₂ _+_ h k
+
+second-one-of : (a b : ℕ) → a ≡ 0 → b ≡ 1 → a + b ≡ 1
+second-one-of a b h k = ap₂ _+_ h k
+
+module _ (x j : ℕ) where
+  -- x, shifted by k
+  swap : (k : ℕ) → x / 2 ^ k / 2 ^ j ≡ x / 2 ^ j / 2 ^ k
+  swap k =
+      div-div-eq-div-mul x (2 ^ k) (2 ^ j) ∙ ap (λ (n : ℕ). x / n) (mul-comm (2 ^ k) (2 ^ j)) ∙ sym (div-div-eq-div-mul x (2 ^ j) (2 ^ k))
+
+  abbrev Digit : ℕ → Type 0
+  Digit r = r / 2 ^ j % 2 ≡ 1
+
+  both-ones : (a b : ℕ) → Digit a → Digit b → Digit (bitAnd a b)
+  both-ones a b h k = ap (λ (n : ℕ). n % 2) (and-shr a b j) ∙ and-one (a / 2 ^ j) (b / 2 ^ j) h k
+
+  one : (k : ℕ) → x / 2 ^ j / 2 ^ k % 2 ≡ 1 → Digit (x / 2 ^ k)
+  one k h = ap (λ (n : ℕ). n % 2) (swap k) ∙ h
+
+  turn : (k l : ℕ) → x / 2 ^ j / 2 ^ k % 2 + x / 2 ^ j / 2 ^ l % 2 ≡ 1 → Digit (bitXor (x / 2 ^ k) (x / 2 ^ l))
+  turn k l h =
+      ap (λ (n : ℕ). n % 2) (xor-shr (x / 2 ^ k) (x / 2 ^ l) j)
+      ∙ xor-one (x / 2 ^ k / 2 ^ j) (x / 2 ^ l / 2 ^ j) (ap₂ (λ (a b : ℕ). a % 2 + b % 2) (swap k) (swap l) ∙ h)
+
+-- what `may_begin` computes
+abbrev pub mayBegin : ℕ → ℕ
+mayBegin x =
+    let ones = bitAnd (bitAnd (bitAnd (bitAnd (bitAnd x (x / 2 ^ 1)) (x / 2 ^ 3)) (x / 2 ^ 10)) (x / 2 ^ 12)) (x / 2 ^ 13) in
+    let early = bitAnd (bitXor (x / 2 ^ 2) (x / 2 ^ 5)) (bitXor (x / 2 ^ 4) (x / 2 ^ 6)) in
+    let late = bitAnd (bitXor (x / 2 ^ 7) (x / 2 ^ 9)) (bitXor (x / 2 ^ 8) (x / 2 ^ 11)) in
+    bitAnd (bitAnd ones early) late
+
+-- it has a one where a sync word begins
+pub may-begin : (x j : ℕ) → syncFrom x j ≡ true → mayBegin x / 2 ^ j % 2 ≡ 1
+may-begin x j e = pick (which (x / 2 ^ j) e)
+  where
+    v : ℕ
+    v = x / 2 ^ j
+
+    from : (v % 2 ≡ 1) × (v / 2 ^ 1 % 2 ≡ 1) × (v / 2 ^ 3 % 2 ≡ 1) × (v / 2 ^ 10 % 2 ≡ 1) × (v / 2 ^ 12 % 2 ≡ 1) × (v / 2 ^ 13 % 2 ≡ 1)
+        → (v / 2 ^ 2 % 2 + v / 2 ^ 5 % 2 ≡ 1) × (v / 2 ^ 4 % 2 + v / 2 ^ 6 % 2 ≡ 1) × (v / 2 ^ 7 % 2 + v / 2 ^ 9 % 2 ≡ 1) × (v / 2 ^ 8 % 2 + v / 2 ^ 11 % 2 ≡ 1)
+        → mayBegin x / 2 ^ j % 2 ≡ 1
+    from o t =
+        let a = both-ones x j x (x / 2 ^ 1) (o .0) (one x j 1 (o .1)) in
+        let b = both-ones x j _ (x / 2 ^ 3) a (one x j 3 (o .2)) in
+        let c = both-ones x j _ (x / 2 ^ 10) b (one x j 10 (o .3)) in
+        let d = both-ones x j _ (x / 2 ^ 12) c (one x j 12 (o .4)) in
+        let ones = both-ones x j _ (x / 2 ^ 13) d (one x j 13 (o .5)) in
+        let early = both-ones x j _ _ (turn x j 2 5 (t .0)) (turn x j 4 6 (t .1)) in
+        let late = both-ones x j _ _ (turn x j 7 9 (t .2)) (turn x j 8 11 (t .3)) in
+        both-ones x j _ _ (both-ones x j _ _ ones early) late
+
+    pick : (v % 2 ^ 14 ≡ 13727) ⊎ (v % 2 ^ 14 ≡ 15979) → mayBegin x / 2 ^ j % 2 ≡ 1
+    pick (inl w) =
+        from (omega arith, omega arith, omega arith, omega arith, omega arith, omega arith) (
+          first-one-of (v / 2 ^ 2 % 2) (v / 2 ^ 5 % 2) (omega arith) (omega arith),
+          first-one-of (v / 2 ^ 4 % 2) (v / 2 ^ 6 % 2) (omega arith) (omega arith),
+          first-one-of (v / 2 ^ 7 % 2) (v / 2 ^ 9 % 2) (omega arith) (omega arith),
+          first-one-of (v / 2 ^ 8 % 2) (v / 2 ^ 11 % 2) (omega arith) (omega arith),
+        )
+    pick (inr w) =
+        from (omega arith, omega arith, omega arith, omega arith, omega arith, omega arith) (
+          second-one-of (v / 2 ^ 2 % 2) (v / 2 ^ 5 % 2) (omega arith) (omega arith),
+          second-one-of (v / 2 ^ 4 % 2) (v / 2 ^ 6 % 2) (omega arith) (omega arith),
+          second-one-of (v / 2 ^ 7 % 2) (v / 2 ^ 9 % 2) (omega arith) (omega arith),
+          second-one-of (v / 2 ^ 8 % 2) (v / 2 ^ 11 % 2) (omega arith) (omega arith),
+        )
+
+-- where none may, none begins
+pub none-begins : (x r : ℕ) → ((j : ℕ) → syncFrom x j ≡ true → r / 2 ^ j % 2 ≡ 1) → r ≡ 0 → (j : ℕ) → syncFrom x j ≡ false
+none-begins x r h e j = pick (syncFrom x j) refl
+  where
+    pick : (t : Bool) → syncFrom x j ≡ t → t ≡ false
+    pick true f = absurd (no-digit (h j f))
+      where
+        no-digit : r / 2 ^ j % 2 ≡ 1 → ⊥
+        no-digit d = let z : 0 / 2 ^ j ≡ 0 = zero-div (2 ^ j) in absurd (omega (arith, d, ap (λ (n : ℕ). n / 2 ^ j) e, z))
+    pick false f = refl
 
 -- of 56 bits from a place on, those from the j-th on
 pub sync-there : (s : List ℕ) (at j v : ℕ) → at + 56 ≤ 8 * length s → j + 14 ≤ 56 → v ≡ valueOf (part (at + 0) 56 (bitsOf s))

@@ -30,7 +30,7 @@ use Rattle.scrambler.proofs.Frames.{sent, frame-back}
 use Rattle.receiver.specs.Stream.{stateAt, heardAt, frameAt, synced, reads, liesAt}
 use Rattle.receiver.specs.Given.{Given, givenAt, Earliest, GivenFrom, nothing, next, GivenOf}
 use Rattle.receiver.specs.Sent.{sentBits, afterFrame, Good, none as no-frame, more, onEnd, placedFrom, Across, here, there}
-use Rattle.receiver.proofs.Window.{lies-here}
+use Rattle.receiver.proofs.Window.{lies-sound, lies-here, lies-early, lies-late}
 use Rattle.receiver.proofs.Given.{Begins}
 
 -- what a frame that checks with 0 is
@@ -246,3 +246,23 @@ all-given x _ before after gs (more f fs o c good) b h st g a =
     (ap (λ (t : List ℕ). liesAt (x .end) (before ++ t) (length before)) (append-assoc (sentBits x f) (onEnd (afterFrame x f) fs) after)
     ∙ lies-sent x f o c before (onEnd (afterFrame x f) fs ++ after) h st)
     g (omega arith) a (λ hs k. at-once x (f ∷ fs) before after hs (more f fs o c good) b h st k)
+
+-- no frame that is given begins before place 23
+pub none-across : (end : ℕ) (bits : List ℕ) (from n : ℕ) (gs : List Given) → n ≤ 23 → GivenFrom end bits from gs → Across n gs → ⊥
+none-across end bits from n _ h (next _ p gs e g) (here _ _ a b) = absurd (omega (arith, lies-sound end bits p (e .lies) .0, a))
+none-across end bits from n _ h (next _ p gs e g) (there _ _ a) = none-across end bits (p + 4227) n gs h g a
+
+-- A FRAME ALONE behind the sender's last 23 bits: it is given, and nothing else
+pub alone : (x : Scrambler) (frame : List ℕ) (o : Octets frame) (c : answer (checkRefusals frame) ≡ 0) (before : List ℕ) → length before ≡ 23
+    → stateAt before (length before) ≡ x .state → GivenOf (x .end) (before ++ sentBits x frame) (record { place = 23; frame = frame } ∷ [])
+alone x frame o c before l st =
+    let h : 23 ≤ length before = omega (arith, l) in
+    let L = before ++ (sentBits x frame ++ []) in
+    let n : length L ≡ length before + 4227 =
+    length-append before (sentBits x frame ++ []) ∙ ap (λ (m : ℕ). length before + m) (length-append (sentBits x frame) [] ∙ omega (arith, sent-length x frame o c)) in
+    subst (λ (t : List ℕ). GivenOf (x .end) (before ++ t) (record { place = 23; frame = frame } ∷ [])) (append-nil (sentBits x frame))
+    (subst (λ (g : Given). GivenOf (x .end) L (g ∷ []))
+    (ap₂ (λ (i : ℕ) (f : List ℕ). record { place = i; frame = f }) l (comes-out x frame o c before [] h st))
+    (next 0 (length before) []
+    (record { not-before = omega arith; lies = lies-sent x frame o c before [] h st; first = λ q a b. lies-early (x .end) L q (omega (arith, l)) })
+    (nothing (length before + 4227) (λ q a. lies-late (x .end) L q (omega (arith, n))))))

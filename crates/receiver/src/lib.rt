@@ -1,7 +1,7 @@
 // The receiver (SCOPE, "Bits off the line"): lumps of bits as the line chip gives them, of any size up to 4,096, and the activation frames that lie in
 // them, each in the call that brings its last bit.
 ghost use mathlib.Core.Path.{_≡_};
-ghost use mathlib.Core.Bool.{cond};
+ghost use mathlib.Core.Bool.{true, cond};
 ghost use mathlib.Core.List.{_++_};
 ghost use Prim.Native.Nat.{ℕ, _+_, _-_, _*_, _/_, _%_, _^_, _≤_, _<_, min, max};
 ghost use lib.Dec.{ltb};
@@ -69,10 +69,23 @@ fn is_sync(x: u64) -> bool
     word == layout::FINAL_SYNC
 }
 
-// The first of n digits at which a sync word begins, or n.
+// The digits at which a sync word may begin, all at once: where both words have a one, and where one has a one and the other none by turns.
+fn may_begin(x: u64) -> u64
+    ensures { λ r. ⌜ ((j : ℕ) → syncFrom x j ≡ true → r / 2 ^ j % 2 ≡ 1) ⌝ }
+{
+    let ones = x & (x >> 1) & (x >> 3) & (x >> 10) & (x >> 12) & (x >> 13);
+    let early = ((x >> 2) ^ (x >> 5)) & ((x >> 4) ^ (x >> 6));
+    let late = ((x >> 7) ^ (x >> 9)) & ((x >> 8) ^ (x >> 11));
+    ones & early & late
+}
+
+// The first of n digits at which a sync word begins, or n. Most words have none.
 fn first_in(x: u64, n: usize) -> usize
     ensures { λ r. ⌜ r ≡ firstThat (syncFrom x) 0 n ⌝ }
 {
+    if may_begin(x) == 0 {
+        return n;
+    }
     let mut rest = x;
     let mut j: usize = 0;
     while j < n {

@@ -6,6 +6,7 @@ use native.Mathlib.Omega.{arith}
 use Rattle.octets.proofs.Digits.{rest-next}
 use Rattle.receiver.specs.Search.{syncIn, syncFrom}
 use Rattle.receiver.proofs.Earliest.{none-more, found-at, found-none}
+use Rattle.receiver.proofs.Laws.{none-begins}
 use Rattle.receiver.proofs.first_in.Statement.{statement}
 use Rattle.receiver.proofs.first_in.Tie as tie
 
@@ -15,18 +16,26 @@ Inv-loop x n rest₀ j₀ rest j = (rest ≡ x / 2 ^ j) × (j ≤ n) × ((q : �
 abbrev μ-loop : tie.MeasureT-loop
 μ-loop x n rest₀ j₀ rest j = n - j
 
+may-begin-requires : tie.Need-may-begin-requires Inv-loop μ-loop
+may-begin-requires c κs = tt
+
+returns : tie.Need-returns Inv-loop μ-loop
+returns c =
+    let a = c .before .before .args in
+    found-none (syncFrom (a .x)) 0 (a .n) (a .n) (omega arith) (λ q h l. none-begins (a .x) (c .before .may-begin .result) (c .before .may-begin .ensures) (c .if1 .taken) q)
+
 loop-holds : tie.Need-loop-holds Inv-loop μ-loop
 loop-holds c = (omega arith, omega arith, λ q h l. absurd (omega arith))
 
 is-sync-requires : tie.Need-is-sync-requires Inv-loop μ-loop
 is-sync-requires c κs = tt
 
-returns : tie.Need-returns Inv-loop μ-loop
-returns c =
+returns-2 : tie.Need-returns-2 Inv-loop μ-loop
+returns-2 c =
     let l = c .before .before .before .loop in
-    let a = c .before .before .before .before .args in
+    let a = c .before .before .before .before .before .before .args in
     found-at (syncFrom (a .x)) 0 (a .n) (l .j) (omega arith) (omega (arith, c .before .before .loop-test .taken)) (l .inv .2)
-    (ap syncIn (sym (l .inv .0)) ∙ sym (c .before .is-sync .ensures) ∙ c .if1 .taken)
+    (ap syncIn (sym (l .inv .0)) ∙ sym (c .before .is-sync .ensures) ∙ c .if2 .taken)
 
 add-j : tie.Need-add-j Inv-loop μ-loop
 add-j c = omega arith
@@ -37,16 +46,16 @@ loop-less c = omega arith
 loop-again : tie.Need-loop-again Inv-loop μ-loop
 loop-again c =
     let l = c .before .before .before .loop in
-    let a = c .before .before .before .before .args in (
+    let a = c .before .before .before .before .before .before .args in (
       rest-next (a .x) (l .j) (l .inv .0),
       omega (arith, c .before .before .loop-test .taken),
-      none-more (syncFrom (a .x)) 0 (l .j) (l .inv .2) (ap syncIn (sym (l .inv .0)) ∙ sym (c .before .is-sync .ensures) ∙ c .if1 .left),
+      none-more (syncFrom (a .x)) 0 (l .j) (l .inv .2) (ap syncIn (sym (l .inv .0)) ∙ sym (c .before .is-sync .ensures) ∙ c .if2 .left),
     )
 
-returns-2 : tie.Need-returns-2 Inv-loop μ-loop
-returns-2 c =
+returns-3 : tie.Need-returns-3 Inv-loop μ-loop
+returns-3 c =
     let l = c .before .loop in
-    let a = c .before .before .args in
+    let a = c .before .before .before .before .args in
     let e : l .j ≡ a .n = omega (arith, c .loop-test .left, l .inv .1) in
     sym e ∙ found-none (syncFrom (a .x)) 0 (a .n) (l .j) (omega (arith, e)) (l .inv .2)
 
@@ -56,10 +65,12 @@ first-in-spec =
     (tie.spec
     Inv-loop
     μ-loop
+    may-begin-requires
+    returns
     loop-holds
     is-sync-requires
-    returns
+    returns-2
     add-j
     loop-less
     loop-again
-    returns-2)
+    returns-3)
