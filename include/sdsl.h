@@ -1,6 +1,6 @@
 /*
- * sdsl.h: SDSL activation (ETSI TS 101 524-2), the data-mode frame and the messages of the operations channel (part 1), proved, for a
- * card's host software in C11 or C++. Link with libsdsl.a.
+ * sdsl.h: SDSL activation (ETSI TS 101 524-2), from bits off the line to the start-up, the data-mode frame and the messages of the
+ * operations channel (part 1), proved, for a card's host software in C11 or C++. Link with libsdsl.a.
  *
  * What holds for every function
  * - Every call ends and answers with one of the numbers of enum sdsl_answer. There is nothing to check before a call.
@@ -13,12 +13,14 @@
  *   pointer. A pointer may be NULL where its length is 0. A buffer that is written (no `const`) must not overlap another buffer of the
  *   same call: to work in place, lend a copy.
  * - The library has no state of its own, takes no lock and allocates nothing: any thread may call anything at any time. States
- *   (scrambler, register, history, supervisor) are the caller's: keep what comes back and pass it to the next call.
+ *   (scrambler, receiver with its line room, register, history, supervisor) are the caller's: keep what comes back and pass it to the
+ *   next call.
  * - It needs memcpy, memmove and memset of the C library, and nothing else.
  * - No call takes more than SDSL_STACK_OCTETS octets of stack, beside what those three take.
  *
  * Bits in octets. Bit n of the paper, n from 1, has weight 1 << ((n - 1) % 8) in octet (n - 1) / 8. The first bit on the line is
- * bit 1. This holds for frames of both kinds, for vendor data, for payload and for the scrambler's runs.
+ * bit 1. This holds for frames of both kinds, for vendor data, for payload, for the scrambler's runs, and for a receiver's lumps and
+ * line room.
  *
  * Numbers in octets. A buffer of coefficients, outputs or samples holds each number in four octets, low octet first, in two's
  * complement: coefficient 1 stands in octets 0 to 3. sdsl_put_number and sdsl_get_number put a number there and get it back. On a
@@ -37,9 +39,9 @@
 
 /* The version of this header and of the library that belongs to it. */
 #define SDSL_VERSION_MAJOR 0
-#define SDSL_VERSION_MINOR 4
+#define SDSL_VERSION_MINOR 5
 #define SDSL_VERSION_PATCH 0
-#define SDSL_VERSION "0.4.0"
+#define SDSL_VERSION "0.5.0"
 
 #ifdef __cplusplus
 extern "C" {
@@ -609,7 +611,8 @@ struct sdsl_received {
 /*
  * Starts a receiver.
  *   end  the end whose bits are heard: an LTU hears SDSL_NTU, an NTU hears SDSL_LTU
- * It needs a line room of SDSL_LINE_OCTETS octets beside it, which may hold anything.
+ * It needs a line room of SDSL_LINE_OCTETS octets beside it, which may hold anything. A refused start hands the end back in a state
+ * that every call refuses.
  * Answers 0, 2 (end).
  */
 struct sdsl_received sdsl_receive_start(uint32_t end);
