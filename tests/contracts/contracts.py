@@ -10,7 +10,10 @@ import sys
 
 ROOT = pathlib.Path(__file__).resolve().parents[2]
 # an argument's type, and the test that `fromC` makes of it
-TESTS = {"u32": "u32", "usize": "usize", "i32": "i32", "&[u8]": "buffer", "&mut [u8]": "buffer", "Supervisor": "supervisor", "DataOverhead": "overhead"}
+TESTS = {
+    "u32": "u32", "usize": "usize", "i32": "i32", "&[u8]": "buffer", "&mut [u8]": "buffer",
+    "Supervisor": "supervisor", "Receiver": "receiver", "DataOverhead": "overhead",
+}
 # the fields of a returned struct that are a state to go on with
 STATES = ("state", "register")
 
@@ -145,7 +148,8 @@ planted = [
     ("bit = x .bit way c .numbers;", "bit = x .bit way c .memory;", contracts),
     ("(x .history-start history .memory)", "history", contracts),
     ("«ended_at» = x .run-codes c .numbers .ended-at;\n        ", "", contracts),
-    ("usize (c .bits)", "u32 (c .bits)", from_c),
+    ("usize (c .bits) && buffer (c .output)", "u32 (c .bits) && buffer (c .output)", from_c),
+    ("(x .receive c .memory .line) (x .receive c .memory .frame)", "(x .receive c .memory .frame) (x .receive c .memory .line)", contracts),
     ("  -- sdsl_shaper(y)\n", "", contracts),
 ]
 lost = 0
