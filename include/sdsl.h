@@ -597,7 +597,7 @@ struct sdsl_scrambled sdsl_descramble_frame(uint32_t end, uint32_t state,
 struct sdsl_receiver {
     uint32_t end;   /* the end whose bits are heard, enum sdsl_end */
     uint32_t heard; /* the bits so far */
-    uint32_t from;  /* the place to go on from: behind the last frame that was given */
+    uint32_t from;  /* the place to go on from: behind the last frame that was given, at first 0 */
 };
 
 /* What a start and a call give. */
@@ -620,9 +620,10 @@ struct sdsl_received sdsl_receive_start(uint32_t end);
 /*
  * Takes the next bits off the line, however many the line chip has, and gives the activation frame that ends in them, if one does.
  *   state  what the start or the last call gave
- *   line   532 octets, the last bits of the line, oldest first: written by every call that is not refused
+ *   line   532 octets, the last 4,256 bits of the line, oldest first, so that the newest stands at weight 128 of the last octet: written
+ *          by every call that is not refused
  *   lump   the bits, as they lie in a frame: the first at weight 1 of octet 0
- *   bits   how many, 0 to 4,096; the rest of the lump is not looked at. With 0 the pointer may be NULL
+ *   bits   how many, 0 to 4,096; the rest of the lump is not looked at. An empty lump has 0, and may be NULL with a length of 0
  *   frame  529 octets, written only where `given` is 1: the frame, descrambled, its pad zero. sdsl_frame_read takes it with answer 0
  * Bits are counted from 0, the first that the receiver took; a frame's place is that of its first sync bit.
  * A frame lies at a place with at least 23 bits before it, where one of the two sync words stands, and the rest, descrambled with those

@@ -755,6 +755,169 @@ static uint32_t try_descramble_frame(void)
     return try_frame(sdsl_descramble_frame);
 }
 
+/* A receiver's numbers: few bits so far, or some, or nearly as many as can be; and any place to go on from, often one in reach. */
+static struct sdsl_receiver any_receiver(void)
+{
+    struct sdsl_receiver s = {.end = number(SDSL_LTU, SDSL_NTU)};
+    switch (take8() % 8) {
+    case 0:
+        s.heard = (uint32_t)take(4);
+        break;
+    case 1:
+        s.heard = SDSL_HEARD_MAX - (uint32_t)(take(2) % 8200);
+        break;
+    default:
+        s.heard = (uint32_t)(take(2) % 12000);
+    }
+    switch (take8() % 8) {
+    case 0:
+        s.from = (uint32_t)take(4);
+        break;
+    case 1:
+        s.from = s.heard;
+        break;
+    case 2:
+        s.from = s.heard - (uint32_t)(take(2) % 4300);
+        break;
+    default:
+        s.from = 0;
+    }
+    return s;
+}
+
+static unsigned bit_at(const uint8_t *octets, size_t n)
+{
+    return octets[(n - 1) / 8] >> ((n - 1) % 8) & 1;
+}
+
+/* The line room and the lump, one bit to an element, oldest first; the lump's begin at LINE_BITS. */
+#define LINE_BITS (8 * SDSL_LINE_OCTETS)
+static uint8_t heard_bits[LINE_BITS + SDSL_LUMP_BITS_MAX];
+
+static void join(const uint8_t *line, const uint8_t *lump, size_t bits)
+{
+    for (size_t i = 0; i < LINE_BITS + bits; i++) {
+        heard_bits[i] = (uint8_t)(i < LINE_BITS ? bit_at(line, i + 1) : bit_at(lump, i - LINE_BITS + 1));
+    }
+}
+
+/* The state that a descrambler has before the frame that bit k of the lump ends. */
+static uint32_t state_before(size_t k)
+{
+    uint32_t state = 0;
+    for (size_t i = 0; i < 23; i++) {
+        state = state << 1 | heard_bits[k + 7 + i];
+    }
+    return state;
+}
+
+/* Puts a frame, scrambled, where bit k of the lump ends it. */
+static void put_heard(uint32_t end, size_t k, const uint8_t *frame, uint8_t *line, uint8_t *lump)
+{
+    uint32_t state = state_before(k);
+    for (size_t n = 1; n <= SDSL_FRAME_BITS; n++) {
+        unsigned bit = bit_at(frame, n);
+        if (n > SDSL_SYNC_BITS) {
+            bit ^= (state >> (end == SDSL_LTU ? 4 : 17) ^ state >> 22) & 1;
+            state = state << 1 | bit;
+        }
+        size_t place = k + 30 + n;
+        if (place <= LINE_BITS) {
+            put_bit(line, place, bit);
+        } else {
+            put_bit(lump, place - LINE_BITS, bit);
+        }
+    }
+}
+
+static bool same_receiver(struct sdsl_receiver s, struct sdsl_receiver t)
+{
+    return s.end == t.end && s.heard == t.heard && s.from == t.from;
+}
+
+static uint32_t try_receive_start(void)
+{
+    uint32_t end = number(SDSL_LTU, SDSL_NTU);
+    struct sdsl_received r = sdsl_receive_start(end);
+    struct sdsl_receiver fresh = {end, 0, 0};
+    want(r.given == 0 && r.place == 0 && same_receiver(r.state, fresh), "starts with something heard");
+    want(r.answer == (end <= SDSL_NTU ? SDSL_DONE : SDSL_UNKNOWN), "takes another end, or refuses one of the two");
+    return r.answer;
+}
+
+/* What was given is what stands there: descrambling gives it, and checking takes it. */
+static void look_at_given(struct sdsl_received r, struct sdsl_receiver s, size_t bits, const uint8_t *frame)
+{
+    uint64_t behind = (uint64_t)r.place + SDSL_FRAME_BITS;
+    want(r.place >= SDSL_PLACE_MIN && r.place >= s.from, "gives a frame too early");
+    want(behind > s.heard && behind <= (uint64_t)s.heard + bits && r.state.from == behind, "gives a frame that does not end in the lump");
+    size_t k = (size_t)(behind - 1 - s.heard);
+    uint8_t sent[SDSL_FRAME_OCTETS] = {0}, plain[SDSL_FRAME_OCTETS];
+    for (size_t n = 1; n <= SDSL_FRAME_BITS; n++) {
+        put_bit(sent, n, heard_bits[k + 30 + n - 1]);
+    }
+    want(sdsl_descramble_frame(s.end, state_before(k), sent, sizeof sent, plain, sizeof plain).answer == SDSL_DONE &&
+         memcmp(plain, frame, sizeof plain) == 0, "gives another frame than descrambling");
+    want(sdsl_frame_check(frame, SDSL_FRAME_OCTETS) == SDSL_DONE, "gives what is no frame");
+}
+
+static uint32_t try_receive(void)
+{
+    struct sdsl_receiver s = any_receiver();
+    size_t len = take8() % 8 == 0 ? take(2) % 2048 : take(2) % 700;
+    struct lent *line = lend(length(SDSL_LINE_OCTETS), true), *lump = lend(len, false), *f = lend(length(SDSL_FRAME_OCTETS), true);
+    uint8_t how = take8() % 16;
+    size_t bits = how == 0   ? (size_t)take(8)
+                  : how == 1 ? 8 * len + take8() % 3 - 1
+                  : how == 2 ? SIZE_MAX - take8() % 16 /* so many that adding to them runs over */
+                  : how == 3 ? (size_t)SDSL_LUMP_BITS_MAX - 2 + take8() % 5
+                  : how == 4 ? 0
+                             : (size_t)take(3) % (8 * len + 1) % (SDSL_LUMP_BITS_MAX + 1);
+    /* Often the contents of the frame room are heard, and bit k of the lump ends them: at the least place, or where to go on, or beside. */
+    bool heard = take8() % 4 != 0;
+    size_t k = bits > 0 ? (size_t)take(2) % SDSL_LUMP_BITS_MAX % bits : 0;
+    how = take8() % 8;
+    s.heard = how == 1 ? SDSL_FRAME_BITS + SDSL_PLACE_MIN - 3 - (uint32_t)k + take8() % 4 : s.heard;
+    s.from = how == 2 ? s.heard + (uint32_t)k - SDSL_FRAME_BITS + take8() % 3 : s.from;
+    fill(line);
+    fill(lump);
+    fill_frame(f);
+    bool lengths = bits <= 8 * len && line->len == SDSL_LINE_OCTETS && f->len == SDSL_FRAME_OCTETS;
+    bool ranges = bits <= SDSL_LUMP_BITS_MAX && s.heard + (uint64_t)bits <= SDSL_HEARD_MAX;
+    uint32_t due = !lengths ? SDSL_BAD_LENGTH : s.end > SDSL_NTU ? SDSL_UNKNOWN : !ranges ? SDSL_OUT_OF_RANGE : SDSL_DONE;
+    uint64_t lies = UINT64_MAX; /* the place of a frame that is there */
+    if (due == SDSL_DONE) {
+        join(line->p, lump->p, bits);
+        if (heard && bits > 0) {
+            uint64_t end = (uint64_t)s.heard + k, first = s.from > SDSL_PLACE_MIN ? s.from : SDSL_PLACE_MIN;
+            bool good = sdsl_frame_check(f->p, f->len) == SDSL_DONE && end >= first + SDSL_FRAME_BITS - 1;
+            lies = good ? end - (SDSL_FRAME_BITS - 1) : lies;
+            put_heard(s.end, k, f->p, line->p, lump->p);
+            join(line->p, lump->p, bits);
+        }
+    }
+    fill(f);
+    keep();
+    struct sdsl_received r = sdsl_receive(s, line->p, line->len, lump->p, lump->len, bits, f->p, f->len);
+    want(r.answer == due, "takes another length or number, or refuses the right ones");
+    if (r.answer != SDSL_DONE) {
+        want((r.given | r.place) == 0 && same_receiver(r.state, s), "gives numbers and refuses");
+        return r.answer;
+    }
+    want(r.given <= 1 && r.state.end == s.end && r.state.heard == s.heard + bits, "gives a wrong state");
+    if (r.given == 1) {
+        look_at_given(r, s, bits, f->p);
+        want(r.place <= lies, "gives a later frame and not the first");
+    } else {
+        want(lies == UINT64_MAX, "does not give a frame that lies there");
+        want(r.place == 0 && r.state.from == s.from && is_kept(f), "gives no frame, but a place or octets");
+    }
+    for (size_t i = 0; i < LINE_BITS; i++) {
+        want(bit_at(line->p, i + 1) == heard_bits[bits + i], "leaves other bits of the line than the last");
+    }
+    return r.answer;
+}
+
 static bool is_level(int32_t sixteenths)
 {
     return sixteenths >= -15 && sixteenths <= 15 && sixteenths % 2 != 0;
@@ -948,8 +1111,9 @@ static const struct {
     TRY(frame_write), TRY(frame_read), TRY(frame_check), TRY(data_write), TRY(data_crc), TRY(data_read), TRY(data_check),
     TRY(eoc_write), TRY(eoc_read), TRY(eoc_hand_up),
     TRY(scrambler_start), TRY(scramble_bit), TRY(descramble_bit), TRY(scramble), TRY(descramble), TRY(scramble_frame),
-    TRY(descramble_frame), TRY(activation_level), TRY(data_level), TRY(level_code), TRY(encoder_start), TRY(encode), TRY(encode_run),
-    TRY(history_start), TRY(precode), TRY(unprecode), TRY(shaper), TRY(start), TRY(step), TRY(run_codes),
+    TRY(descramble_frame), TRY(receive_start), TRY(receive),
+    TRY(activation_level), TRY(data_level), TRY(level_code), TRY(encoder_start), TRY(encode), TRY(encode_run), TRY(history_start),
+    TRY(precode), TRY(unprecode), TRY(shaper), TRY(start), TRY(step), TRY(run_codes),
 };
 
 static uint64_t seen[ITEMS(fuzz_functions)][ANSWERS];

@@ -187,6 +187,60 @@ static void runs(void)
     look(back && hearing == sent.state, "sdsl_descramble_bit");
 }
 
+/* A final frame behind three octets, heard in lumps of any size; and a receiver's named limits. */
+static void receiver(void)
+{
+    const uint8_t before[3] = {0x12, 0x34, 0xD5}; /* 24 bits: the last 23 are the scrambler's state */
+    uint8_t frame[SDSL_FRAME_OCTETS] = {0x6B, 0x3E}, sent[SDSL_FRAME_OCTETS], heard[SDSL_FRAME_OCTETS], line[SDSL_LINE_OCTETS + 1];
+    uint8_t lump[SDSL_LUMP_BITS_MAX / 8 + 1] = {0};
+    uint32_t state = 0;
+    for (int i = 1; i < 24; i++) {
+        state = 2 * state + (before[i / 8] >> (i % 8) & 1u);
+    }
+    sdsl_scramble_frame(SDSL_NTU, state, frame, sizeof frame, sent, sizeof sent);
+    memset(line, 0xA5, sizeof line);
+    memset(heard, 0xA5, sizeof heard);
+    struct sdsl_received got = sdsl_receive_start(SDSL_NTU);
+    look(got.answer == SDSL_DONE && got.state.end == SDSL_NTU && got.state.heard == 0 && got.given == 0 &&
+         sdsl_receive_start(SDSL_NTU + 1).answer == SDSL_UNKNOWN, "sdsl_receive_start");
+    got = sdsl_receive(got.state, line, SDSL_LINE_OCTETS, before, sizeof before, 24, heard, sizeof heard);
+    got = sdsl_receive(got.state, line, SDSL_LINE_OCTETS, NULL, 0, 0, heard, sizeof heard);
+    int quiet = got.answer == SDSL_DONE && got.given == 0 && got.state.heard == 24 && line[SDSL_LINE_OCTETS - 1] == 0xD5;
+    for (size_t i = 0; i + 1 < sizeof sent; i++) {
+        got = sdsl_receive(got.state, line, SDSL_LINE_OCTETS, sent + i, 1, 8, heard, sizeof heard);
+        quiet = quiet && got.answer == SDSL_DONE && got.given == 0 && got.place == 0 && heard[i] == 0xA5;
+    }
+    got = sdsl_receive(got.state, line, SDSL_LINE_OCTETS, sent + 528, 1, 3, heard, sizeof heard);
+    look(quiet && got.answer == SDSL_DONE && got.given == 1 && got.place == 24 && got.state.from == 24 + SDSL_FRAME_BITS &&
+         got.state.heard == got.state.from && memcmp(heard, frame, sizeof frame) == 0 && line[SDSL_LINE_OCTETS] == 0xA5, "sdsl_receive");
+
+    const size_t most = SDSL_LUMP_BITS_MAX;
+    struct sdsl_receiver last = got.state;
+    last.heard = SDSL_HEARD_MAX - SDSL_LUMP_BITS_MAX;
+    look(sdsl_receive(last, line, SDSL_LINE_OCTETS, lump, sizeof lump, most, heard, sizeof heard).answer == SDSL_DONE &&
+         sdsl_receive(got.state, line, SDSL_LINE_OCTETS, lump, sizeof lump, most + 1, heard, sizeof heard).answer == SDSL_OUT_OF_RANGE,
+         "the largest lump");
+    last.heard++;
+    look(sdsl_receive(last, line, SDSL_LINE_OCTETS, lump, sizeof lump, most, heard, sizeof heard).answer == SDSL_OUT_OF_RANGE &&
+         sdsl_receive(last, line, SDSL_LINE_OCTETS, lump, sizeof lump, most - 1, heard, sizeof heard).state.heard == SDSL_HEARD_MAX,
+         "the most bits in all");
+    look(sdsl_receive(got.state, line, SDSL_LINE_OCTETS - 1, lump, 1, 8, heard, sizeof heard).answer == SDSL_BAD_LENGTH &&
+         sdsl_receive(got.state, line, SDSL_LINE_OCTETS + 1, lump, 1, 8, heard, sizeof heard).answer == SDSL_BAD_LENGTH &&
+         sdsl_receive(got.state, line, SDSL_LINE_OCTETS, lump, 1, 9, heard, sizeof heard).answer == SDSL_BAD_LENGTH, "the line room");
+
+    /* Behind zeros a frame of zeros is sent as zeros: given behind so many bits, and not behind one fewer. */
+    int given[2];
+    for (uint32_t fewer = 0; fewer < 2; fewer++) {
+        size_t first = SDSL_PLACE_MIN - fewer, rest = SDSL_FRAME_BITS - SDSL_LUMP_BITS_MAX;
+        got = sdsl_receive_start(SDSL_LTU);
+        got = sdsl_receive(got.state, line, SDSL_LINE_OCTETS, lump, sizeof lump, first, heard, sizeof heard);
+        got = sdsl_receive(got.state, line, SDSL_LINE_OCTETS, frame, sizeof frame, SDSL_LUMP_BITS_MAX, heard, sizeof heard);
+        got = sdsl_receive(got.state, line, SDSL_LINE_OCTETS, lump, sizeof lump, rest, heard, sizeof heard);
+        given[fewer] = got.given == 1 && got.place == SDSL_PLACE_MIN;
+    }
+    look(given[0] && !given[1] && got.given == 0, "the least place");
+}
+
 /* Examples 9, 10 and 11. */
 static void symbols(void)
 {
@@ -384,6 +438,7 @@ int main(void)
     messages();
     message_limits();
     runs();
+    receiver();
     symbols();
     supervisor();
     texts();

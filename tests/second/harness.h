@@ -10,18 +10,20 @@
 
 /* Which groups are compiled in. With none named, all are. */
 #if defined SECOND_ALL || \
-    !(defined SECOND_FRAME || defined SECOND_DATA || defined SECOND_EOC || defined SECOND_SCRAMBLER || defined SECOND_SYMBOLS || \
-      defined SECOND_STARTUP)
+    !(defined SECOND_FRAME || defined SECOND_DATA || defined SECOND_EOC || defined SECOND_SCRAMBLER || defined SECOND_RECEIVER || \
+      defined SECOND_SYMBOLS || defined SECOND_STARTUP)
 #undef SECOND_FRAME
 #undef SECOND_DATA
 #undef SECOND_EOC
 #undef SECOND_SCRAMBLER
+#undef SECOND_RECEIVER
 #undef SECOND_SYMBOLS
 #undef SECOND_STARTUP
 #define SECOND_FRAME
 #define SECOND_DATA
 #define SECOND_EOC
 #define SECOND_SCRAMBLER
+#define SECOND_RECEIVER
 #define SECOND_SYMBOLS
 #define SECOND_STARTUP
 #endif
@@ -101,6 +103,7 @@ void second_frame(void);
 void second_data(void);
 void second_eoc(void);
 void second_scrambler(void);
+void second_receiver(void);
 void second_symbols(void);
 void second_startup(void);
 

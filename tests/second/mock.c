@@ -114,6 +114,19 @@ struct sdsl_scrambled sdsl_descramble_frame(uint32_t end, uint32_t state,
     return ref_descramble_frame(end, state, in, in_len, out, out_len);
 }
 
+struct sdsl_received sdsl_receive_start(uint32_t end)
+{
+    return ref_receive_start(end);
+}
+
+struct sdsl_received sdsl_receive(struct sdsl_receiver state,
+                                  uint8_t *line, size_t line_len,
+                                  const uint8_t *lump, size_t lump_len, size_t bits,
+                                  uint8_t *frame, size_t frame_len)
+{
+    return ref_receive(state, line, line_len, lump, lump_len, bits, frame, frame_len);
+}
+
 struct sdsl_level sdsl_activation_level(uint32_t bit)
 {
     return ref_activation_level(bit);

@@ -1060,6 +1060,105 @@ struct sdsl_scrambled ref_descramble_frame(uint32_t end, uint32_t state,
     return run_frame(descramble_bits, end, state, in, in_len, out, out_len);
 }
 
+/* ---- The receiver ---- */
+
+#define LINE_OCTETS 532
+#define LINE_BITS 4256
+#define LUMP_BITS_MAX 4096
+#define STATE_BITS 23
+
+/*
+ * Whether a frame lies behind 23 bits: window[1] to window[23] are those that come before it, and its 4,227 come next. If it does,
+ * `plain` has it, descrambled, with zeros for the pad.
+ */
+static bool is_frame(uint32_t end, const uint8_t *window, uint8_t *plain)
+{
+    const uint8_t *sent = window + STATE_BITS;
+    if (!has_sync(sent, training_sync) && !has_sync(sent, final_sync)) {
+        return false;
+    }
+    /* The oldest goes in first, so the one right before the frame ends up at weight 1. */
+    uint32_t state = 0;
+    for (size_t i = 1; i <= STATE_BITS; i++) {
+        state = 2 * state + window[i];
+    }
+    for (size_t n = 1; n <= FRAME_BITS; n++) {
+        plain[n] = n <= 14 ? sent[n] : 0;
+    }
+    descramble_bits(end, state, sent + 14, LAST_BIT - 14, plain + 14);
+    uint32_t kind = 0;
+    return judge(plain, &kind) == SDSL_DONE;
+}
+
+/* An unknown end is handed back, so that every call with that state is refused too. */
+struct sdsl_received ref_receive_start(uint32_t end)
+{
+    struct sdsl_received result = {SDSL_DONE, 0, 0, {end, 0, 0}};
+    if (end != SDSL_LTU && end != SDSL_NTU) {
+        result.answer = SDSL_UNKNOWN;
+    }
+    return result;
+}
+
+/* The refusals of a call, or 0. */
+static uint32_t judge_lump(struct sdsl_receiver state, size_t line_len, size_t lump_len, size_t bits, size_t frame_len)
+{
+    size_t whole_octets = bits / 8;
+    size_t needed = bits % 8 == 0 ? whole_octets : whole_octets + 1;
+    if (needed > lump_len || line_len != LINE_OCTETS || frame_len != 529) {
+        return SDSL_BAD_LENGTH;
+    }
+    if (state.end != SDSL_LTU && state.end != SDSL_NTU) {
+        return SDSL_UNKNOWN;
+    }
+    if (bits > LUMP_BITS_MAX) {
+        return SDSL_OUT_OF_RANGE;
+    }
+    uint64_t in_all = (uint64_t)state.heard + bits;
+    if (in_all > 4294967295) {
+        return SDSL_OUT_OF_RANGE;
+    }
+    return SDSL_DONE;
+}
+
+/*
+ * The bits of the line, oldest first, and those of the lump stand in one array, b[1] to b[4256] and on. Bit k of the lump, k from 0, is
+ * b[4257 + k], so the 4,227 bits that end with it begin at b[31 + k], and the 23 before them at b[8 + k].
+ */
+struct sdsl_received ref_receive(struct sdsl_receiver state,
+                                 uint8_t *line, size_t line_len,
+                                 const uint8_t *lump, size_t lump_len, size_t bits,
+                                 uint8_t *frame, size_t frame_len)
+{
+    struct sdsl_received result = {SDSL_DONE, 0, 0, state};
+    result.answer = judge_lump(state, line_len, lump_len, bits, frame_len);
+    if (result.answer != SDSL_DONE) {
+        return result;
+    }
+    uint8_t *b = room_for(LINE_BITS + bits, 1);
+    unpack(line, LINE_BITS, b);
+    unpack(lump, bits, b + LINE_BITS);
+    for (size_t k = 0; k < bits; k++) {
+        int64_t last = (int64_t)state.heard + (int64_t)k;
+        int64_t place = last - (LAST_BIT - 1);
+        if (place < STATE_BITS || place < (int64_t)state.from) {
+            continue;
+        }
+        uint8_t plain[FRAME_BITS + 1];
+        if (is_frame(state.end, b + 7 + k, plain)) {
+            pack(plain, FRAME_BITS, frame);
+            result.given = 1;
+            result.place = (uint32_t)place;
+            result.state.from = (uint32_t)(last + 1);
+            break;
+        }
+    }
+    result.state.heard = (uint32_t)(state.heard + bits);
+    pack(b + bits, LINE_BITS, line);
+    free(b);
+    return result;
+}
+
 /* ---- Symbols ---- */
 
 /* Place n is the level of the code Y3 Y2 Y1 Y0 that is n as a number. */

@@ -59,6 +59,13 @@ struct sdsl_scrambled ref_descramble_frame(uint32_t end, uint32_t state,
                                            const uint8_t *in, size_t in_len,
                                            uint8_t *out, size_t out_len);
 
+/* The receiver. */
+struct sdsl_received ref_receive_start(uint32_t end);
+struct sdsl_received ref_receive(struct sdsl_receiver state,
+                                 uint8_t *line, size_t line_len,
+                                 const uint8_t *lump, size_t lump_len, size_t bits,
+                                 uint8_t *frame, size_t frame_len);
+
 /* Symbols. */
 struct sdsl_level ref_activation_level(uint32_t bit);
 struct sdsl_level ref_data_level(uint32_t code);

@@ -4,8 +4,8 @@
  *     second [seed [scale]]
  *
  * The seed (decimal, or hexadecimal with 0x) decides every random case; the scale multiplies their number (1 by default, 0.1 for a
- * tenth). The groups are in second_frame.c, second_data.c, second_eoc.c, second_scrambler.c, second_symbols.c and second_startup.c. The
- * status is 0 if nothing differs, 1 if something does, 2 if the arguments make no sense.
+ * tenth). The groups are in second_frame.c, second_data.c, second_eoc.c, second_scrambler.c, second_receiver.c, second_symbols.c and
+ * second_startup.c. The status is 0 if nothing differs, 1 if something does, 2 if the arguments make no sense.
  */
 #include "harness.h"
 
@@ -52,6 +52,10 @@ int main(int argc, char **argv)
 #ifdef SECOND_SCRAMBLER
     start_chance(seed, scale);
     second_scrambler();
+#endif
+#ifdef SECOND_RECEIVER
+    start_chance(seed, scale);
+    second_receiver();
 #endif
 #ifdef SECOND_SYMBOLS
     start_chance(seed, scale);

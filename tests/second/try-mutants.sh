@@ -4,21 +4,21 @@
 # The driver is built with reference.c as it is, once for each of its groups. Then, for each mutant, a copy of reference.c with one line
 # changed by sed (ref_... renamed to mut_...) stands in for the library behind mock.c. Each mutant has to make its own group of the
 # driver end with status 1; the mock with no change has to make it end with 0. (A mutant that makes it crash is caught too.) The scale
-# is the driver's second argument. Groups: frame, data, eoc, scrambler, symbols, startup; all if none is named. Status 0 only if all of
-# that holds.
+# is the driver's second argument. Groups: frame, data, eoc, scrambler, receiver, symbols, startup; all if none is named. Status 0 only
+# if all of that holds.
 set -u
 include=$(cd "${1:-$(dirname "$0")/../../include}" && pwd) || exit 2
 cd "$(dirname "$0")" || exit 2
 scale=${2:-0.1}
 groups=${*:3}
-groups=${groups:-frame data eoc scrambler symbols startup}
+groups=${groups:-frame data eoc scrambler receiver symbols startup}
 cc=${CC:-gcc}
 flags="-std=c11 -Wall -Wextra -Wconversion -Werror -O2 -I$include"
 
 work=$(mktemp -d) || exit 2
 trap 'rm -rf "$work"' EXIT
 
-for file in harness bylist reference; do
+for file in harness bylist joined reference; do
     $cc $flags -c "$file.c" -o "$work/$file.o" || exit 2
 done
 sed 's/\bref_/mut_/g' reference.h > "$work/mutant.h"
@@ -62,12 +62,12 @@ build() {
     $cc -std=c11 -w -O2 -I"$include" -I"$work" "$work/mutant.c" "$work"/*.o -o "$work/driver"
 }
 
-# mutant TEXT SED...: one line changed (or two where TEXT says so).
+# mutant TEXT SED...: one line changed (or two or three where TEXT says so).
 mutant() {
     local text=$1 lines=1
     shift
     $on || return
-    case $text in *"(two lines)"*) lines=2 ;; esac
+    case $text in *"(two lines)"*) lines=2 ;; *"(three lines)"*) lines=3 ;; esac
     tried=$((tried + 1))
     if ! build "$lines" "$@"; then
         echo "BROKEN  $text"
@@ -333,6 +333,116 @@ mutant "right for the first bit, the rest copied" -e '/^static uint32_t scramble
 mutant "a scrambler that starts with a one" -e '/^struct sdsl_scrambled ref_scrambler_start/,/^}/s/SDSL_UNKNOWN, 0};/SDSL_UNKNOWN, 1};/'
 mutant "a bit of 2 taken" -e '/^static struct sdsl_scrambled_bit run_bit/,/^}/s/bit > 1/bit > 2/'
 mutant "descrambling keeps a plain bit in the state" -e '/^static uint32_t descramble_bits/,/^}/s/state_after(s, count)/state_after(s, count) ^ (count > 0 ? out[count] ^ s[22 + count] : 0)/'
+
+group receiver
+within is_frame "descrambled with the other end's tap" 's/descramble_bits(end, /descramble_bits(1 - end, /'
+within is_frame "the oldest of the 23 bits at weight 1" 's/window\[i\];/window[24 - i];/'
+within is_frame "the 23 bits one bit too early" 's/window\[i\];/window[i - 1];/'
+within is_frame "the scrambler clocked through the sync bits" 's/window\[i\];/window[14 + i];/'
+within is_frame "descrambled with the starting state" 's/descramble_bits(end, state, /descramble_bits(end, 0, /'
+within is_frame "sync bits descrambled too" 's/sent + 14, LAST_BIT - 14, plain + 14/sent, LAST_BIT, plain/'
+within is_frame "only training frames found" 's/ && !has_sync(sent, final_sync)//'
+within is_frame "only final frames found" 's/!has_sync(sent, training_sync) && //'
+within is_frame "check bits not looked at" 's/judge(plain, &kind) == SDSL_DONE/true/'
+within is_frame "frames with reserved bits not found" 's/== SDSL_DONE;/== SDSL_DONE \&\& all_zero(plain, RESERVED_BIT, CHECK_BIT - 1);/'
+within ref_receive "22 bits before a frame enough" 's/place < STATE_BITS/place < 22/'
+within ref_receive "24 bits before a frame wanted" 's/place < STATE_BITS/place < 24/'
+within ref_receive "no bits before a frame wanted" 's/place < STATE_BITS || //'
+within ref_receive "what stood in the line room before the first bit looked at" 's/place < STATE_BITS || place < (int64_t)state.from/state.from > 0 \&\& place < (int64_t)state.from/'
+within ref_receive "the place in 32 bits" 's/int64_t place = \(.*\);/int64_t place = (uint32_t)(\1);/'
+within ref_receive "the place in 32 bits with a sign" 's/int64_t place = \(.*\);/int64_t place = (int32_t)(\1);/'
+within ref_receive "23 new bits wanted behind a frame" 's/(int64_t)state.from)/(int64_t)state.from + (state.from > 0 ? 23 : 0))/'
+within ref_receive "the place to go on from not looked at" 's/ || place < (int64_t)state.from//'
+within ref_receive "the place to go on from with a sign" 's/(int64_t)state.from)/(int32_t)state.from)/'
+within ref_receive "the place to go on from itself not tried" 's/place < (int64_t)state.from/place <= (int64_t)state.from/'
+within ref_receive "goes on one bit behind the place" 's/(uint32_t)(last + 1)/(uint32_t)(place + 1)/'
+within ref_receive "goes on behind the sync word" 's/(uint32_t)(last + 1)/(uint32_t)(place + 14)/'
+within ref_receive "goes on with the frame's last bit" 's/(uint32_t)(last + 1)/(uint32_t)last/'
+within ref_receive "goes on one bit too late" 's/(uint32_t)(last + 1)/(uint32_t)(last + 2)/'
+within ref_receive "goes on behind the lump" 's/(uint32_t)(last + 1)/(uint32_t)(state.heard + bits)/'
+within ref_receive "goes on from the lump where none is given" 's/^    result.state.heard = .*/& if (result.given == 0) result.state.from = result.state.heard;/'
+within ref_receive "goes on behind a frame that was refused" 's/^        if (is_frame(/        if (k > 0 \&\& (has_sync(b + 29 + k, training_sync) || has_sync(b + 29 + k, final_sync))) { result.state.from = (uint32_t)last; break; } &/'
+within ref_receive "stops at the first sync word that is no frame" 's/^        if (is_frame(/        if (k > 0 \&\& (has_sync(b + 29 + k, training_sync) || has_sync(b + 29 + k, final_sync))) break; &/'
+within ref_receive "skips 14 bits behind a sync word that is no frame" 's/^        if (is_frame(/        if (k > 0 \&\& (has_sync(b + 29 + k, training_sync) || has_sync(b + 29 + k, final_sync))) { k += 12; continue; } &/'
+within ref_receive "only a frame that ends with the lump found" 's/is_frame(state.end/k + 1 == bits \&\& &/'
+within ref_receive "only frames that begin with an octet found" 's/is_frame(state.end/place % 8 == 0 \&\& &/'
+within ref_receive "the last of several given" 's/^            break;/            ;/'
+within ref_receive "handed out one bit late" 's/b + 7 + k, plain/b + 6 + k, plain/'
+within ref_receive "handed out one bit late, with its place (three lines)" 's/b + 7 + k, plain/b + 6 + k, plain/' 's/int64_t last = /&-1 + /' 's/place < STATE_BITS/k == 0 || &/'
+within ref_receive "one bit too few kept" 's/pack(b + bits, LINE_BITS, line)/pack(b + bits + (bits > 0), LINE_BITS - 1, line)/'
+within ref_receive "one bit too many kept" 's/pack(b + bits, LINE_BITS, line)/pack(b + bits - (bits > 0), LINE_BITS, line)/'
+within ref_receive "the lump kept before the line" 's/^    pack(b + bits, LINE_BITS, line);/    uint8_t c[LINE_BITS + 1]; for (size_t i = 1; i <= LINE_BITS; i++) c[i] = i <= bits ? b[LINE_BITS + i] : b[i - bits]; pack(c, LINE_BITS, line);/'
+within ref_receive "the line room newest bit first" 's/^    pack(b + bits, LINE_BITS, line);/    uint8_t c[LINE_BITS + 1]; for (size_t i = 1; i <= LINE_BITS; i++) c[i] = b[bits + LINE_BITS + 1 - i]; pack(c, LINE_BITS, line);/'
+within ref_receive "the line room not written" 's/^    pack(b + bits, LINE_BITS, line);/    ;/'
+within ref_receive "the line room not written where a frame is given" 's/^    pack(b + bits, LINE_BITS, line);/    if (result.given == 0) &/'
+within ref_receive "what was heard before a given frame forgotten" 's/^    pack(b + bits, LINE_BITS, line);/    for (size_t i = 0; i < result.state.from - state.heard \&\& result.given == 1; i++) b[LINE_BITS + 1 + i] = 0; &/'
+within ref_receive "the rest of the lump lost behind a frame" 's/^    result.state.heard = .*/    bits = result.given == 1 ? result.state.from - state.heard : bits; &/'
+within ref_receive "the lump's bits last first" 's/^    unpack(lump, bits, .*/    for (size_t i = 1; i <= bits; i++) b[LINE_BITS + i] = lump[(bits - i) \/ 8] >> (bits - i) % 8 \& 1;/'
+within ref_receive "each octet of the lump highest bit first" 's/^    unpack(lump, bits, .*/    for (size_t i = 1; i <= bits; i++) b[LINE_BITS + i] = lump[(i - 1) \/ 8] >> (7 - (i - 1) % 8) \& 1;/'
+within ref_receive "the rest of the lump's last octet taken too" 's/^    uint8_t \*b = /    bits = (bits + 7) \/ 8 * 8; &/'
+within ref_receive "bits not counted" 's/^    result.state.heard = .*/    ;/'
+within ref_receive "bits not counted where a frame is given" 's/^    result.state.heard = /    if (result.given == 0) &/'
+within ref_receive "octets counted" 's/(uint32_t)(state.heard + bits)/(uint32_t)(state.heard + (bits + 7) \/ 8 * 8)/'
+within ref_receive "places counted from 1" 's/result.place = (uint32_t)place;/result.place = (uint32_t)(place + 1);/'
+within ref_receive "the place of the frame's last bit" 's/result.place = (uint32_t)place;/result.place = (uint32_t)last;/'
+within ref_receive "the place behind the frame" 's/result.place = (uint32_t)place;/result.place = (uint32_t)(last + 1);/'
+within ref_receive "the place of the bit behind the sync word" 's/result.place = (uint32_t)place;/result.place = (uint32_t)(place + 14);/'
+within ref_receive "given not said" 's/^            result.given = 1;/            ;/'
+within ref_receive "the place of the line's end where none is given" 's/^    result.state.heard = .*/& if (result.given == 0) result.place = result.state.heard;/'
+within ref_receive "the frame room written for what is no frame" 's/^        if (is_frame(/        plain[1] = 2; is_frame(state.end, b + 7 + k, plain); if (plain[1] != 2) pack(plain, FRAME_BITS, frame); &/'
+within ref_receive "the frame room cleared where none is given" 's/^    result.state.heard = .*/& for (size_t i = 0; i < 529 \&\& result.given == 0; i++) frame[i] = 0;/'
+within ref_receive "the frame room cleared by an empty lump" 's/^    result.state.heard = .*/& for (size_t i = 0; i < 529 \&\& bits == 0; i++) frame[i] = 0;/'
+within ref_receive "the frame handed out scrambled" 's/pack(plain, FRAME_BITS, frame);/frame[528] = 0; pack(b + 30 + k, LAST_BIT, frame);/'
+within ref_receive "the frame not handed out" 's/^            pack(plain, FRAME_BITS, frame);/            ;/'
+within ref_receive "pad left as it was" 's/pack(plain, FRAME_BITS, frame);/pack(plain, LAST_BIT, frame);/'
+within ref_receive "pad not zero" 's/pack(plain, FRAME_BITS, frame);/& frame[528] |= 128;/'
+within ref_receive "one octet too many of the frame written" 's/pack(plain, FRAME_BITS, frame);/& frame[529] ^= 1;/'
+within ref_receive "one octet too many of the line written" 's/^    pack(b + bits, LINE_BITS, line);/& line[532] ^= 1;/'
+within ref_receive "a const buffer written" 's/^    unpack(lump, bits, .*/& if (bits > 8) ((uint8_t *)lump)[0] ^= 1;/'
+within judge_lump "a total of 4,294,967,295 refused" 's/in_all > 4294967295/in_all >= 4294967295/'
+within judge_lump "a total of 4,294,967,296 taken" 's/in_all > 4294967295/in_all > 4294967296/'
+within judge_lump "the total in 32 bits" 's/(uint64_t)state.heard + bits/(uint32_t)(state.heard + bits)/'
+within judge_lump "the total with a sign" 's/in_all > 4294967295/in_all > 2147483647/'
+within judge_lump "4,096 bits refused" 's/bits > LUMP_BITS_MAX/bits >= LUMP_BITS_MAX/'
+within judge_lump "4,097 bits taken" 's/bits > LUMP_BITS_MAX/bits > LUMP_BITS_MAX + 1/'
+within judge_lump "an empty lump refused" 's/^    if (needed > lump_len/    if (bits == 0) return SDSL_BAD_LENGTH; &/'
+within judge_lump "a lump of no octets refused" 's/^    if (needed > lump_len/    if (lump_len == 0) return SDSL_BAD_LENGTH; &/'
+within ref_receive "an empty lump takes the stream for over" 's/^    uint8_t \*b = /    if (bits == 0) { result.state.heard = 0; result.state.from = 0; return result; } &/'
+within judge_lump "a count over the lump by one taken" 's/needed > lump_len/bits > 8 * lump_len + 1/'
+within judge_lump "a count over the lump by up to seven taken" 's/size_t needed = .*/size_t needed = whole_octets;/'
+within judge_lump "the count of octets running over" 's/size_t needed = .*/size_t needed = (bits + 7) \/ 8;/'
+within judge_lump "eight times the lump running over" 's/needed > lump_len/bits > 8 * lump_len/'
+within judge_lump "a lump that is longer than its bits refused" 's/needed > lump_len/needed != lump_len/'
+within ref_receive "the count cut to 32 bits" 's/^    struct sdsl_received result = .*/    bits %= 4294967296; &/'
+within judge_lump "a frame room of 530 taken" 's/frame_len != 529/(frame_len != 529 \&\& frame_len != 530)/'
+within judge_lump "a frame room of 528 taken" 's/frame_len != 529/(frame_len != 529 \&\& frame_len != 528)/'
+within judge_lump "any longer frame room taken" 's/frame_len != 529/frame_len < 529/'
+within judge_lump "the frame room's length cut to 32 bits" 's/frame_len != 529/(uint32_t)frame_len != 529/'
+within judge_lump "a line room of 531 taken" 's/line_len != LINE_OCTETS/(line_len != LINE_OCTETS \&\& line_len != 531)/'
+within judge_lump "a line room of 533 taken" 's/line_len != LINE_OCTETS/(line_len != LINE_OCTETS \&\& line_len != 533)/'
+within judge_lump "any longer line room taken" 's/line_len != LINE_OCTETS/line_len < LINE_OCTETS/'
+within judge_lump "the line room's length cut to 32 bits" 's/line_len != LINE_OCTETS/(uint32_t)line_len != LINE_OCTETS/'
+within judge_lump "an unknown end taken" 's/state.end != SDSL_LTU && state.end != SDSL_NTU/false/'
+within judge_lump "an end of 2 taken" 's/state.end != SDSL_NTU/state.end > 2/'
+within judge_lump "an end cut to an octet" 's/^    if (state.end != SDSL_LTU/    state.end %= 256; &/'
+within ref_receive_start "an unknown end taken at the start" 's/end != SDSL_LTU && end != SDSL_NTU/false/'
+within ref_receive_start "an end cut to an octet at the start" 's/^    if (end != SDSL_LTU/    end %= 256; &/'
+within ref_receive_start "a refused start that gives another end" 's/^        result.answer = SDSL_UNKNOWN;/& result.state.end = SDSL_LTU;/'
+within ref_receive_start "a start with a bit heard" 's/{end, 0, 0}/{end, 1, 0}/'
+within ref_receive_start "a start that goes on from 23" 's/{end, 0, 0}/{end, 0, 23}/'
+within ref_receive_start "a start with the other end" 's/{end, 0, 0}/{end < 2 ? 1 - end : end, 0, 0}/'
+within judge_lump "checks in another order: 2 before 1" 's/^    if (needed > lump_len/    if (state.end > 1) return SDSL_UNKNOWN; &/'
+within judge_lump "checks in another order: 4 for the lump before 2" 's/^    if (state.end != SDSL_LTU/    if (bits > LUMP_BITS_MAX) return SDSL_OUT_OF_RANGE; &/'
+within judge_lump "checks in another order: 4 for the total before 2" 's/^    if (state.end != SDSL_LTU/    if (state.heard + bits > 4294967295) return SDSL_OUT_OF_RANGE; &/'
+within judge_lump "checks in another order: 4 for the lump before 1" 's/^    if (needed > lump_len/    if (bits > LUMP_BITS_MAX) return SDSL_OUT_OF_RANGE; &/'
+within judge_lump "checks in another order: 4 for the total before 1" 's/^    if (needed > lump_len/    if (state.heard + bits > 4294967295) return SDSL_OUT_OF_RANGE; &/'
+within judge_lump "checks in another order: the frame room last (two lines)" 's/^    return SDSL_DONE;/    return frame_len != 529 ? SDSL_BAD_LENGTH : SDSL_DONE;/' 's/ || frame_len != 529//'
+within ref_receive "given said with a refusal" 's/^    if (result.answer != SDSL_DONE) {/    result.given = result.answer == SDSL_OUT_OF_RANGE; &/'
+within ref_receive "a place given with a refusal" 's/^    if (result.answer != SDSL_DONE) {/    if (result.answer == SDSL_UNKNOWN) result.place = state.from; &/'
+within ref_receive "bits counted with a refusal" 's/^    if (result.answer != SDSL_DONE) {/    if (result.answer == SDSL_OUT_OF_RANGE \&\& bits <= 4096) result.state.heard = 4294967295; &/'
+within ref_receive "a state of zeros with a refusal" 's/^    if (result.answer != SDSL_DONE) {/    if (result.answer != SDSL_DONE) result.state = (struct sdsl_receiver){0, 0, 0}; &/'
+within ref_receive "the line room written with a refusal" 's/^    if (result.answer != SDSL_DONE) {/    if (result.answer == SDSL_OUT_OF_RANGE) line[531] ^= 128; &/'
+within ref_receive "the frame room written with a refusal" 's/^    if (result.answer != SDSL_DONE) {/    if (result.answer == SDSL_OUT_OF_RANGE) frame[0] ^= 1; &/'
 
 # in_parts NAME EXPRESSION: the product of C and Y put together wrongly from parts of them
 in_parts() {

@@ -1,6 +1,5 @@
 -- What our receiver computes, by the definitions that its contracts cite; it keeps these. Assumes nothing.
 use mathlib.Core.Path.{refl}
-use mathlib.Core.List.{List}
 use Prim.Native.Nat.{ℕ}
 use Rattle.answer.specs.Answer.{answer, held}
 use Rattle.receiver.specs.Promises.{joined, found, receivedOf, lineAfter, roomAfter}

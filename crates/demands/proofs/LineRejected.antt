@@ -1,12 +1,12 @@
 -- No library that receives as `Receives` says is one of `RejectedReceivers`: two frames on end are both given, a bit at a time. Assumes nothing.
 use mathlib.Core.Path.{_≡_, refl, sym, ap, ap₂, subst, _∙_}
-use mathlib.Core.Bool.{Bool, cond, not}
-use mathlib.Core.List.{List, [], _∷_, _++_, map, append-nil}
-use Prim.Native.Nat.{ℕ, zero, suc, _+_, _*_, _%_, _≤_, _<_}
+use mathlib.Core.Bool.{cond, not}
+use mathlib.Core.List.{List, [], _∷_, _++_, map}
+use Prim.Native.Nat.{ℕ, suc, _+_, _*_, _≤_, _<_}
 use native.Mathlib.Nat.{mod-eq-of-lt}
 use native.Mathlib.Omega.{arith}
 use borrow.Author.Tests.{eq-eqb}
-use lib.Dec.{eqb, lit≤}
+use lib.Dec.{eqb}
 use lib.ListN.{length, getD, replicate, length-append, length-take, length-replicate}
 use Rattle.answer.specs.Answer.{answer}
 use Rattle.answer.proofs.Laws.{passed}
@@ -21,11 +21,11 @@ use Rattle.recurrence.specs.Run.{scramble}
 use Rattle.scrambler.specs.Promises.{frameOut}
 use Rattle.scrambler.specs.declared.Scrambler.{Scrambler}
 use Rattle.receiver.specs.Stream.{stateAt}
-use Rattle.receiver.specs.Given.{Given, GivenOf}
+use Rattle.receiver.specs.Given.{GivenOf}
 use Rattle.receiver.specs.Calls.{joinedBits, allHanded}
 use Rattle.receiver.specs.Sent.{none as no-frame, more, sentBits, afterFrame, onEnd, placedFrom}
 use Rattle.receiver.proofs.Given.{Some, given-some}
-use Rattle.receiver.proofs.Sent.{Holds, all-given, none-across}
+use Rattle.receiver.proofs.Sent.{all-given, none-across}
 use Rattle.host.specs.declared.receiving.Receiver.{Receiver}
 use Rattle.demands.specs.Library.{Library}
 use Rattle.demands.specs.Receiving.{LumpCall, lumpsOf, callOf, outsOf, heardBy, NoneRefused, one, AllFit, no-lump, lump-fits, Receives}

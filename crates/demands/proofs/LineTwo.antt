@@ -1,6 +1,6 @@
 -- Demand 2 of bits off the line: the first sentence holds of every library that keeps our contracts, and the second follows from the first, for libraries
 -- of any two makes. Assumes nothing.
-use mathlib.Core.Path.{_≡_, refl, sym, ap, ap₂, subst, _∙_}
+use mathlib.Core.Path.{_≡_, refl, sym, ap, subst, _∙_}
 use mathlib.Core.Bool.{Bool, true, false, cond, not}
 use mathlib.Core.List.{List, [], _∷_, _++_, reverse, reverse-reverse}
 use Prim.Native.Nat.{ℕ, zero, suc, _+_, _*_, _≤_, _<_, _^_}
@@ -33,7 +33,7 @@ use Rattle.demands.specs.Handed.{Outcome}
 use Rattle.demands.specs.HandedLine.{ReceiveCall, GivenPlace, LineRooms}
 use Rattle.demands.specs.Library.{Library}
 use Rattle.demands.specs.Contracts.{Keeps}
-use Rattle.demands.specs.Checks.{receiveStartChecks, receiveChecks}
+use Rattle.demands.specs.Checks.{receiveChecks}
 use Rattle.demands.specs.Frames.{Octets}
 use Rattle.demands.specs.Receiving.{LumpCall, lumpsOf, callOf, outsOf, heardBy, NoneRefused, none, one, AllFit, no-lump, lump-fits, Receives}
 use Rattle.demands.proofs.One.{receive-answer}

@@ -6,7 +6,7 @@ use Prim.Native.Nat.{ℕ, zero, suc, _+_, _-_, _≤_}
 use native.Mathlib.Omega.{arith}
 use borrow.Author.Tests.{eqb-true, ne-eqb}
 use lib.Dec.{eqb}
-use lib.ListN.{length, length-append}
+use lib.ListN.{length}
 use Rattle.answer.specs.Answer.{answer, held}
 use Rattle.answer.proofs.Laws.{kept}
 use Rattle.receiver.specs.Given.{Given}
@@ -20,12 +20,12 @@ use Rattle.demands.specs.HandedLine.{ReceiveCall, GivenPlace, LineRooms}
 use Rattle.demands.specs.Library.{Library}
 use Rattle.demands.specs.One.{Answers, One}
 use Rattle.demands.specs.Checks.{receiveChecks}
-use Rattle.demands.specs.Receiving.{LumpCall, callOf, outsOf, heardBy}
+use Rattle.demands.specs.Receiving.{LumpCall, callOf, outsOf}
 use Rattle.demands.specs.WrongReceivers.{NeverGives, FirstOnly}
 use Rattle.demands.specs.NoStrawMan.{Built}
 use Rattle.demands.proofs.One.{answers, ordered, one}
 use Rattle.demands.proofs.LineOurs.{receives-lump}
-use Rattle.demands.proofs.Ours.{ours, ours-keep}
+use Rattle.demands.proofs.Ours.{ours}
 use Rattle.demands.proofs.Rebuilt.{ours-one, Parts, rebuilt, rebuilt-one, usual, usual-answer}
 
 -- what is handed in

@@ -8,15 +8,15 @@ use native.Mathlib.Decide.{decLe}
 use native.Mathlib.Omega.{arith}
 use borrow.Author.Tests.{ltb-true, lt-leb}
 use lib.Dec.{leb, ltb}
-use lib.ListN.{length, take, drop, replicate, length-append, length-drop, length-replicate}
+use lib.ListN.{length, drop, replicate, length-append, length-drop, length-replicate}
 use lib.Seq.{length-take-le, take-all}
-use Rattle.answer.specs.Answer.{answer, held}
+use Rattle.answer.specs.Answer.{answer}
 use Rattle.answer.proofs.Laws.{kept, given}
 use Rattle.octets.specs.Bits.{bitsOf, octetsOf, part, laid}
 use Rattle.octets.proofs.Laws.{bits-length, laid-end}
 use Rattle.octets.proofs.Fields.{part-before}
 use Rattle.receiver.specs.Stream.{frameAt, liesAt}
-use Rattle.receiver.specs.Promises.{receiveRefusals, joined, takes, firstThat, found, gives, receivedOf, lineAfter, roomAfter, ReceivePromise}
+use Rattle.receiver.specs.Promises.{receiveRefusals, joined, takes, firstThat, found, receivedOf, lineAfter, roomAfter, ReceivePromise}
 use Rattle.receiver.specs.declared.Receiver.{Receiver}
 use Rattle.receiver.specs.declared.Received.{Received}
 use Rattle.receiver.proofs.Earliest.{First, first-is, first-one}

@@ -12,18 +12,18 @@ use lib.Seq.{length-take-le, drop-drop, drop-append-le}
 use Rattle.answer.specs.Answer.{answer, held}
 use Rattle.answer.proofs.Laws.{none}
 use Rattle.answer.proofs.Order.{both}
-use Rattle.octets.specs.Bits.{bitsOf, octetsOf, part}
-use Rattle.octets.proofs.Digits.{Bits, append-bits, drop-bits}
+use Rattle.octets.specs.Bits.{bitsOf, part}
+use Rattle.octets.proofs.Digits.{append-bits, drop-bits}
 use Rattle.octets.proofs.Laws.{bits-length, bits-bits, bits-part, bits-octets}
 use Rattle.octets.proofs.Fields.{part-behind}
 use Rattle.receiver.specs.Stream.{frameAt, liesAt}
-use Rattle.receiver.specs.Given.{Given, givenAt, Earliest, GivenFrom, nothing, next, GivenOf}
-use Rattle.receiver.specs.Promises.{StartPromise, receiveRefusals, joined, takes, firstThat, found, gives, placeOn, receivedOf, lineAfter, roomAfter, ReceivePromise}
+use Rattle.receiver.specs.Given.{Given, givenAt, GivenFrom, nothing, next, GivenOf}
+use Rattle.receiver.specs.Promises.{StartPromise, receiveRefusals, joined, takes, found, gives, placeOn, receivedOf, lineAfter, roomAfter}
 use Rattle.receiver.specs.Calls.{Lump, bitsIn, joinedBits, handed, Calls, none as no-call, call, allHanded}
 use Rattle.receiver.specs.declared.Receiver.{Receiver}
 use Rattle.receiver.specs.declared.Received.{Received}
 use Rattle.receiver.proofs.Earliest.{First, first-is}
-use Rattle.receiver.proofs.Window.{around, same-frame, same-lies, lies-early, lies-late, lies-more, lies-sound}
+use Rattle.receiver.proofs.Window.{around, same-frame, same-lies, lies-early, lies-late, lies-more}
 use Rattle.receiver.proofs.Given.{goOn, none-left, given-one, given-extend}
 
 -- ---- the line room

@@ -1,12 +1,12 @@
 -- What is given of bits: there is exactly one such list, and that of a beginning is a beginning of that of the whole. Assumes nothing.
-use mathlib.Core.Path.{_≡_, refl, sym, ap, ap₂, subst, _∙_}
-use mathlib.Core.Bool.{Bool, true, false, false≢true}
+use mathlib.Core.Path.{_≡_, refl, sym, ap₂, subst, _∙_}
+use mathlib.Core.Bool.{true, false, false≢true}
 use mathlib.Core.List.{List, [], _∷_, _++_}
-use Prim.Native.Nat.{ℕ, zero, suc, _+_, _≤_, _<_}
+use Prim.Native.Nat.{ℕ, zero, suc, _+_, _≤_}
 use native.Mathlib.Decide.{decLe}
 use native.Mathlib.Omega.{arith}
 use lib.ListN.{length}
-use Rattle.receiver.specs.Stream.{frameAt, liesAt}
+use Rattle.receiver.specs.Stream.{liesAt}
 use Rattle.receiver.specs.Given.{Given, givenAt, Earliest, GivenFrom, nothing, next}
 use Rattle.receiver.specs.Promises.{firstThat}
 use Rattle.receiver.proofs.Earliest.{First, first-is}

@@ -1,16 +1,15 @@
 -- In its call: a frame is handed out by the call that brings its last bit, and by no other; no call hands out two. Assumes nothing.
 use mathlib.Core.Path.{_≡_, refl, sym, ap, ap₂, subst, _∙_}
-use mathlib.Core.Bool.{Bool, true, false, cond, _&&_, false≢true}
+use mathlib.Core.Bool.{Bool, true, false, cond, _&&_}
 use mathlib.Core.List.{List, [], _∷_, _++_, append-nil, append-assoc}
-use Prim.Native.Nat.{ℕ, zero, suc, _+_, _-_, _≤_, _<_}
+use Prim.Native.Nat.{ℕ, _+_, _-_, _≤_, _<_}
 use native.Mathlib.Omega.{arith}
 use borrow.Author.Tests.{ltb-true, le-leb, lt-leb, lt-ltb, le-ltb}
 use lib.Dec.{eqb, leb, ltb}
 use lib.ListN.{length}
 use Rattle.answer.specs.Answer.{answer}
-use Rattle.octets.specs.Bits.{part}
 use Rattle.receiver.specs.Given.{Given, GivenOf}
-use Rattle.receiver.specs.Promises.{StartPromise, receiveRefusals, joined, takes, found, gives, placeOn, receivedOf, ReceivePromise}
+use Rattle.receiver.specs.Promises.{StartPromise, receiveRefusals, joined, takes, found, gives, placeOn, receivedOf}
 use Rattle.receiver.specs.Calls.{Lump, joinedBits, handed, Calls, none as no-call, call, allHanded, endingIn, shares}
 use Rattle.receiver.specs.declared.Receiver.{Receiver}
 use Rattle.receiver.specs.declared.Received.{Received}

@@ -3,19 +3,18 @@ use mathlib.Core.Path.{_≡_, refl, sym, ap, ap₂, subst, _∙_}
 use mathlib.Core.Bool.{Bool, true, false, cond, not, _||_, _&&_}
 use mathlib.Core.Logic.{_⊎_, inl, inr}
 use mathlib.Core.List.{List, [], _++_, reverse, append-nil}
-use Prim.Native.Nat.{ℕ, suc, _+_, _-_, _*_, _/_, _%_, _^_, _≤_, _<_, min, max}
-use native.Mathlib.Decide.{decLe}
+use Prim.Native.Nat.{ℕ, _+_, _-_, _*_, _/_, _%_, _^_, _≤_, _<_, min}
 use native.Mathlib.Nat.{mul-comm, div-div-eq-div-mul, zero-div}
 use native.Mathlib.Omega.{arith}
-use borrow.Author.Tests.{eqb-true, eq-eqb, ne-eqb, lt-ltb, le-ltb, lt-leb}
+use borrow.Author.Tests.{eqb-true, eq-eqb, ne-eqb, le-ltb, lt-leb}
 use lib.Bits.{bitAnd, bitXor, and-step, xor-add-and, and-shr, xor-shr}
-use lib.Dec.{eqb, leb, ltb}
+use lib.Dec.{eqb, leb}
 use lib.ListN.{length, take, drop, replicate, length-append, length-drop, length-replicate, replicate-append-replicate}
 use lib.Seq.{length-take-le, take-all, drop-at, sets, sets-eq}
-use Rattle.answer.specs.Answer.{answer, held}
+use Rattle.answer.specs.Answer.{answer}
 use Rattle.answer.proofs.Laws.{kept, given, passed}
 use Rattle.octets.specs.Bits.{digitsOf, valueOf, bitsOf, octetsOf, part, laid}
-use Rattle.octets.proofs.Digits.{Bits, append-bits, take-bits, drop-bits, zeros-bits, zeros-value, digits-take, digits-value, value-digits, turned-lt}
+use Rattle.octets.proofs.Digits.{append-bits, take-bits, drop-bits, zeros-bits, zeros-value, digits-take, value-digits, turned-lt}
 use Rattle.octets.proofs.Laws.{Octets, bits-length, bits-bits, bits-part, bits-octets, octets-length, laid-next}
 use Rattle.octets.proofs.Fields.{part-part}
 use Rattle.octets.proofs.Words.{digits-drop, drop-take, field-digits, octets-octets, octets-zeros}
@@ -32,7 +31,7 @@ use Rattle.receiver.specs.Stream.{stateAt, heardAt, frameAt, synced, rea
 use Rattle.receiver.specs.Promises.{joined, firstThat}
 use Rattle.receiver.specs.Search.{syncIn, syncFrom}
 use Rattle.receiver.proofs.Earliest.{First, first-is, NoneTo, none-further, found-at}
-use Rattle.receiver.proofs.Window.{lies-here, lies-early}
+use Rattle.receiver.proofs.Window.{lies-here}
 
 pub by-true : {A : Type 0} (t : Bool) (x y : A) → t ≡ true → cond t x y ≡ x
 by-true t x y e = ap (λ (s : Bool). cond s x y) e

@@ -1,7 +1,7 @@
 -- What was sent is there: a frame that checks with 0, scrambled behind bits whose last 23 are the sender's state, lies at its place and comes out as
 -- it was; and frames sent on end are all given. Assumes nothing.
 use mathlib.Core.Path.{_≡_, refl, sym, ap, ap₂, subst, _∙_}
-use mathlib.Core.Bool.{Bool, true, false, not, _||_, _&&_, false≢true}
+use mathlib.Core.Bool.{true, false, not, _||_, _&&_, false≢true}
 use mathlib.Core.List.{List, [], _∷_, _++_, append-assoc, append-nil, reverse, reverse-append}
 use Prim.Native.Nat.{ℕ, suc, _+_, _-_, _*_, _^_, _≤_, _<_}
 use native.Mathlib.Decide.{decLe}
@@ -20,15 +20,15 @@ use Rattle.layout.specs.Places.{padField}
 use Rattle.layout.specs.Frame.{trainingSync, finalSync, fieldOf}
 use Rattle.layout.specs.Refusals.{hasSync, checkRefusals}
 use Rattle.recurrence.specs.Line.{newest}
-use Rattle.recurrence.specs.Run.{scramble, descramble, runOf, afterOf}
+use Rattle.recurrence.specs.Run.{scramble, descramble, runOf}
 use Rattle.recurrence.proofs.Exactly.{scrambled-state}
-use Rattle.recurrence.proofs.Laws.{run-length, run-bits}
+use Rattle.recurrence.proofs.Laws.{run-length}
 use Rattle.scrambler.specs.Ends.{tapOf}
 use Rattle.scrambler.specs.Promises.{clocked, frameOut}
 use Rattle.scrambler.specs.declared.Scrambler.{Scrambler}
 use Rattle.scrambler.proofs.Frames.{sent, frame-back}
-use Rattle.receiver.specs.Stream.{stateAt, heardAt, frameAt, synced, reads, liesAt}
-use Rattle.receiver.specs.Given.{Given, givenAt, Earliest, GivenFrom, nothing, next, GivenOf}
+use Rattle.receiver.specs.Stream.{stateAt, heardAt, frameAt, liesAt}
+use Rattle.receiver.specs.Given.{Given, givenAt, GivenFrom, nothing, next, GivenOf}
 use Rattle.receiver.specs.Sent.{sentBits, afterFrame, Good, none as no-frame, more, onEnd, placedFrom, Across, here, there}
 use Rattle.receiver.proofs.Window.{lies-sound, lies-here, lies-early, lies-late}
 use Rattle.receiver.proofs.Given.{Begins}

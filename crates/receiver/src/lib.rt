@@ -7,7 +7,7 @@ ghost use Prim.Native.Nat.{ℕ, _+_, _-_, _*_, _/_, _%_, _^_, _≤_, _<_, min, m
 ghost use lib.Dec.{ltb};
 ghost use lib.ListN.{length, replicate};
 ghost use Rattle.answer.specs.Answer.{answer};
-ghost use Rattle.octets.specs.Bits.{bitsOf, part};
+ghost use Rattle.octets.specs.Bits.{bitsOf};
 ghost use Rattle.receiver.specs.Stream.{frameAt, synced, reads, liesAt};
 ghost use Rattle.receiver.specs.Promises.{StartPromise, receiveRefusals, joined, firstThat, receivedOf, ReceivePromise};
 ghost use Rattle.receiver.specs.Search.{syncIn, syncFrom};

@@ -3,13 +3,13 @@ use borrow.Author.Needs.{needs}
 use borrow.Author.Tests.{lt-ltb, le-ltb}
 use mathlib.Core.Path.{_≡_, refl, sym, ap, _∙_}
 use mathlib.Core.Bool.{true}
-use Prim.Native.Nat.{ℕ, _+_, _-_, _≤_, _<_}
+use Prim.Native.Nat.{_+_, _-_, _≤_, _<_}
 use native.Mathlib.Omega.{arith}
 use lib.Dec.{ltb}
 use lib.ListN.{length}
 use Rattle.octets.specs.Bits.{bitsOf}
 use Rattle.octets.proofs.Laws.{bits-length}
-use Rattle.receiver.specs.Stream.{frameAt, synced, liesAt}
+use Rattle.receiver.specs.Stream.{synced, liesAt}
 use Rattle.receiver.proofs.Earliest.{NoneTo, none-more, none-further, found-at, found-none}
 use Rattle.receiver.proofs.Laws.{by-true, by-false, none-synced, lies-by, next-at}
 use Rattle.receiver.proofs.first.Statement.{statement}

@@ -1,6 +1,6 @@
 -- `receiver::next_sync` meets its contract: no sync word stands at a place before `at`.
 use mathlib.Core.Path.{_≡_, sym, _∙_}
-use Prim.Native.Nat.{ℕ, _-_, _≤_}
+use Prim.Native.Nat.{_-_, _≤_}
 use native.Mathlib.Omega.{arith}
 use Rattle.octets.specs.Bits.{bitsOf}
 use Rattle.receiver.specs.Stream.{synced}
