@@ -72,7 +72,8 @@ pub record Ordered : Type 0 where
   pub step : InTheirOrder rising stepChecks
   pub run-codes : InTheirOrder rising codesChecks
 
--- THE DEMAND, function by function: its checks, what its memory holds before (for the start of a state: 0, or no state; for a receiver's the end that was handed in, and zeros), and the numbers that a refusal gives
+-- THE DEMAND, function by function: its checks, what its memory holds before (for the start of a state: 0, or no state; for a receiver's the end that was
+-- handed in, and zeros), and the numbers that a refusal gives
 pub record One (x : Library) : Type 0 where
   pub write : Answers (x .write) writeChecks (λ c. c .frame) none
   pub check : Answers (x .check) checkRefusals (λ c. none) none
