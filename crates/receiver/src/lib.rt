@@ -195,6 +195,14 @@ fn begin(heard: u32, from: u32, stop: usize) -> usize
     least(place - before, stop)
 }
 
+// The place on the line of a place of the joined bits, where so many bits were heard before the lump.
+fn place_on(heard: u32, at: usize) -> u32
+    requires { ⌜ (4256 ≤ heard + at) × (heard + at ≤ 4294971551) ⌝ }
+    ensures { λ r. ⌜ r ≡ heard + at - 4256 ⌝ }
+{
+    ((heard as usize) + at - KEPT) as u32
+}
+
 impl Receiver {
     // A receiver for the bits of an end.
     pub fn start(end: u32) -> Received
@@ -251,7 +259,7 @@ impl Receiver {
         let before = self.heard;
         let heard = before + (bits as u32);
         if at < AHEAD + bits {
-            let place = ((before as usize) + at - KEPT) as u32;
+            let place = place_on(before, at);
             return Received {
                 answer: answer::DONE,
                 given: 1,
