@@ -1,6 +1,6 @@
 -- No library that receives as `Receives` says is one of `RejectedReceivers`: two frames on end are both given, a bit at a time. Assumes nothing.
 use mathlib.Core.Path.{_≡_, refl, sym, ap, ap₂, subst, _∙_}
-use mathlib.Core.Bool.{cond, not}
+use mathlib.Core.Bool.{Bool, true, false, cond, not}
 use mathlib.Core.List.{List, [], _∷_, _++_, map}
 use Prim.Native.Nat.{ℕ, suc, _+_, _*_, _≤_, _<_}
 use native.Mathlib.Nat.{mod-eq-of-lt}
@@ -14,24 +14,25 @@ use Rattle.octets.specs.Bits.{digitsOf, valueOf, bitsOf, octetsOf, part}
 use Rattle.octets.proofs.Digits.{Bits, nil-bits, append-bits, take-bits, zeros-bits}
 use Rattle.octets.proofs.Laws.{octets-length, bits-bits}
 use Rattle.octets.proofs.Words.{octets-octets}
-use Rattle.layout.specs.Frame.{finalBits}
+use Rattle.layout.specs.Frame.{finalSync, frameBits, finalBits}
 use Rattle.layout.specs.Refusals.{bitRefusals, checkRefusals}
 use Rattle.layout.proofs.RoundTrip.{final-laid, final-answers}
 use Rattle.recurrence.specs.Run.{scramble}
 use Rattle.scrambler.specs.Promises.{frameOut}
 use Rattle.scrambler.specs.declared.Scrambler.{Scrambler}
 use Rattle.receiver.specs.Stream.{stateAt}
-use Rattle.receiver.specs.Given.{GivenOf}
+use Rattle.receiver.specs.Given.{Given, GivenOf}
 use Rattle.receiver.specs.Calls.{joinedBits, allHanded}
 use Rattle.receiver.specs.Sent.{none as no-frame, more, sentBits, afterFrame, onEnd, placedFrom}
 use Rattle.receiver.proofs.Given.{Some, given-some}
-use Rattle.receiver.proofs.Sent.{all-given, none-across}
+use Rattle.receiver.proofs.Sent.{Holds, all-given, none-across}
 use Rattle.host.specs.declared.receiving.Receiver.{Receiver}
 use Rattle.demands.specs.Library.{Library}
 use Rattle.demands.specs.Receiving.{LumpCall, lumpsOf, callOf, outsOf, heardBy, NoneRefused, one, AllFit, no-lump, lump-fits, Receives}
-use Rattle.demands.specs.HandedLine.{ReceiveCall}
+use Rattle.demands.specs.Handed.{Outcome}
+use Rattle.demands.specs.HandedLine.{GivenPlace, LineRooms}
 use Rattle.demands.specs.WrongLibraries.{Refuses}
-use Rattle.demands.specs.WrongReceivers.{RejectedReceivers}
+use Rattle.demands.specs.WrongReceivers.{RoomUnwritten, RejectedReceivers}
 
 -- ---- two frames on end
 
@@ -75,18 +76,26 @@ stream = before ++ (onEnd X (F ∷ F ∷ []) ++ [])
 list : Some 0 stream 0
 list = given-some 0 stream (length stream) 0 (omega arith)
 
-two-given : 2 ≤ length (list .list)
-unfolding stream placedFrom
-two-given =
+both-given : Holds (list .list) (placedFrom 23 (F ∷ F ∷ []))
+unfolding stream
+both-given =
     let gs = list .list in
-    let h = all-given X (F ∷ F ∷ []) before [] gs (more F (F ∷ []) F-octets F-checks (more F [] F-octets F-checks no-frame)) (zeros-bits 23) (omega arith) before-state
-    (list .is) (none-across 0 stream 0 23 gs (omega arith) (list .is)) in
+    all-given X (F ∷ F ∷ []) before [] gs (more F (F ∷ []) F-octets F-checks (more F [] F-octets F-checks no-frame)) (zeros-bits 23) (omega arith) before-state
+    (list .is) (none-across 0 stream 0 23 gs (omega arith) (list .is))
+
+two-given : 2 ≤ length (list .list)
+unfolding placedFrom
+two-given =
+    let h = both-given in
     omega (arith, ap length (h .whole), length-append (h .front) (placedFrom 23 (F ∷ F ∷ []) ++ h .rest), length-append (placedFrom 23 (F ∷ F ∷ [])) (h .rest))
 
 -- ---- a bit at a time
 
+abbrev room : List ℕ
+room = replicate 529 0
+
 abbrev single : ℕ → LumpCall
-single b = record { lump = record { octets = b ∷ []; count = 1 }; room = replicate 529 0 }
+single b = record { lump = record { octets = b ∷ []; count = 1 }; room = room }
 
 abbrev singles : List ℕ → List LumpCall
 singles bits = map single bits
@@ -129,16 +138,56 @@ stream-length =
     let two : length {A = List ℕ} (F ∷ F ∷ []) ≡ 2 = refl in
     omega (arith, length-append before (E ++ []), length-append E [], sent-length X (F ∷ F ∷ []), two)
 
--- ---- the theorem
+-- ---- a room that is not written
 
-never-handed : (x : Library) → ((c : ReceiveCall) → x .receive c .numbers .given ≡ 0) → (state : Receiver) (line : List ℕ) (ls : List LumpCall)
-    → allHanded (outsOf x state line ls) ≡ []
+zero-first : getD (bitsOf room) 0 0 ≡ 0
+unfolding bitsOf digitsOf
+zero-first = refl
+
+one-first : getD (finalBits zeros) 0 0 ≡ 1
+unfolding finalBits frameBits finalSync
+one-first = refl
+
+-- frames that are all what stood in the room
+data All (z : List ℕ) : List Given → Type 0 where
+  none : All z []
+  one-more : (g : Given) (gs : List Given) → g .frame ≡ z → All z gs → All z (g ∷ gs)
+
+-- one that does not write the room hands out what stood in it
+idle-handed : (x : Library) → RoomUnwritten x → (state : Receiver) (line bits : List ℕ) → NoneRefused x state line (singles bits)
+    → All room (allHanded (outsOf x state line (singles bits)))
 unfolding outsOf allHanded
-never-handed x h state line [] = refl
-never-handed x h state line (l ∷ ls) =
-    let r = x .receive (callOf state line l) in
-    ap₂ _++_ (ap (λ (n : ℕ). cond (eqb n 1) (record { place = r .numbers .place; frame = r .memory .frame } ∷ []) []) (h (callOf state line l)))
-    (never-handed x h (r .memory .state) (r .memory .line) ls)
+idle-handed x w state line [] n = none
+idle-handed x w state line (b ∷ bits) (one _ _ _ _ z n) =
+    at (eqb (r .numbers .given) 1) (idle-handed x w (r .memory .state) (r .memory .line) bits n)
+  where
+    r : Outcome GivenPlace LineRooms
+    r = x .receive (callOf state line (single b))
+
+    rest : List Given
+    rest = allHanded (outsOf x (r .memory .state) (r .memory .line) (singles bits))
+
+    at : (t : Bool) → All room rest → All room (cond t (record { place = r .numbers .place; frame = r .memory .frame } ∷ []) [] ++ rest)
+    at true a = one-more (record { place = r .numbers .place; frame = r .memory .frame }) rest (w (callOf state line (single b)) z) a
+    at false a = a
+
+-- one of them, behind others
+its-frame : (front gs : List Given) (g : Given) → All room (front ++ (g ∷ gs)) → g .frame ≡ room
+its-frame [] gs g (one-more _ _ e a) = e
+its-frame (f ∷ front) gs g (one-more _ _ e a) = its-frame front gs g a
+
+-- and F is not what stood there: its first bit is a one
+F-other : F ≡ room → ⊥
+F-other e =
+    absurd (omega (arith, ap (λ (s : List ℕ). getD (bitsOf s) 0 0) e, zero-first, ap (λ (l : List ℕ). getD l 0 0) F-bits, one-first))
+
+-- the first of the two is F
+first-frame : (gs : List Given) → Holds gs (placedFrom 23 (F ∷ F ∷ [])) → All room gs → F ≡ room
+unfolding placedFrom
+first-frame gs h a =
+    its-frame (h .front) (record { place = 4250; frame = F } ∷ h .rest) (record { place = 23; frame = F }) (subst (All room) (h .whole) a)
+
+-- ---- the theorem
 
 module _ (x : Library) (rx : Receives x) where
   abbrev line : List ℕ
@@ -155,10 +204,13 @@ module _ (x : Library) (rx : Receives x) where
   pub receivers-rejected : RejectedReceivers x
   receivers-rejected =
       record {
+        refuses-starts = λ w. w 0 (ap (λ (o : Outcome GivenPlace Receiver). o .answer) (rx .started 0 refl));
         refuses-lumps = λ w. refused (rx .taken 0 line (single 0 ∷ []) refl (length-replicate {A = ℕ} 532 0) (singles-fit (0 ∷ []) 0 (omega arith))) w;
-        never-gives = λ w.
-            absurd (omega (arith, two-given, ap length (sym all-handed ∙ never-handed x w (x .receive-start 0 .memory) line (singles stream))));
-        first-only = λ w. absurd (omega (arith, two-given, ap length all-handed, w 0 line (singles stream)));
+        never-gives = λ w. absurd (omega (arith, two-given, ap length (sym all-handed ∙ w 0 line (singles stream) all-taken)));
+        first-only = λ w. absurd (omega (arith, two-given, ap length all-handed, w 0 line (singles stream) all-taken));
+        room-unwritten = λ w.
+            F-other (first-frame (list .list) both-given
+            (subst (All room) all-handed (idle-handed x w (x .receive-start 0 .memory) line stream all-taken)));
       }
     where
       refused : NoneRefused x (x .receive-start 0 .memory) line (single 0 ∷ []) → Refuses (x .receive) → ⊥

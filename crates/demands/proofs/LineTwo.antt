@@ -2,6 +2,7 @@
 -- of any two makes. Assumes nothing.
 use mathlib.Core.Path.{_≡_, refl, sym, ap, subst, _∙_}
 use mathlib.Core.Bool.{Bool, true, false, cond, not}
+use mathlib.Core.Logic.{_⊎_, inl, inr}
 use mathlib.Core.List.{List, [], _∷_, _++_, reverse, reverse-reverse}
 use Prim.Native.Nat.{ℕ, zero, suc, _+_, _*_, _≤_, _<_, _^_}
 use native.Mathlib.Nat.{mod-eq-of-lt}
@@ -19,7 +20,7 @@ use Rattle.layout.specs.Refusals.{checkRefusals}
 use Rattle.receiver.specs.Stream.{stateAt, frameAt}
 use Rattle.receiver.specs.Sent.{sentBits}
 use Rattle.receiver.specs.Given.{Given, GivenOf}
-use Rattle.receiver.specs.Promises.{joined, found, gives, receivedOf, lineAfter, roomAfter}
+use Rattle.receiver.specs.Promises.{joined, found, gives, placeOn, receivedOf, lineAfter, roomAfter}
 use Rattle.receiver.specs.Calls.{joinedBits, Calls, none as no-call, call, allHanded, shares}
 use Rattle.receiver.specs.declared.Receiver.{Receiver as State}
 use Rattle.receiver.specs.declared.Received.{Received as Got}
@@ -36,7 +37,7 @@ use Rattle.demands.specs.Contracts.{Keeps}
 use Rattle.demands.specs.Checks.{receiveChecks}
 use Rattle.demands.specs.Frames.{Octets}
 use Rattle.demands.specs.Receiving.{LumpCall, lumpsOf, callOf, outsOf, heardBy, NoneRefused, none, one, AllFit, no-lump, lump-fits, Receives}
-use Rattle.demands.proofs.One.{receive-answer}
+use Rattle.demands.proofs.One.{same, receive-answer}
 
 module _ (x : Library) (k : Keeps x) where
   -- what a start gives
@@ -103,9 +104,10 @@ module _ (x : Library) (k : Keeps x) where
           ≡ receivedOf 0 (receiverIn state) (found (receiverIn state) line lump bits) bits
       is = k .receive (callOf state line p) refl .returned ∙ ap (λ (n : ℕ). receivedOf n (receiverIn state) (found (receiverIn state) line lump bits) bits) zero
 
-  -- a call that gives nothing leaves the frame room
-  quiet : (c : ReceiveCall) → x .receive c .numbers .given ≡ 0 → x .receive c .memory .frame ≡ c .frame
-  quiet c e = k .receive c refl .room-left ∙ pick (answer (receiveChecks c)) (sym (ap (λ (g : Got). g .given) (k .receive c refl .returned)) ∙ e)
+  -- a call gives one, or nothing and leaves the frame room
+  quiet : (c : ReceiveCall) → (x .receive c .numbers .given ≡ 1)
+      ⊎ ((x .receive c .numbers ≡ record { given = 0; place = 0 }) × (x .receive c .memory .frame ≡ c .frame))
+  quiet c = pick (answer (receiveChecks c)) (ap numbersOf (k .receive c refl .returned)) (k .receive c refl .room-left)
     where
       s : State
       s = receiverIn (c .state)
@@ -116,17 +118,29 @@ module _ (x : Library) (k : Keeps x) where
       J : List ℕ
       J = joined (c .line) (c .lump) (c .bits)
 
-      pick : (n : ℕ) → receivedOf n s b (c .bits) .given ≡ 0 → held n (c .frame) (roomAfter (s .end) J b (c .bits) (c .frame)) ≡ c .frame
-      pick (suc n) z = refl
-      pick zero z = by (gives b (c .bits)) z
+      numbersOf : Got → GivenPlace
+      numbersOf g = record { given = g .given; place = g .place }
+
+      Either : Type 0
+      Either = (x .receive c .numbers .given ≡ 1) ⊎ ((x .receive c .numbers ≡ record { given = 0; place = 0 }) × (x .receive c .memory .frame ≡ c .frame))
+
+      pick : (n : ℕ) → x .receive c .numbers ≡ record { given = receivedOf n s b (c .bits) .given; place = receivedOf n s b (c .bits) .place }
+          → x .receive c .memory .frame ≡ held n (c .frame) (roomAfter (s .end) J b (c .bits) (c .frame)) → Either
+      pick (suc n) e f = inr (e, f)
+      pick zero e f = by (gives b (c .bits)) e f
         where
-          by : (t : Bool) → cond {A = ℕ} t 1 0 ≡ 0 → cond t (frameAt (s .end) J b) (c .frame) ≡ c .frame
-          by true f = absurd (omega arith)
-          by false f = refl
+          by : (t : Bool) → x .receive c .numbers ≡ record { given = cond t 1 0; place = cond t (placeOn s b) 0 }
+              → x .receive c .memory .frame ≡ cond t (frameAt (s .end) J b) (c .frame) → Either
+          by true u v = inl (ap (λ (p : GivenPlace). p .given) u)
+          by false u v = inr (u, v)
 
   pub receives : Receives x
   receives =
       record {
+        started = λ end h.
+            same (ap (λ (g : Got). g .answer) (k .receive-start end refl) ∙ h)
+            (ap (λ (g : Got). record { given = g .given; place = g .place }) (k .receive-start end refl))
+            (ap (λ (g : Got). record { end = g .next .end; heard = g .next .heard; from = g .next .from }) (k .receive-start end refl));
         taken = λ end line ls h l f.
             takes-all (x .receive-start end .memory) line ls
             (subst (λ (n : ℕ). n ≤ 1) (sym (ap (λ (g : Got). g .next .end) (k .receive-start end refl))) (ltb-false 1 end (none-applies 1 (ltb 1 end) [] h .0))) l

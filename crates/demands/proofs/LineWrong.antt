@@ -21,7 +21,7 @@ use Rattle.demands.specs.Library.{Library}
 use Rattle.demands.specs.One.{Answers, One}
 use Rattle.demands.specs.Checks.{receiveChecks}
 use Rattle.demands.specs.Receiving.{LumpCall, callOf, outsOf}
-use Rattle.demands.specs.WrongReceivers.{NeverGives, FirstOnly}
+use Rattle.demands.specs.WrongReceivers.{NeverGives, FirstOnly, RoomUnwritten}
 use Rattle.demands.specs.NoStrawMan.{Built}
 use Rattle.demands.proofs.One.{answers, ordered, one}
 use Rattle.demands.proofs.LineOurs.{receives-lump}
@@ -88,8 +88,33 @@ only-counts c = let n = answer (receiveChecks c) in record { answer = n; numbers
 counts-answer : ReceiveAnswers only-counts
 counts-answer = answers (ordered .receive) (λ c. refl) (λ c h. refl) (λ c h. kept (answer (receiveChecks c)) (held-in c) (counted c) h)
 
+abbrev N : Library
+N = rebuilt (withReceive only-counts)
+
+never-handed : (state : Receiver) (line : List ℕ) (ls : List LumpCall) → allHanded (outsOf N state line ls) ≡ []
+unfolding outsOf allHanded
+never-handed state line [] = refl
+never-handed state line (l ∷ ls) =
+    let r = only-counts (callOf state line l) in
+    never-handed (r .memory .state) (r .memory .line) ls
+
 pub never-gives-built : Built NeverGives
-never-gives-built = (rebuilt (withReceive only-counts), receive-one only-counts counts-answer, λ c. refl)
+never-gives-built = (N, receive-one only-counts counts-answer, λ end line ls n. never-handed (N .receive-start end .memory) line ls)
+
+-- ---- it does not write the frame room
+
+abbrev idle : ReceiveCall → Outcome GivenPlace LineRooms
+idle c =
+    let r = ours .receive c in
+    record { answer = r .answer; numbers = r .numbers; memory = record { state = r .memory .state; line = r .memory .line; frame = c .frame } }
+
+pub room-built : Built RoomUnwritten
+room-built = (
+  rebuilt (withReceive idle),
+  receive-one idle (answers (ordered .receive) (ours-one .receive .first) (ours-one .receive .no-numbers)
+      (λ c h. let e = ours-one .receive .unchanged c h in λ i. record { state = e i .state; line = e i .line; frame = c .frame })),
+  λ c h. refl,
+)
 
 -- ---- it gives the first only: where the place to go on from is not 0, it has given one, and only counts
 
@@ -189,4 +214,4 @@ at-most-one state line (l ∷ ls) = pick (eqb (r .numbers .given) 1) refl (at-mo
     pick true e h = omega (arith, ap length (no-more (r .memory .state) (r .memory .line) ls (goes-on (eqb (state .from) 0) c (eqb-true _ _ e))))
 
 pub first-only-built : Built FirstOnly
-first-only-built = (O, receive-one once once-answer, λ end line ls. at-most-one (O .receive-start end .memory) line ls)
+first-only-built = (O, receive-one once once-answer, λ end line ls n. at-most-one (O .receive-start end .memory) line ls)

@@ -41,7 +41,7 @@ use Rattle.demands.proofs.Ours.{ours, ours-keep}
 use Rattle.demands.proofs.Rebuilt.{ours-one, Parts, rebuilt, rebuilt-one, usual, usual-answer}
 use Rattle.demands.proofs.ReservedRejected.{call, call-right, trains, some-set}
 use Rattle.demands.proofs.DataWrong.{one-data-frame-built, data-frame-built, payload-built, own-six-built}
-use Rattle.demands.proofs.LineWrong.{never-gives-built, first-only-built}
+use Rattle.demands.proofs.LineWrong.{never-gives-built, first-only-built, room-built}
 use Rattle.demands.proofs.EocWrong.{one-form-built, form-built, contents-built, hands-all-built, hands-nothing-built}
 use Rattle.demands.proofs.WrongSteps.{moves-once-built, never-opens-built, calls-exception-built, same-ticks-built, counts-codes-built, gives-up-built, ends-too-late-built}
 
@@ -597,6 +597,7 @@ no-straw-man = record {
   hands-nothing = hands-nothing-built;
   never-gives = never-gives-built;
   first-only = first-only-built;
+  room-unwritten = room-built;
   moves-once = moves-once-built;
   never-opens = never-opens-built;
   calls-exception = calls-exception-built;

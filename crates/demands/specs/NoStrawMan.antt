@@ -12,7 +12,7 @@ use Rattle.demands.specs.WrongLibraries.{Refuses, OneFrame, FrameUnwritt
 use Rattle.demands.specs.WrongLibraries.{HistoryUnwritten, CodesUnwritten, PrecodedUnwritten, DecodedUnwritten, CopiesTheRest, TurnsA, TurnsB}
 use Rattle.demands.specs.WrongData.{OneDataFrame, DataFrameUnwritten, PayloadUnwritten, OwnSix}
 use Rattle.demands.specs.WrongMessages.{OneForm, FormUnwritten, ContentsUnwritten, HandsAll, HandsNothing}
-use Rattle.demands.specs.WrongReceivers.{NeverGives, FirstOnly}
+use Rattle.demands.specs.WrongReceivers.{NeverGives, FirstOnly, RoomUnwritten}
 use Rattle.demands.specs.WrongReserved.{TurnsAway, ElseAsDue, HandsZeros, ReservedUnwritten}
 use Rattle.demands.specs.WrongSupervisors.{MovesOnce, NeverOpens, CallsException, SameTicks, CountsCodes, GivesUp, EndsTooLate}
 
@@ -58,6 +58,7 @@ pub record NoStrawMan : Type 1 where
   pub hands-nothing : Built HandsNothing
   pub never-gives : Built NeverGives
   pub first-only : Built FirstOnly
+  pub room-unwritten : Built RoomUnwritten
   pub moves-once : Built (λ x. MovesOnce (supervisor x))
   pub never-opens : Built (λ x. NeverOpens (supervisor x))
   pub calls-exception : Built (λ x. CallsException (supervisor x))

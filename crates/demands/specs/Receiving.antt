@@ -2,6 +2,7 @@
 -- what is given of bits, is in receiver/specs/Stream.antt and Given.antt; what ends in a lump in receiver/specs/Calls.antt.
 use mathlib.Core.Path.{_≡_}
 use mathlib.Core.Bool.{cond}
+use mathlib.Core.Logic.{_⊎_}
 use mathlib.Core.List.{List, [], _∷_, map}
 use Prim.Native.Nat.{ℕ, _+_, _*_, _≤_}
 use lib.Dec.{eqb}
@@ -14,7 +15,7 @@ use Rattle.host.specs.declared.receiving.Receiver.{Receiver}
 use Rattle.demands.specs.HandedLine.{ReceiveCall}
 use Rattle.demands.specs.Library.{Library}
 use Rattle.demands.specs.Checks.{receiveStartChecks}
-use Rattle.demands.specs.Frames.{Right}
+use Rattle.demands.specs.Frames.{Right, done}
 
 -- a call: a lump, and a frame room
 pub record LumpCall : Type 0 where
@@ -56,6 +57,9 @@ pub data AllFit : ℕ → List LumpCall → Type 0 where
 
 -- BITS OFF THE LINE
 pub record Receives (x : Library) : Type 0 where
+  -- "The end whose bits are heard is told at the start." No bit was heard yet, and no place is left out
+  pub started : (end : ℕ) → Right (receiveStartChecks end)
+      → x .receive-start end ≡ done (record { given = 0; place = 0 }) (record { end = end; heard = 0; from = 0 })
   -- "lumps of bits of odd sizes, starting in mid-frame", "an empty lump is legal", "One call takes at most 4,096 bits": lumps that fit are taken,
   -- whatever the line room holds at the start
   pub taken : (end : ℕ) (line : List ℕ) (ls : List LumpCall) → Right (receiveStartChecks end) → length line ≡ lineLength → AllFit 0 ls
@@ -66,5 +70,6 @@ pub record Receives (x : Library) : Type 0 where
   -- "It hands out each frame in the call that brings its last bit"
   pub in-its-call : (end : ℕ) (line : List ℕ) (ls : List LumpCall) (gs : List Given) → Right (receiveStartChecks end) → length line ≡ lineLength
       → NoneRefused x (x .receive-start end .memory) line ls → GivenOf end (joinedBits (lumpsOf ls)) gs → heardBy x end line ls ≡ shares 0 (lumpsOf ls) gs
-  -- "a call without one writes nothing to the frame room"
-  pub quiet : (c : ReceiveCall) → x .receive c .numbers .given ≡ 0 → x .receive c .memory .frame ≡ c .frame
+  -- "a call without one writes nothing to the frame room": a call gives one, or 0 and 0 and the room as it was
+  pub quiet : (c : ReceiveCall) → (x .receive c .numbers .given ≡ 1)
+      ⊎ ((x .receive c .numbers ≡ record { given = 0; place = 0 }) × (x .receive c .memory .frame ≡ c .frame))

@@ -3,7 +3,7 @@ use mathlib.Core.Path.{_≡_, refl, sym, ap, ap₂, subst, _∙_}
 use mathlib.Core.Bool.{Bool, true, false, cond, not, _||_, _&&_}
 use mathlib.Core.Logic.{_⊎_, inl, inr}
 use mathlib.Core.List.{List, [], _++_, reverse, append-nil}
-use Prim.Native.Nat.{ℕ, _+_, _-_, _*_, _/_, _%_, _^_, _≤_, _<_, min}
+use Prim.Native.Nat.{ℕ, _+_, _-_, _*_, _/_, _%_, _^_, _≤_, _<_, min, max}
 use native.Mathlib.Nat.{mul-comm, div-div-eq-div-mul, zero-div}
 use native.Mathlib.Omega.{arith}
 use borrow.Author.Tests.{eqb-true, eq-eqb, ne-eqb, le-ltb, lt-leb}
@@ -307,6 +307,14 @@ pub next-at : (B : List ℕ) (p stop r : ℕ) → p ≤ stop → r ≡ firstThat
 next-at B p stop r h e =
     let f : First (synced B) p (stop - p) r = subst (First (synced B) p (stop - p)) (sym e) (first-is (synced B) p (stop - p)) in
     (f .from, omega (arith, f .to), λ l. f .holds (omega arith), f .before)
+
+-- ---- where to begin
+
+pub begins-ahead : (m heard stop : ℕ) → m + 4256 < heard + 30 → 30 ≤ stop → 30 ≡ min (max 30 (m + 4256 - heard)) stop
+begins-ahead m heard stop h l = omega arith
+
+pub begins-later : (m heard : ℕ) → heard + 30 ≤ m + 4256 → m + 4256 - heard ≡ max 30 (m + 4256 - heard)
+begins-later m heard h = omega arith
 
 -- ---- the bits kept and those of the lump
 
