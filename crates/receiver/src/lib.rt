@@ -69,7 +69,7 @@ fn is_sync(x: u64) -> bool
     word == layout::FINAL_SYNC
 }
 
-// The digits at which a sync word may begin, all at once: where both words have a one, and where one has a one and the other none by turns.
+// The digits at which a sync word may begin, all at once. Six of its bits are ones in both words; of each of four pairs of its bits just one is a one.
 fn may_begin(x: u64) -> u64
     ensures { λ r. ⌜ ((j : ℕ) → syncFrom x j ≡ true → r / 2 ^ j % 2 ≡ 1) ⌝ }
 {
