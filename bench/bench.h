@@ -35,10 +35,9 @@
 /* A side: the functions of sdsl.h, ours or those of tests/second/reference.c; the receiver's in plain C are in receive.c. */
 struct library {
     const char *name;
-    __typeof__(sdsl_frame_write) *frame_write;
+    __typeof__(sdsl_frame_send) *frame_send;
     __typeof__(sdsl_frame_check) *frame_check;
     __typeof__(sdsl_frame_read) *frame_read;
-    __typeof__(sdsl_scramble_frame) *scramble_frame;
     __typeof__(sdsl_descramble_frame) *descramble_frame;
     __typeof__(sdsl_encode) *encode;
     __typeof__(sdsl_encode_run) *encode_run;
@@ -116,8 +115,8 @@ bool make_inputs(void); /* false where one could not be made */
 extern uint8_t batch[BATCH][SDSL_FRAME_OCTETS]; /* frames with good sync and pad; three with bad check bits */
 extern uint8_t cards[CARDS][SDSL_FRAME_OCTETS]; /* training and final frames, 40 of them refused with 5 to 7 */
 
-extern uint8_t training[BATCH][SDSL_FRAME_OCTETS];
-extern uint8_t line[2][BATCH][SDSL_FRAME_OCTETS]; /* `training`, scrambled by each end from its start, one after the other */
+extern uint8_t unscrambled[2][BATCH][SDSL_FRAME_OCTETS]; /* by kind: what is sent, before it is scrambled */
+extern uint8_t line[2][BATCH][SDSL_FRAME_OCTETS];        /* by end: training frames, sent one after the other from its start */
 
 /* Data-mode frames of each form, with the smallest and the largest payload. */
 enum { SYNCHRONOUS_24, SYNCHRONOUS_289, PLESIOCHRONOUS_24, PLESIOCHRONOUS_289, DATA_SETS };
@@ -186,7 +185,8 @@ uint32_t sequence_by_bit(const uint8_t *octets, size_t count);
 uint32_t our_sequence(const uint8_t *octets, size_t count); /* by crate checktrial */
 
 extern const struct other check_others[], six_24_others[], six_289_others[];
-extern const struct other scramble_ltu_others[], scramble_ntu_others[], descramble_ltu_others[], descramble_ntu_others[];
+extern const struct other send_training_ltu_others[], send_training_ntu_others[], send_final_ltu_others[], send_final_ntu_others[];
+extern const struct other descramble_ltu_others[], descramble_ntu_others[];
 void prepare_others(void);
 extern const char others_found[]; /* which libraries the program was compiled with */
 
@@ -194,7 +194,14 @@ extern const char others_found[]; /* which libraries the program was compiled wi
 __typeof__(sdsl_precode) narrow_precode;
 __typeof__(sdsl_unprecode) narrow_unprecode;
 
-/* What is measured of data-mode frames, in the order of the rows: PASS(name, operation, set). */
+/* What is measured of sending, in the order of the rows: PASS(name, end, kind). */
+#define SEND_PASSES(PASS) \
+    PASS(send_training_ltu, SDSL_LTU, SDSL_TRAINING) \
+    PASS(send_training_ntu, SDSL_NTU, SDSL_TRAINING) \
+    PASS(send_final_ltu, SDSL_LTU, SDSL_FINAL) \
+    PASS(send_final_ntu, SDSL_NTU, SDSL_FINAL)
+
+/* And of data-mode frames: PASS(name, operation, set). */
 #define DATA_PASSES(PASS) \
     PASS(write_synchronous_24, write_data, SYNCHRONOUS_24) \
     PASS(write_synchronous_289, write_data, SYNCHRONOUS_289) \

@@ -29,8 +29,7 @@ static void make_frames(void)
     }
     for (uint32_t kind = SDSL_TRAINING; kind <= SDSL_FINAL; kind++) {
         for (size_t c = 0; c < FRAME_CASES; c++) {
-            ref_frame_write(kind, SDSL_COUNT_MAX, ends[c == ALL_ONES], SDSL_COEFFICIENT_OCTETS, SDSL_WORD_MAX, SDSL_WORD_MAX, full_vendor,
-                            sizeof full_vendor, dear_frames[kind][c], SDSL_FRAME_OCTETS);
+            ref_make_frame(kind, SDSL_COUNT_MAX, ends[c == ALL_ONES], SDSL_WORD_MAX, SDSL_WORD_MAX, full_vendor, dear_frames[kind][c]);
         }
         flip_bit(dear_frames[kind][LAST_CHECK], SDSL_CHECK_BIT + 15);
         for (size_t n = SDSL_COEFFICIENT_BIT; n < SDSL_CHECK_BIT; n++) {
@@ -47,28 +46,29 @@ static void frame_name(size_t which, char *text, size_t room)
     snprintf(text, room, "%s", frame_names[which]);
 }
 
-static void ends_name(size_t which, char *text, size_t room)
+/* Sent: coefficients at their least or at -1, and every bit of the first state one or none. */
+#define SENT_CASES 4
+
+static void sent_name(size_t which, char *text, size_t room)
 {
-    snprintf(text, room, "180 coefficients, %s", which == 0 ? "each the least" : "each -1");
+    snprintf(text, room, "180 coefficients, %s; %s of the state one", which % 2 == 0 ? "each the least" : "each -1",
+             which < 2 ? "every bit" : "no bit");
 }
 
-static void write_frames(const struct library *library, uint32_t kind, size_t which)
+static void send_frames(const struct library *library, uint32_t end, uint32_t kind, size_t which)
 {
+    struct sdsl_scrambled next = {0, which < 2 ? SDSL_SCRAMBLER_MAX : 0};
     for (size_t i = 0; i < BATCH; i++) {
-        results.numbers[i] = library->frame_write(kind, SDSL_COUNT_MAX, ends[which], SDSL_COEFFICIENT_OCTETS, SDSL_WORD_MAX, SDSL_WORD_MAX,
-                                                  full_vendor, sizeof full_vendor, results.octets, SDSL_FRAME_OCTETS);
+        next = library->frame_send(end, next.state, kind, SDSL_COUNT_MAX, ends[which % 2], SDSL_COEFFICIENT_OCTETS, SDSL_WORD_MAX,
+                                   SDSL_WORD_MAX, full_vendor, sizeof full_vendor, results.octets, SDSL_FRAME_OCTETS);
+        results.numbers[i] = next.answer + 16 * next.state;
     }
 }
 
-static void write_training(const struct library *library, size_t which)
-{
-    write_frames(library, SDSL_TRAINING, which);
-}
+#define SEND_PASS(name, end, kind) \
+    static void name(const struct library *library, size_t which) { send_frames(library, end, kind, which); }
 
-static void write_final(const struct library *library, size_t which)
-{
-    write_frames(library, SDSL_FINAL, which);
-}
+SEND_PASSES(SEND_PASS)
 
 /* Both kinds: a case of one, then a case of the other. */
 static void check(const struct library *library, size_t which)
@@ -109,14 +109,14 @@ static void read_cards(const struct library *library, size_t which)
     read_frames(library, SDSL_TRAINING, which, CARDS);
 }
 
-/* ---- Scrambler: every bit one, in the frame and in the state, or none ---- */
+/* ---- Descrambler: every bit one, in the frame and in the state, or none ---- */
 
-static void through(__typeof__(sdsl_scramble_frame) *pass, uint32_t end, size_t which)
+static void descramble_frames(const struct library *library, uint32_t end, size_t which)
 {
     struct sdsl_scrambled next = {0, which == 0 ? SDSL_SCRAMBLER_MAX : 0};
     for (size_t i = 0; i < BATCH; i++) {
-        next = pass(end, next.state, dear_frames[SDSL_FINAL][which == 0 ? ALL_ONES : GOOD], SDSL_FRAME_OCTETS, results.octets,
-                    SDSL_FRAME_OCTETS);
+        next = library->descramble_frame(end, next.state, dear_frames[SDSL_FINAL][which == 0 ? ALL_ONES : GOOD], SDSL_FRAME_OCTETS,
+                                         results.octets, SDSL_FRAME_OCTETS);
         results.numbers[i] = next.answer + 16 * next.state;
     }
 }
@@ -126,24 +126,14 @@ static void bits_name(size_t which, char *text, size_t room)
     snprintf(text, room, "%s", which == 0 ? "every bit one" : "nearly every bit zero");
 }
 
-static void scramble_ltu(const struct library *library, size_t which)
-{
-    through(library->scramble_frame, SDSL_LTU, which);
-}
-
-static void scramble_ntu(const struct library *library, size_t which)
-{
-    through(library->scramble_frame, SDSL_NTU, which);
-}
-
 static void descramble_ltu(const struct library *library, size_t which)
 {
-    through(library->descramble_frame, SDSL_LTU, which);
+    descramble_frames(library, SDSL_LTU, which);
 }
 
 static void descramble_ntu(const struct library *library, size_t which)
 {
-    through(library->descramble_frame, SDSL_NTU, which);
+    descramble_frames(library, SDSL_NTU, which);
 }
 
 /* ---- Symbols: every bit one; and refused for the last symbol or sample ---- */
@@ -325,10 +315,11 @@ RECEIVE_PASSES(RECEIVE_PASS)
 
 /* In the order of rows.c. */
 const struct dear dears[] = {
-    {2, BATCH, write_training, ends_name}, {2, BATCH, write_final, ends_name},
+    {SENT_CASES, BATCH, send_training_ltu, sent_name}, {SENT_CASES, BATCH, send_training_ntu, sent_name},
+    {SENT_CASES, BATCH, send_final_ltu, sent_name}, {SENT_CASES, BATCH, send_final_ntu, sent_name},
     {2 * FRAME_CASES, BATCH, check, check_name}, {FRAME_CASES, BATCH, read_training, frame_name},
-    {FRAME_CASES, BATCH, read_final, frame_name}, {2, BATCH, scramble_ltu, bits_name}, {2, BATCH, scramble_ntu, bits_name},
-    {2, BATCH, descramble_ltu, bits_name}, {2, BATCH, descramble_ntu, bits_name}, {2, RUN, encode_run, symbols_name},
+    {FRAME_CASES, BATCH, read_final, frame_name}, {2, BATCH, descramble_ltu, bits_name},
+    {2, BATCH, descramble_ntu, bits_name}, {2, RUN, encode_run, symbols_name},
     {2, RUN, encode_each, symbols_name}, {2, RUN, precode, samples_name}, {2, RUN, unprecode, samples_name},
     {CODE_CASES, STEPS, step, code_name}, {CODE_CASES, STEPS, run_codes, code_name}, {FRAME_CASES, 1, read_cards, frame_name},
     {WRITTEN_CASES, BATCH, write_synchronous_24, data_name}, {WRITTEN_CASES, BATCH, write_synchronous_289, data_name},

@@ -220,18 +220,27 @@ const struct other six_289_others[] = {
     {NULL, NULL},
 };
 
-/* Defined where GNU Radio's header was found, with its version; its passes are in radio.cpp. */
+/*
+ * Defined where GNU Radio's header was found, with its version; its passes are in radio.cpp. It has no activation frame to write: it is
+ * handed the frames of the rows for sending as they are before they are scrambled.
+ */
 #ifdef RADIO
-void radio_scramble_ltu(void), radio_scramble_ntu(void), radio_descramble_ltu(void), radio_descramble_ntu(void);
+void radio_training_ltu(void), radio_training_ntu(void), radio_final_ltu(void), radio_final_ntu(void);
+void radio_descramble_ltu(void), radio_descramble_ntu(void);
 #else
-#define radio_scramble_ltu NULL
-#define radio_scramble_ntu NULL
+#define radio_training_ltu NULL
+#define radio_training_ntu NULL
+#define radio_final_ltu NULL
+#define radio_final_ntu NULL
 #define radio_descramble_ltu NULL
 #define radio_descramble_ntu NULL
 #endif
 
-const struct other scramble_ltu_others[] = {{"GNU Radio's lfsr", radio_scramble_ltu}, {NULL, NULL}};
-const struct other scramble_ntu_others[] = {{"GNU Radio's lfsr", radio_scramble_ntu}, {NULL, NULL}};
+#define WRITTEN "GNU Radio's lfsr, frames written beforehand"
+const struct other send_training_ltu_others[] = {{WRITTEN, radio_training_ltu}, {NULL, NULL}};
+const struct other send_training_ntu_others[] = {{WRITTEN, radio_training_ntu}, {NULL, NULL}};
+const struct other send_final_ltu_others[] = {{WRITTEN, radio_final_ltu}, {NULL, NULL}};
+const struct other send_final_ntu_others[] = {{WRITTEN, radio_final_ntu}, {NULL, NULL}};
 const struct other descramble_ltu_others[] = {{"GNU Radio's lfsr", radio_descramble_ltu}, {NULL, NULL}};
 const struct other descramble_ntu_others[] = {{"GNU Radio's lfsr", radio_descramble_ntu}, {NULL, NULL}};
 

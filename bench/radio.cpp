@@ -46,13 +46,13 @@ static uint32_t state_behind(const uint8_t *bits)
     return state;
 }
 
-static void scramble(uint32_t end)
+static void scramble(uint32_t end, uint32_t kind)
 {
     static uint8_t out[BATCH * PAYLOAD + DELAY], in[PAYLOAD];
     gr::digital::lfsr reg = register_of(end);
     uint8_t *next = out;
     for (size_t i = 0; i < BATCH; i++) {
-        unpack(training[i], in);
+        unpack(unscrambled[kind][i], in);
         for (uint8_t bit : in) {
             *next++ = reg.next_bit_scramble(bit);
         }
@@ -62,7 +62,7 @@ static void scramble(uint32_t end)
     }
     for (size_t i = 0; i < BATCH; i++) {
         const uint8_t *bits = out + DELAY + i * PAYLOAD;
-        pack(training[i], bits, results.octets + i * SDSL_FRAME_OCTETS);
+        pack(unscrambled[kind][i], bits, results.octets + i * SDSL_FRAME_OCTETS);
         results.numbers[2 * i] = SDSL_DONE;
         results.numbers[2 * i + 1] = state_behind(bits);
     }
@@ -84,8 +84,10 @@ static void descramble(uint32_t end)
 }
 
 extern "C" {
-void radio_scramble_ltu(void) { scramble(SDSL_LTU); }
-void radio_scramble_ntu(void) { scramble(SDSL_NTU); }
+void radio_training_ltu(void) { scramble(SDSL_LTU, SDSL_TRAINING); }
+void radio_training_ntu(void) { scramble(SDSL_NTU, SDSL_TRAINING); }
+void radio_final_ltu(void) { scramble(SDSL_LTU, SDSL_FINAL); }
+void radio_final_ntu(void) { scramble(SDSL_NTU, SDSL_FINAL); }
 void radio_descramble_ltu(void) { descramble(SDSL_LTU); }
 void radio_descramble_ntu(void) { descramble(SDSL_NTU); }
 }

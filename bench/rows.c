@@ -8,14 +8,14 @@
 
 const struct library ours = {
     "ours",
-    sdsl_frame_write, sdsl_frame_check, sdsl_frame_read, sdsl_scramble_frame, sdsl_descramble_frame,
+    sdsl_frame_send, sdsl_frame_check, sdsl_frame_read, sdsl_descramble_frame,
     sdsl_encode, sdsl_encode_run, sdsl_precode, sdsl_unprecode, sdsl_start, sdsl_step, sdsl_run_codes,
     sdsl_data_write, sdsl_data_crc, sdsl_data_read, sdsl_data_check,
     sdsl_eoc_write, sdsl_eoc_read, sdsl_eoc_hand_up, sdsl_receive_start, sdsl_receive, our_sequence,
 };
 const struct library plain = {
     "plain C",
-    ref_frame_write, ref_frame_check, ref_frame_read, ref_scramble_frame, ref_descramble_frame,
+    ref_frame_send, ref_frame_check, ref_frame_read, ref_descramble_frame,
     ref_encode, ref_encode_run, ref_precode, ref_unprecode, ref_start, ref_step, ref_run_codes,
     ref_data_write, ref_data_crc, ref_data_read, ref_data_check,
     ref_eoc_write, ref_eoc_read, ref_eoc_hand_up, plain_receive_start, plain_receive, sequence_by_bit,
@@ -24,7 +24,7 @@ const struct library plain = {
 struct results results;
 uint8_t batch[BATCH][SDSL_FRAME_OCTETS];
 uint8_t cards[CARDS][SDSL_FRAME_OCTETS];
-uint8_t training[BATCH][SDSL_FRAME_OCTETS];
+uint8_t unscrambled[2][BATCH][SDSL_FRAME_OCTETS];
 uint8_t line[2][BATCH][SDSL_FRAME_OCTETS];
 
 /* ---- Inputs ---- */
@@ -33,8 +33,8 @@ static struct {
     uint8_t coefficients[SDSL_COEFFICIENT_OCTETS];
     uint8_t vendor[SDSL_VENDOR_OCTETS];
     uint32_t a, b;
-} written[BATCH];
-static uint8_t finals[BATCH][SDSL_FRAME_OCTETS];
+} sent[BATCH];
+static uint8_t training[BATCH][SDSL_FRAME_OCTETS], finals[BATCH][SDSL_FRAME_OCTETS];
 static uint32_t word_a, word_b;
 static uint8_t symbols[RUN];
 static uint8_t taps[SDSL_COEFFICIENT_OCTETS];
@@ -54,19 +54,21 @@ static void make_frame(uint32_t kind, uint8_t *frame)
         set_number(coefficients, k, between(SDSL_COEFFICIENT_MIN, SDSL_COEFFICIENT_MAX));
     }
     random_octets(vendor, sizeof vendor);
-    ref_frame_write(kind, 180, coefficients, sizeof coefficients, chance_word(), chance_word(), vendor, sizeof vendor,
-                    frame, SDSL_FRAME_OCTETS);
+    ref_make_frame(kind, SDSL_COUNT_MAX, coefficients, chance_word(), chance_word(), vendor, frame);
 }
 
 static void make_frames(void)
 {
     for (size_t i = 0; i < BATCH; i++) {
         for (size_t k = 0; k < SDSL_COEFFICIENTS; k++) {
-            set_number(written[i].coefficients, k, between(SDSL_COEFFICIENT_MIN, SDSL_COEFFICIENT_MAX));
+            set_number(sent[i].coefficients, k, between(SDSL_COEFFICIENT_MIN, SDSL_COEFFICIENT_MAX));
         }
-        random_octets(written[i].vendor, SDSL_VENDOR_OCTETS);
-        written[i].a = chance_word();
-        written[i].b = chance_word();
+        random_octets(sent[i].vendor, SDSL_VENDOR_OCTETS);
+        sent[i].a = chance_word();
+        sent[i].b = chance_word();
+        for (uint32_t kind = SDSL_TRAINING; kind <= SDSL_FINAL; kind++) {
+            ref_make_frame(kind, SDSL_COUNT_MAX, sent[i].coefficients, sent[i].a, sent[i].b, sent[i].vendor, unscrambled[kind][i]);
+        }
         make_frame(SDSL_TRAINING, training[i]);
         make_frame(SDSL_FINAL, finals[i]);
         make_frame(SDSL_TRAINING, batch[i]);
@@ -84,7 +86,7 @@ static void make_frames(void)
     for (uint32_t end = SDSL_LTU; end <= SDSL_NTU; end++) {
         uint32_t state = sdsl_scrambler_start(end).state;
         for (size_t i = 0; i < BATCH; i++) {
-            state = ref_scramble_frame(end, state, training[i], SDSL_FRAME_OCTETS, line[end][i], SDSL_FRAME_OCTETS).state;
+            state = ref_put_on_line(end, state, training[i], line[end][i]);
         }
     }
 }
@@ -131,24 +133,23 @@ bool make_inputs(void)
 
 /* ---- A pass of each operation ---- */
 
-static void write_frames(const struct library *library, uint32_t kind)
+/* Every frame sent, the state handed on. */
+static void send_frames(const struct library *library, uint32_t end, uint32_t kind)
 {
+    struct sdsl_scrambled next = sdsl_scrambler_start(end);
     for (size_t i = 0; i < BATCH; i++) {
-        results.numbers[i] = library->frame_write(kind, 180, written[i].coefficients, SDSL_COEFFICIENT_OCTETS, written[i].a, written[i].b,
-                                                  written[i].vendor, SDSL_VENDOR_OCTETS,
-                                                  results.octets + i * SDSL_FRAME_OCTETS, SDSL_FRAME_OCTETS);
+        next = library->frame_send(end, next.state, kind, SDSL_COUNT_MAX, sent[i].coefficients, SDSL_COEFFICIENT_OCTETS, sent[i].a,
+                                   sent[i].b, sent[i].vendor, SDSL_VENDOR_OCTETS, results.octets + i * SDSL_FRAME_OCTETS,
+                                   SDSL_FRAME_OCTETS);
+        results.numbers[2 * i] = next.answer;
+        results.numbers[2 * i + 1] = next.state;
     }
 }
 
-static void write_training(const struct library *library)
-{
-    write_frames(library, SDSL_TRAINING);
-}
+#define SEND_PASS(name, end, kind) \
+    static void name(const struct library *library) { send_frames(library, end, kind); }
 
-static void write_final(const struct library *library)
-{
-    write_frames(library, SDSL_FINAL);
-}
+SEND_PASSES(SEND_PASS)
 
 static void check(const struct library *library)
 {
@@ -183,35 +184,26 @@ static void read_cards(const struct library *library)
     read_frames(library, cards, CARDS);
 }
 
-/* Every frame through the scrambler or the descrambler, the state handed on. */
-static void through(__typeof__(sdsl_scramble_frame) *pass, uint32_t end, uint8_t (*frames)[SDSL_FRAME_OCTETS])
+/* Every frame descrambled, the state handed on. */
+static void descramble_frames(const struct library *library, uint32_t end)
 {
     struct sdsl_scrambled next = sdsl_scrambler_start(end);
     for (size_t i = 0; i < BATCH; i++) {
-        next = pass(end, next.state, frames[i], SDSL_FRAME_OCTETS, results.octets + i * SDSL_FRAME_OCTETS, SDSL_FRAME_OCTETS);
+        next = library->descramble_frame(end, next.state, line[end][i], SDSL_FRAME_OCTETS, results.octets + i * SDSL_FRAME_OCTETS,
+                                         SDSL_FRAME_OCTETS);
         results.numbers[2 * i] = next.answer;
         results.numbers[2 * i + 1] = next.state;
     }
 }
 
-static void scramble_ltu(const struct library *library)
-{
-    through(library->scramble_frame, SDSL_LTU, training);
-}
-
-static void scramble_ntu(const struct library *library)
-{
-    through(library->scramble_frame, SDSL_NTU, training);
-}
-
 static void descramble_ltu(const struct library *library)
 {
-    through(library->descramble_frame, SDSL_LTU, line[SDSL_LTU]);
+    descramble_frames(library, SDSL_LTU);
 }
 
 static void descramble_ntu(const struct library *library)
 {
-    through(library->descramble_frame, SDSL_NTU, line[SDSL_NTU]);
+    descramble_frames(library, SDSL_NTU);
 }
 
 static void encode_run(const struct library *library)
@@ -327,13 +319,13 @@ SEQUENCE_PASSES(SEQUENCE_PASS)
 RECEIVE_PASSES(RECEIVE_PASS)
 
 const struct row rows[] = {
-    {"write a training frame", "frame", BATCH, 4, 25, write_training, NULL, false},
-    {"write a final frame", "frame", BATCH, 4, 10, write_final, NULL, false},
+    {"send a training frame, LTU", "frame", BATCH, 5, 20, send_training_ltu, send_training_ltu_others, false},
+    {"send a training frame, NTU", "frame", BATCH, 5, 20, send_training_ntu, send_training_ntu_others, false},
+    {"send a final frame, LTU", "frame", BATCH, 6, 12, send_final_ltu, send_final_ltu_others, false},
+    {"send a final frame, NTU", "frame", BATCH, 6, 12, send_final_ntu, send_final_ntu_others, false},
     {"check a frame", "frame", BATCH, 6, 45, check, check_others, false},
     {"read a training frame", "frame", BATCH, 4, 26, read_training, NULL, false},
     {"read a final frame", "frame", BATCH, 4, 11, read_final, NULL, false},
-    {"scramble a frame, LTU", "frame", BATCH, 15, 20, scramble_ltu, scramble_ltu_others, false},
-    {"scramble a frame, NTU", "frame", BATCH, 15, 20, scramble_ntu, scramble_ntu_others, false},
     {"descramble a frame, LTU", "frame", BATCH, 25, 40, descramble_ltu, descramble_ltu_others, false},
     {"descramble a frame, NTU", "frame", BATCH, 25, 40, descramble_ntu, descramble_ntu_others, false},
     {"encoder, in a run", "symbol", RUN, 1, 1, encode_run, NULL, false},

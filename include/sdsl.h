@@ -39,9 +39,9 @@
 
 /* The version of this header and of the library that belongs to it. */
 #define SDSL_VERSION_MAJOR 0
-#define SDSL_VERSION_MINOR 5
+#define SDSL_VERSION_MINOR 6
 #define SDSL_VERSION_PATCH 0
-#define SDSL_VERSION "0.5.0"
+#define SDSL_VERSION "0.6.0"
 
 #ifdef __cplusplus
 extern "C" {
@@ -138,6 +138,12 @@ static inline int32_t sdsl_get_number(const uint8_t *buffer, size_t place)
 
 /* ---- The activation frame (clause 4.1.3) ---- */
 
+/*
+ * A frame is sent scrambled or not at all: sdsl_frame_send takes the fields and gives the frame as it goes out on the line. What comes
+ * in takes two steps: sdsl_descramble_frame (below, with the scrambler), then sdsl_frame_read. Frames that have to be found first, in
+ * bits off the line, are sdsl_receive's (further below).
+ */
+
 /* The two kinds of activation frame: T_c and T_r are training frames, F_c is a final frame. */
 enum sdsl_kind { SDSL_TRAINING = 0, SDSL_FINAL = 1 };
 
@@ -162,35 +168,56 @@ enum sdsl_kind { SDSL_TRAINING = 0, SDSL_FINAL = 1 };
 #define SDSL_B_BIT 3996         /* 21 bits, b0 first */
 #define SDSL_WORD_BITS 21
 #define SDSL_VENDOR_BIT 4017    /* 128 bits */
-#define SDSL_RESERVED_BIT 4145  /* 67 bits: written as zero; read as they are, under the check bits */
+#define SDSL_RESERVED_BIT 4145  /* 67 bits: sent as zero; read as they are, under the check bits */
 #define SDSL_RESERVED_BITS 67
 #define SDSL_CHECK_BIT 4212     /* 16 bits, c1 first */
 
+#define SDSL_SCRAMBLER_MAX 8388607u /* the largest state of a scrambler, 2^23 - 1 */
+
+/* The answer, and the scrambler's state for the next call: the last 23 scrambled bits, the newest at weight 1. */
+struct sdsl_scrambled {
+    uint32_t answer; /* enum sdsl_answer */
+    uint32_t state;  /* after a refusal the one that was passed in, if there was one, else 0 */
+};
+
 /*
- * Writes a frame of 529 octets. Its reserved bits are zero.
+ * Sends a frame: writes the 529 octets as they go out on the line, and gives the state for the next frame. The 14 sync bits go out as
+ * they are and do not clock the state; the bits behind them are scrambled; the pad is zero. The reserved bits under the scrambling are
+ * zero.
+ *   end           the end that sends, SDSL_LTU or SDSL_NTU
+ *   state         0 to SDSL_SCRAMBLER_MAX, where this end's scrambler stands: it starts with sdsl_scrambler_start's state and runs on, so
+ *                 take the one that came back with the frame before, or with sdsl_scramble of what went out before the first frame
  *   kind          SDSL_TRAINING or SDSL_FINAL
- *   count         how many coefficients are in use, 128 to 180; the rest are written as zero, whatever the buffer holds
+ *   count         how many coefficients are in use, 128 to 180; the rest are sent as zero, whatever the buffer holds
  *   coefficients  720 octets; only the first `count` numbers are looked at, each from -2097152 to 2097151
  *   a, b          the encoder's words, 0 to 2097151; the lowest bit of a is a0, the first on the line
  *   vendor        16 octets
- *   frame         529 octets, written
- * A final frame carries vendor data only: count, coefficients, a and b are ignored, but all three buffers must still have the right
- * length.
+ *   frame         529 octets, written: what goes out. The frame as it is before scrambling never stands there
+ * A final frame carries vendor data only: count, coefficients, a and b are ignored, but end, state and the lengths of all three buffers
+ * must still be right.
  * The coefficients and words in a card's frame are those that its own receiver asks the far card's transmitter to use (clause 4.3.3.2).
- * Answers 0, 1, 2 (kind), 3, 4.
+ * Answers 0, 1, 2 (kind or end), 3, 4 (coefficient, a, b or state).
  *
  * Example:
- *     uint8_t coefficients[SDSL_COEFFICIENT_OCTETS] = {0}, vendor[SDSL_VENDOR_OCTETS] = "bench 7", frame[SDSL_FRAME_OCTETS];
+ *     uint8_t coefficients[SDSL_COEFFICIENT_OCTETS] = {0}, vendor[SDSL_VENDOR_OCTETS] = "bench 7", reserved[SDSL_RESERVED_OCTETS];
+ *     uint8_t line[SDSL_FRAME_OCTETS], heard[SDSL_FRAME_OCTETS];
+ *     uint32_t start = sdsl_scrambler_start(SDSL_LTU).state;
  *     sdsl_put_number(coefficients, 0, SDSL_STEPS / 2); // coefficient 1 is one half
- *     uint32_t answer = sdsl_frame_write(SDSL_TRAINING, SDSL_COUNT_MIN, coefficients, sizeof coefficients, 1, 2,
- *                                        vendor, sizeof vendor, frame, sizeof frame);
- *     assert(answer == SDSL_DONE && frame[0] == 0x9F && frame[1] == 0x35); // training sync, and two bits of coefficient 1
+ *     struct sdsl_scrambled sent = sdsl_frame_send(SDSL_LTU, start, SDSL_TRAINING, SDSL_COUNT_MIN, coefficients, sizeof coefficients,
+ *                                                  1, 2, vendor, sizeof vendor, line, sizeof line);
+ *     assert(sent.answer == SDSL_DONE && line[0] == 0x9F); // sync goes out as it is
+ *     // The far card: first descramble, then read.
+ *     struct sdsl_scrambled got = sdsl_descramble_frame(SDSL_LTU, start, line, sizeof line, heard, sizeof heard);
+ *     struct sdsl_frame_fields fields = sdsl_frame_read(heard, sizeof heard, coefficients, sizeof coefficients, vendor, sizeof vendor,
+ *                                                       reserved, sizeof reserved);
+ *     assert(fields.answer == SDSL_DONE && fields.a == 1 && fields.b == 2 && got.state == sent.state);
+ *     assert(sdsl_frame_check(line, sizeof line) == SDSL_BAD_CHECK); // as it stands on the line it cannot be read
  */
-uint32_t sdsl_frame_write(uint32_t kind, uint32_t count,
-                          const uint8_t *coefficients, size_t coefficients_len,
-                          uint32_t a, uint32_t b,
-                          const uint8_t *vendor, size_t vendor_len,
-                          uint8_t *frame, size_t frame_len);
+struct sdsl_scrambled sdsl_frame_send(uint32_t end, uint32_t state, uint32_t kind, uint32_t count,
+                                      const uint8_t *coefficients, size_t coefficients_len,
+                                      uint32_t a, uint32_t b,
+                                      const uint8_t *vendor, size_t vendor_len,
+                                      uint8_t *frame, size_t frame_len);
 
 /* What reading a frame gives. For a final frame a and b are 0. */
 struct sdsl_frame_fields {
@@ -208,8 +235,8 @@ struct sdsl_frame_fields {
  *                 4 in the last, whose top five bits become zero
  * A final frame leaves `coefficients` and `reserved` as they were, but their lengths must still be right.
  * Reserved bits are not judged: a card of another make may set some. (In part 1, bits 4145 and 4146 hold the number of wire pairs less
- * one, or the number of this pair less one.) They are under the check bits. sdsl_frame_write writes them as zero, so a training frame
- * that is read and written again with a count of 180 comes out the same exactly where all nine octets are zero.
+ * one, or the number of this pair less one.) They are under the check bits. sdsl_frame_send puts zeros there, so a training frame
+ * that is read, sent again with a count of 180 and descrambled comes out the same exactly where all nine octets are zero.
  * A frame does not say how many coefficients are in use: unused ones are zero. Look at `answer` first: after a refusal kind is 0, which
  * is also SDSL_TRAINING.
  * Answers 0, 1, 5, 6, 7.
@@ -491,14 +518,6 @@ struct sdsl_eoc_handed_up sdsl_eoc_hand_up(const uint8_t *octets, size_t octets_
 
 /* ---- The scrambler (clause 4.1.5; part 1, clause 7.1.6) ---- */
 
-#define SDSL_SCRAMBLER_MAX 8388607u /* the largest state, 2^23 - 1 */
-
-/* The answer, and the state for the next call: the last 23 scrambled bits, the newest at weight 1. */
-struct sdsl_scrambled {
-    uint32_t answer; /* enum sdsl_answer */
-    uint32_t state;  /* after a refusal the one that was passed in, if there was one, else 0 */
-};
-
 /*
  * The state that the scrambler of an end, SDSL_LTU or SDSL_NTU, starts with.
  * Answers 0, 2 (end).
@@ -563,24 +582,23 @@ struct sdsl_scrambled sdsl_descramble(uint32_t end, uint32_t state,
                                       uint8_t *out, size_t out_len);
 
 /*
- * Scrambles a whole frame, 529 octets in and out. The 14 sync bits pass straight through and do not clock the state. The five pad bits
- * must be zero, and are zero in the output; sync and check bits are not checked. Pass the state that comes back to the call for the
- * next frame.
+ * Descrambles a whole frame, 529 octets in and out, given the sender's end and the state that the sender had before the frame: it gives
+ * the frame that sdsl_frame_send made of its fields, and the sender's next state. The 14 sync bits pass straight through and do not
+ * clock the state. The five pad bits must be zero, and are zero in the output; sync and check bits are not checked, which
+ * sdsl_frame_read does. Pass the state that comes back to the call for the next frame.
  * Answers 0, 1, 2 (end), 4 (state), 6.
  *
  * Example:
- *     uint8_t frame[SDSL_FRAME_OCTETS] = {0x6B, 0x3E}, line[SDSL_FRAME_OCTETS], heard[SDSL_FRAME_OCTETS];
- *     struct sdsl_scrambled sent = sdsl_scramble_frame(SDSL_LTU, 1, frame, sizeof frame, line, sizeof line);
- *     struct sdsl_scrambled got = sdsl_descramble_frame(SDSL_LTU, 1, line, sizeof line, heard, sizeof heard);
- *     assert(line[0] == 0x6B && memcmp(heard, frame, sizeof frame) == 0 && got.state == sent.state);
- */
-struct sdsl_scrambled sdsl_scramble_frame(uint32_t end, uint32_t state,
-                                          const uint8_t *in, size_t in_len,
-                                          uint8_t *out, size_t out_len);
-
-/*
- * Undoes sdsl_scramble_frame, given the sender's end and the state that the sender had before the frame.
- * Answers 0, 1, 2 (end), 4 (state), 6.
+ *     uint8_t unused[SDSL_COEFFICIENT_OCTETS] = {0}, vendor[SDSL_VENDOR_OCTETS] = "second", line[2][SDSL_FRAME_OCTETS];
+ *     uint8_t heard[SDSL_FRAME_OCTETS];
+ *     uint32_t there = sdsl_scrambler_start(SDSL_NTU).state, here = there; // two frames, one after the other
+ *     for (int i = 0; i < 2; i++)
+ *         there = sdsl_frame_send(SDSL_NTU, there, SDSL_FINAL, 0, unused, sizeof unused, 0, 0, vendor, sizeof vendor, line[i],
+ *                                 sizeof line[i]).state;
+ *     for (int i = 0; i < 2; i++)
+ *         here = sdsl_descramble_frame(SDSL_NTU, here, line[i], sizeof line[i], heard, sizeof heard).state;
+ *     assert(here == there && sdsl_frame_check(heard, sizeof heard) == SDSL_DONE);
+ *     assert(memcmp(line[0], line[1], sizeof heard) != 0); // the same fields from another state
  */
 struct sdsl_scrambled sdsl_descramble_frame(uint32_t end, uint32_t state,
                                             const uint8_t *in, size_t in_len,
@@ -634,15 +652,16 @@ struct sdsl_received sdsl_receive_start(uint32_t end);
  * 4,294,967,295 in all).
  *
  * Example:
- *     uint8_t frame[SDSL_FRAME_OCTETS] = {0x6B, 0x3E}, sent[SDSL_FRAME_OCTETS], line[SDSL_LINE_OCTETS], heard[SDSL_FRAME_OCTETS];
+ *     uint8_t unused[SDSL_COEFFICIENT_OCTETS] = {0}, vendor[SDSL_VENDOR_OCTETS] = {0};
+ *     uint8_t sent[SDSL_FRAME_OCTETS], line[SDSL_LINE_OCTETS], heard[SDSL_FRAME_OCTETS];
  *     const uint8_t before[3] = {0, 0, 0x40}; // 23 bits: their last is a one, so the LTU's scrambler stands at 1
- *     sdsl_scramble_frame(SDSL_LTU, 1, frame, sizeof frame, sent, sizeof sent);
+ *     sdsl_frame_send(SDSL_LTU, 1, SDSL_FINAL, 0, unused, sizeof unused, 0, 0, vendor, sizeof vendor, sent, sizeof sent);
  *     struct sdsl_received got = sdsl_receive_start(SDSL_LTU);
  *     got = sdsl_receive(got.state, line, sizeof line, before, sizeof before, 23, heard, sizeof heard);
  *     got = sdsl_receive(got.state, line, sizeof line, sent, sizeof sent, 4096, heard, sizeof heard);
  *     assert(got.answer == SDSL_DONE && got.given == 0); // 131 bits are still to come, from octet 512 on
  *     got = sdsl_receive(got.state, line, sizeof line, sent + 512, sizeof sent - 512, 131, heard, sizeof heard);
- *     assert(got.given == 1 && got.place == 23 && memcmp(heard, frame, sizeof frame) == 0);
+ *     assert(got.given == 1 && got.place == 23 && sdsl_frame_check(heard, sizeof heard) == SDSL_DONE);
  */
 struct sdsl_received sdsl_receive(struct sdsl_receiver state,
                                   uint8_t *line, size_t line_len,

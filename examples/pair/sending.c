@@ -30,22 +30,43 @@ static unsigned send_ones(struct card *card, struct symbol *out, unsigned room)
     return room;
 }
 
-/*
- * What a card of another make sends: bits 4145 and 4146 set, and the check bits that such a frame needs (clause 4.1.3.6, bit by bit).
- * The library itself writes zeros there.
- */
-static void make_newer(uint8_t frame[SDSL_FRAME_OCTETS])
+static void put_bit(uint8_t *octets, size_t place, unsigned bit)
+{
+    octets[place / 8] = (uint8_t)((octets[place / 8] & ~(1u << place % 8)) | bit << place % 8);
+}
+
+/* Sets bits 4145 and 4146 of a frame that is not scrambled, and gives it the check bits that it then needs (clause 4.1.3.6, bit by bit). */
+static void set_reserved(uint8_t frame[SDSL_FRAME_OCTETS])
 {
     uint32_t left = 0;
-    frame[(SDSL_RESERVED_BIT - 1) / 8] |= 0x03;
+    put_bit(frame, SDSL_RESERVED_BIT - 1, 1);
+    put_bit(frame, SDSL_RESERVED_BIT, 1);
     for (size_t n = SDSL_COEFFICIENT_BIT; n < SDSL_CHECK_BIT; n++) {
         uint32_t top = left >> 15 ^ bit_at(frame, n - 1);
         left = (left << 1 & 0xFFFF) ^ (top ? 0x1021 : 0);
     }
     for (size_t i = 0; i < 16; i++) {
-        size_t place = SDSL_CHECK_BIT - 1 + i;
-        frame[place / 8] = (uint8_t)((frame[place / 8] & ~(1u << place % 8)) | (left >> (15 - i) & 1) << place % 8);
+        put_bit(frame, SDSL_CHECK_BIT - 1 + i, left >> (15 - i) & 1);
     }
+}
+
+/*
+ * Turns a frame that the library sent, from this state on, into one that a card of another make sends, and gives its next state. The
+ * library sends no reserved bit that is set, so this stands in for the other card: what is under the scrambling is changed, and
+ * scrambled again bit by bit. Sync goes out as it is and does not clock the state.
+ */
+static uint32_t send_newer(uint32_t end, uint32_t state, uint8_t line[SDSL_FRAME_OCTETS])
+{
+    uint8_t frame[SDSL_FRAME_OCTETS];
+    must(sdsl_descramble_frame(end, state, line, SDSL_FRAME_OCTETS, frame, sizeof frame).answer, "sdsl_descramble_frame");
+    set_reserved(frame);
+    for (size_t n = SDSL_COEFFICIENT_BIT; n <= SDSL_FRAME_BITS; n++) {
+        struct sdsl_scrambled_bit out = sdsl_scramble_bit(end, state, bit_at(frame, n - 1));
+        must(out.answer, "sdsl_scramble_bit");
+        put_bit(line, n - 1, out.bit);
+        state = out.state;
+    }
+    return state;
 }
 
 /* The next frame: T_c and T_r carry what this card's receiver asks of the far card; F_c carries vendor data only. */
@@ -53,16 +74,12 @@ static void next_frame(struct card *card)
 {
     struct sender *s = &card->send;
     const struct wishes *own = &card->own;
-    uint8_t frame[SDSL_FRAME_OCTETS];
     uint32_t kind = card->state.phase == SDSL_FC ? SDSL_FINAL : SDSL_TRAINING;
-    must(sdsl_frame_write(kind, own->count, own->coefficients, sizeof own->coefficients, own->a, own->b, own->vendor, sizeof own->vendor,
-                          frame, sizeof frame), "sdsl_frame_write");
-    if (card->newer && kind == SDSL_TRAINING) {
-        make_newer(frame);
-    }
-    struct sdsl_scrambled run = sdsl_scramble_frame(card->end, s->scrambler, frame, sizeof frame, s->frame, sizeof s->frame);
-    must(run.answer, "sdsl_scramble_frame");
-    s->scrambler = run.state;
+    struct sdsl_scrambled sent =
+        sdsl_frame_send(card->end, s->scrambler, kind, own->count, own->coefficients, sizeof own->coefficients, own->a, own->b,
+                        own->vendor, sizeof own->vendor, s->frame, sizeof s->frame);
+    must(sent.answer, "sdsl_frame_send");
+    s->scrambler = card->newer && kind == SDSL_TRAINING ? send_newer(card->end, s->scrambler, s->frame) : sent.state;
     s->bit = 0;
     s->frames++;
     s->finals += kind == SDSL_FINAL;

@@ -123,9 +123,10 @@ def check(sources, contracts, from_c):
                 elif have not in (ask if isinstance(ask, tuple) else (ask,)):
                     wrong.append(f"{name}: argument {i} of {predicate} is {have}, not {ask}")
             tests = " && ".join(f"{TESTS[t]} {held(a)}" for a, t in args)
-            said = re.search(rf"^  {re.escape(field)} = λ {call}\. (.*?);$", re.search(r"fromC = record \{(.*?)\n\}", from_c, re.S)[1], re.M)
-            if not said or said[1] != tests:
-                wrong.append(f"{name}: fromC tests {said and said[1]}, not {tests}")
+            said = re.search(rf"^  {re.escape(field)} = λ {call}\. (.*?);$", re.search(r"fromC = record \{(.*?)\n\}", from_c, re.S)[1], re.M | re.S)
+            said = said and " ".join(said[1].split())
+            if said != tests:
+                wrong.append(f"{name}: fromC tests {said}, not {tests}")
     for name in sorted(set(code) - seen):
         wrong.append(f"{name} is exported, and KeepsFor says nothing of it")
     return wrong, len(seen)
@@ -141,7 +142,7 @@ print(("FAIL" if wrong else "pass") + f": the contracts of {n} exported function
 
 # errors that have to be found
 planted = [
-    ("(c .a) (c .b) (c .vendor) (c .frame)\n", "(c .b) (c .a) (c .vendor) (c .frame)\n", contracts),
+    ("(c .a) (c .b) (c .vendor) (c .output)\n", "(c .b) (c .a) (c .vendor) (c .output)\n", contracts),
     ("attempt = x .step c .numbers .attempt;", "attempt = x .step c .numbers .phase;", contracts),
     ("(x .read c .memory .coefficients) (x .read c .memory .vendor)", "(x .read c .memory .coefficients) (x .read c .memory .coefficients)", contracts),
     ("→ DecodesRun ", "→ PrecodesRun ", contracts),

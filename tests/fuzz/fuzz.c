@@ -469,17 +469,84 @@ static void look_after(uint32_t answer)
 
 /* ---- The functions. Each makes one call, looks at the numbers that come back, and gives the answer. ---- */
 
-static uint32_t try_frame_write(void)
+/* The answer that a sending has to get: one list, in number order. */
+struct sent_fields {
+    uint32_t end, state, kind, count, a, b;
+    const struct lent *coefficients, *vendor;
+};
+
+static uint32_t send_due(struct sent_fields s, size_t frame_len)
 {
-    uint32_t kind = number(SDSL_TRAINING, SDSL_FINAL), count = number(SDSL_COUNT_MIN, SDSL_COUNT_MAX);
-    uint32_t a = number(0, SDSL_WORD_MAX), b = number(0, SDSL_WORD_MAX);
+    if (s.coefficients->len != SDSL_COEFFICIENT_OCTETS || s.vendor->len != SDSL_VENDOR_OCTETS || frame_len != SDSL_FRAME_OCTETS) {
+        return SDSL_BAD_LENGTH;
+    }
+    if (s.kind > SDSL_FINAL || s.end > SDSL_NTU) {
+        return SDSL_UNKNOWN;
+    }
+    bool training = s.kind == SDSL_TRAINING;
+    if (training && (s.count < SDSL_COUNT_MIN || s.count > SDSL_COUNT_MAX)) {
+        return SDSL_BAD_COUNT;
+    }
+    bool right = s.state <= SDSL_SCRAMBLER_MAX && (!training || (s.a <= SDSL_WORD_MAX && s.b <= SDSL_WORD_MAX));
+    for (size_t i = 0; training && i < s.count; i++) {
+        int32_t n = sdsl_get_number(s.coefficients->p, i);
+        right = right && n >= SDSL_COEFFICIENT_MIN && n <= SDSL_COEFFICIENT_MAX;
+    }
+    return right ? SDSL_DONE : SDSL_OUT_OF_RANGE;
+}
+
+/* What was sent, in the two steps of the receiving side: the fields come back, and the next state. */
+static void look_at_sent(struct sent_fields s, uint32_t next, const uint8_t *line)
+{
+    uint8_t frame[SDSL_FRAME_OCTETS], coefficients[SDSL_COEFFICIENT_OCTETS], vendor[SDSL_VENDOR_OCTETS], nine[SDSL_RESERVED_OCTETS];
+    bool training = s.kind == SDSL_TRAINING;
+    want(line[0] == (training ? 0x9F : 0x6B) && (line[1] & 63) == (training ? 0x35 : 0x3E), "sends other sync bits");
+    want(line[SDSL_FRAME_OCTETS - 1] <= 7, "leaves a one above the frame's last bit");
+    struct sdsl_scrambled heard = sdsl_descramble_frame(s.end, s.state, line, SDSL_FRAME_OCTETS, frame, sizeof frame);
+    want(heard.answer == SDSL_DONE && heard.state == next, "gives a state that is not the receiver's");
+    memset(nine, 0, sizeof nine);
+    struct sdsl_frame_fields r = sdsl_frame_read(frame, sizeof frame, coefficients, sizeof coefficients, vendor, sizeof vendor,
+                                                 nine, sizeof nine);
+    want(r.answer == SDSL_DONE && r.kind == s.kind, "sends what cannot be read");
+    want(memcmp(vendor, s.vendor->before, sizeof vendor) == 0, "sends other vendor data");
+    want(nine[8] == 0 && memcmp(nine, nine + 1, sizeof nine - 1) == 0, "sends a reserved bit");
+    want(!training || (r.a == s.a && r.b == s.b), "sends other words");
+    for (size_t i = 0; training && i < SDSL_COEFFICIENTS; i++) {
+        int32_t n = i < s.count ? sdsl_get_number(s.coefficients->before, i) : 0;
+        want(sdsl_get_number(coefficients, i) == n, "sends other coefficients");
+    }
+}
+
+static uint32_t scrambled(struct sdsl_scrambled r, uint32_t state, bool moved)
+{
+    want(r.answer == SDSL_DONE ? r.state <= SDSL_SCRAMBLER_MAX : r.state == state, "gives a wrong state");
+    want(moved || r.state == state, "moves a state over no bits");
+    return r.answer;
+}
+
+static uint32_t try_frame_send(void)
+{
+    struct sent_fields s = {.end = number(SDSL_LTU, SDSL_NTU)};
+    s.state = number(0, SDSL_SCRAMBLER_MAX);
+    s.kind = number(SDSL_TRAINING, SDSL_FINAL);
+    s.count = number(SDSL_COUNT_MIN, SDSL_COUNT_MAX);
+    s.a = number(0, SDSL_WORD_MAX);
+    s.b = number(0, SDSL_WORD_MAX);
     struct lent *c = lend(length(SDSL_COEFFICIENT_OCTETS), false), *v = lend(length(SDSL_VENDOR_OCTETS), false);
     struct lent *f = lend(length(SDSL_FRAME_OCTETS), true);
+    s.coefficients = c;
+    s.vendor = v;
     fill_numbers(c, SDSL_COEFFICIENT_MIN, SDSL_COEFFICIENT_MAX);
     fill(v);
-    fill(f);
+    fill_frame(f);
     keep();
-    return sdsl_frame_write(kind, count, c->p, c->len, a, b, v->p, v->len, f->p, f->len);
+    uint32_t due = send_due(s, f->len);
+    struct sdsl_scrambled r = sdsl_frame_send(s.end, s.state, s.kind, s.count, c->p, c->len, s.a, s.b, v->p, v->len, f->p, f->len);
+    want(r.answer == due, "takes another length or number, or refuses the right ones");
+    if (r.answer == SDSL_DONE) {
+        look_at_sent(s, r.state, f->p);
+    }
+    return scrambled(r, s.state, true);
 }
 
 static uint32_t try_frame_read(void)
@@ -674,14 +741,6 @@ static uint32_t try_eoc_hand_up(void)
 }
 
 typedef struct sdsl_scrambled run_function(uint32_t, uint32_t, const uint8_t *, size_t, size_t, uint8_t *, size_t);
-typedef struct sdsl_scrambled frame_function(uint32_t, uint32_t, const uint8_t *, size_t, uint8_t *, size_t);
-
-static uint32_t scrambled(struct sdsl_scrambled r, uint32_t state, bool moved)
-{
-    want(r.answer == SDSL_DONE ? r.state <= SDSL_SCRAMBLER_MAX : r.state == state, "gives a wrong state");
-    want(moved || r.state == state, "moves a state over no bits");
-    return r.answer;
-}
 
 static uint32_t try_scrambler_start(void)
 {
@@ -725,16 +784,6 @@ static uint32_t try_run(run_function *f)
     return scrambled(f(end, state, in->p, in->len, bits, out->p, out->len), state, bits > 0);
 }
 
-static uint32_t try_frame(frame_function *f)
-{
-    uint32_t end = number(SDSL_LTU, SDSL_NTU), state = number(0, SDSL_SCRAMBLER_MAX);
-    struct lent *in = lend(length(SDSL_FRAME_OCTETS), false), *out = lend(length(SDSL_FRAME_OCTETS), true);
-    fill_frame(in);
-    fill(out);
-    keep();
-    return scrambled(f(end, state, in->p, in->len, out->p, out->len), state, true);
-}
-
 static uint32_t try_scramble(void)
 {
     return try_run(sdsl_scramble);
@@ -745,14 +794,14 @@ static uint32_t try_descramble(void)
     return try_run(sdsl_descramble);
 }
 
-static uint32_t try_scramble_frame(void)
-{
-    return try_frame(sdsl_scramble_frame);
-}
-
 static uint32_t try_descramble_frame(void)
 {
-    return try_frame(sdsl_descramble_frame);
+    uint32_t end = number(SDSL_LTU, SDSL_NTU), state = number(0, SDSL_SCRAMBLER_MAX);
+    struct lent *in = lend(length(SDSL_FRAME_OCTETS), false), *out = lend(length(SDSL_FRAME_OCTETS), true);
+    fill_frame(in);
+    fill(out);
+    keep();
+    return scrambled(sdsl_descramble_frame(end, state, in->p, in->len, out->p, out->len), state, true);
 }
 
 /* A receiver's numbers: few bits so far, or some, or nearly as many as can be; and any place to go on from, often one in reach. */
@@ -1108,10 +1157,10 @@ static const struct {
     uint32_t (*call)(void);
 } tries[] = {
 #define TRY(function) {"sdsl_" #function, try_##function}
-    TRY(frame_write), TRY(frame_read), TRY(frame_check), TRY(data_write), TRY(data_crc), TRY(data_read), TRY(data_check),
+    TRY(frame_send), TRY(frame_read), TRY(frame_check), TRY(data_write), TRY(data_crc), TRY(data_read), TRY(data_check),
     TRY(eoc_write), TRY(eoc_read), TRY(eoc_hand_up),
-    TRY(scrambler_start), TRY(scramble_bit), TRY(descramble_bit), TRY(scramble), TRY(descramble), TRY(scramble_frame),
-    TRY(descramble_frame), TRY(receive_start), TRY(receive),
+    TRY(scrambler_start), TRY(scramble_bit), TRY(descramble_bit), TRY(scramble), TRY(descramble), TRY(descramble_frame),
+    TRY(receive_start), TRY(receive),
     TRY(activation_level), TRY(data_level), TRY(level_code), TRY(encoder_start), TRY(encode), TRY(encode_run), TRY(history_start),
     TRY(precode), TRY(unprecode), TRY(shaper), TRY(start), TRY(step), TRY(run_codes),
 };

@@ -15,25 +15,24 @@ static void look(int good, const char *what)
     failed += !good;
 }
 
+/* A frame goes out scrambled, and takes the other card's two steps to come in. */
 static void frames(void)
 {
     uint8_t coefficients[SDSL_COEFFICIENT_OCTETS] = {0};
     uint8_t vendor[SDSL_VENDOR_OCTETS] = {0xF0, 0xF1};
     uint8_t reserved[SDSL_RESERVED_OCTETS] = {0xFF, 1, 2, 3, 4, 5, 6, 7, 0xFF}, none[SDSL_RESERVED_OCTETS] = {0};
-    uint8_t frame[SDSL_FRAME_OCTETS];
-    look(sdsl_frame_write(SDSL_TRAINING, SDSL_COUNT_MAX, coefficients, sizeof coefficients, 1, SDSL_WORD_MAX, vendor, sizeof vendor, frame,
-                          sizeof frame) == SDSL_DONE && frame[0] == 0x9F, "sdsl_frame_write");
+    uint8_t line[SDSL_FRAME_OCTETS], frame[SDSL_FRAME_OCTETS];
+    struct sdsl_scrambled sent = sdsl_frame_send(SDSL_NTU, SDSL_SCRAMBLER_MAX, SDSL_TRAINING, SDSL_COUNT_MAX, coefficients,
+                                                 sizeof coefficients, 1, SDSL_WORD_MAX, vendor, sizeof vendor, line, sizeof line);
+    look(sent.answer == SDSL_DONE && line[0] == 0x9F && line[SDSL_FRAME_OCTETS - 1] < 8 && sent.state <= SDSL_SCRAMBLER_MAX &&
+         sdsl_frame_check(line, sizeof line) == SDSL_BAD_CHECK, "sdsl_frame_send");
+    struct sdsl_scrambled back = sdsl_descramble_frame(SDSL_NTU, SDSL_SCRAMBLER_MAX, line, sizeof line, frame, sizeof frame);
+    look(back.answer == SDSL_DONE && back.state == sent.state && memcmp(line, frame, sizeof frame) != 0, "sdsl_descramble_frame");
     look(sdsl_frame_check(frame, sizeof frame) == SDSL_DONE, "sdsl_frame_check");
     struct sdsl_frame_fields got = sdsl_frame_read(frame, sizeof frame, coefficients, sizeof coefficients, vendor, sizeof vendor,
                                                    reserved, sizeof reserved);
-    look(got.answer == SDSL_DONE && got.kind == SDSL_TRAINING && got.a == 1 && got.b == SDSL_WORD_MAX &&
+    look(got.answer == SDSL_DONE && got.kind == SDSL_TRAINING && got.a == 1 && got.b == SDSL_WORD_MAX && vendor[1] == 0xF1 &&
          memcmp(reserved, none, sizeof none) == 0, "sdsl_frame_read");
-
-    uint8_t line[SDSL_FRAME_OCTETS], heard[SDSL_FRAME_OCTETS];
-    struct sdsl_scrambled sent = sdsl_scramble_frame(SDSL_NTU, SDSL_SCRAMBLER_MAX, frame, sizeof frame, line, sizeof line);
-    look(sent.answer == SDSL_DONE && memcmp(line, frame, sizeof frame) != 0, "sdsl_scramble_frame");
-    struct sdsl_scrambled back = sdsl_descramble_frame(SDSL_NTU, SDSL_SCRAMBLER_MAX, line, sizeof line, heard, sizeof heard);
-    look(back.state == sent.state && memcmp(heard, frame, sizeof frame) == 0, "sdsl_descramble_frame");
 }
 
 /* Two data-mode frames, one behind the other: the second carries the check bits of the first. */
@@ -192,12 +191,12 @@ static void receiver(void)
 {
     const uint8_t before[3] = {0x12, 0x34, 0xD5}; /* 24 bits: the last 23 are the scrambler's state */
     uint8_t frame[SDSL_FRAME_OCTETS] = {0x6B, 0x3E}, sent[SDSL_FRAME_OCTETS], heard[SDSL_FRAME_OCTETS], line[SDSL_LINE_OCTETS + 1];
-    uint8_t lump[SDSL_LUMP_BITS_MAX / 8 + 1] = {0};
+    uint8_t lump[SDSL_LUMP_BITS_MAX / 8 + 1] = {0}, unused[SDSL_COEFFICIENT_OCTETS] = {0}, vendor[SDSL_VENDOR_OCTETS] = {0};
     uint32_t state = 0;
     for (int i = 1; i < 24; i++) {
         state = 2 * state + (before[i / 8] >> (i % 8) & 1u);
     }
-    sdsl_scramble_frame(SDSL_NTU, state, frame, sizeof frame, sent, sizeof sent);
+    sdsl_frame_send(SDSL_NTU, state, SDSL_FINAL, 0, unused, sizeof unused, 0, 0, vendor, sizeof vendor, sent, sizeof sent);
     memset(line, 0xA5, sizeof line);
     memset(heard, 0xA5, sizeof heard);
     struct sdsl_received got = sdsl_receive_start(SDSL_NTU);
@@ -351,12 +350,18 @@ static void version(void)
     look(strcmp(made, SDSL_VERSION) == 0, "SDSL_VERSION");
 }
 
-/* Whether a training frame is written with this count, first coefficient and A. */
-static uint32_t written(uint32_t count, int32_t coefficient, uint32_t a)
+/* What sending a training frame answers, by this end from this state, with this count, first coefficient and A. */
+static uint32_t sends_by(uint32_t end, uint32_t state, uint32_t count, int32_t coefficient, uint32_t a)
 {
     uint8_t coefficients[SDSL_COEFFICIENT_OCTETS] = {0}, vendor[SDSL_VENDOR_OCTETS] = {0}, frame[SDSL_FRAME_OCTETS];
     sdsl_put_number(coefficients, 0, coefficient);
-    return sdsl_frame_write(SDSL_TRAINING, count, coefficients, sizeof coefficients, a, a, vendor, sizeof vendor, frame, sizeof frame);
+    return sdsl_frame_send(end, state, SDSL_TRAINING, count, coefficients, sizeof coefficients, a, a, vendor, sizeof vendor, frame,
+                           sizeof frame).answer;
+}
+
+static uint32_t sends(uint32_t count, int32_t coefficient, uint32_t a)
+{
+    return sends_by(SDSL_LTU, 0, count, coefficient, a);
 }
 
 /* What reading a training frame answers, with so many octets of room for the reserved bits. */
@@ -382,13 +387,18 @@ static int lasts(struct sdsl_supervisor state)
 /* Each named limit is the library's: it is taken, and the next number is not. */
 static void limits(void)
 {
-    look(written(SDSL_COUNT_MIN, 0, 0) == SDSL_DONE && written(SDSL_COUNT_MIN - 1, 0, 0) == SDSL_BAD_COUNT &&
-         written(SDSL_COUNT_MAX, 0, 0) == SDSL_DONE && written(SDSL_COUNT_MAX + 1, 0, 0) == SDSL_BAD_COUNT, "the limits of a count");
-    look(written(SDSL_COUNT_MIN, SDSL_COEFFICIENT_MIN, SDSL_WORD_MAX) == SDSL_DONE &&
-         written(SDSL_COUNT_MIN, SDSL_COEFFICIENT_MAX, 0) == SDSL_DONE &&
-         written(SDSL_COUNT_MIN, SDSL_COEFFICIENT_MIN - 1, 0) == SDSL_OUT_OF_RANGE &&
-         written(SDSL_COUNT_MIN, SDSL_COEFFICIENT_MAX + 1, 0) == SDSL_OUT_OF_RANGE &&
-         written(SDSL_COUNT_MIN, 0, SDSL_WORD_MAX + 1) == SDSL_OUT_OF_RANGE, "the limits of a coefficient and of A and B");
+    look(sends(SDSL_COUNT_MIN, 0, 0) == SDSL_DONE && sends(SDSL_COUNT_MIN - 1, 0, 0) == SDSL_BAD_COUNT &&
+         sends(SDSL_COUNT_MAX, 0, 0) == SDSL_DONE && sends(SDSL_COUNT_MAX + 1, 0, 0) == SDSL_BAD_COUNT, "the limits of a count");
+    look(sends(SDSL_COUNT_MIN, SDSL_COEFFICIENT_MIN, SDSL_WORD_MAX) == SDSL_DONE &&
+         sends(SDSL_COUNT_MIN, SDSL_COEFFICIENT_MAX, 0) == SDSL_DONE &&
+         sends(SDSL_COUNT_MIN, SDSL_COEFFICIENT_MIN - 1, 0) == SDSL_OUT_OF_RANGE &&
+         sends(SDSL_COUNT_MIN, SDSL_COEFFICIENT_MAX + 1, 0) == SDSL_OUT_OF_RANGE &&
+         sends(SDSL_COUNT_MIN, 0, SDSL_WORD_MAX + 1) == SDSL_OUT_OF_RANGE, "the limits of a coefficient and of A and B");
+    look(sends_by(SDSL_NTU, SDSL_SCRAMBLER_MAX, SDSL_COUNT_MIN, 0, 0) == SDSL_DONE &&
+         sends_by(SDSL_NTU, SDSL_SCRAMBLER_MAX + 1, SDSL_COUNT_MIN, 0, 0) == SDSL_OUT_OF_RANGE &&
+         sends_by(SDSL_NTU, SDSL_SCRAMBLER_MAX + 1, SDSL_COUNT_MIN - 1, 0, 0) == SDSL_BAD_COUNT &&
+         sends_by(SDSL_NTU + 1, SDSL_SCRAMBLER_MAX + 1, SDSL_COUNT_MIN - 1, 0, 0) == SDSL_UNKNOWN,
+         "the largest state of a sender, and end before count before state");
     look(read_into(SDSL_RESERVED_OCTETS) == SDSL_DONE && read_into(SDSL_RESERVED_OCTETS - 1) == SDSL_BAD_LENGTH &&
          read_into(SDSL_RESERVED_OCTETS + 1) == SDSL_BAD_LENGTH && SDSL_RESERVED_BIT + SDSL_RESERVED_BITS == SDSL_CHECK_BIT,
          "the room for reserved bits");

@@ -4,13 +4,13 @@
  */
 #include "reference.h"
 
-uint32_t sdsl_frame_write(uint32_t kind, uint32_t count,
-                          const uint8_t *coefficients, size_t coefficients_len,
-                          uint32_t a, uint32_t b,
-                          const uint8_t *vendor, size_t vendor_len,
-                          uint8_t *frame, size_t frame_len)
+struct sdsl_scrambled sdsl_frame_send(uint32_t end, uint32_t state, uint32_t kind, uint32_t count,
+                                      const uint8_t *coefficients, size_t coefficients_len,
+                                      uint32_t a, uint32_t b,
+                                      const uint8_t *vendor, size_t vendor_len,
+                                      uint8_t *frame, size_t frame_len)
 {
-    return ref_frame_write(kind, count, coefficients, coefficients_len, a, b, vendor, vendor_len, frame, frame_len);
+    return ref_frame_send(end, state, kind, count, coefficients, coefficients_len, a, b, vendor, vendor_len, frame, frame_len);
 }
 
 struct sdsl_frame_fields sdsl_frame_read(const uint8_t *frame, size_t frame_len,
@@ -98,13 +98,6 @@ struct sdsl_scrambled sdsl_descramble(uint32_t end, uint32_t state,
                                       uint8_t *out, size_t out_len)
 {
     return ref_descramble(end, state, in, in_len, bits, out, out_len);
-}
-
-struct sdsl_scrambled sdsl_scramble_frame(uint32_t end, uint32_t state,
-                                          const uint8_t *in, size_t in_len,
-                                          uint8_t *out, size_t out_len)
-{
-    return ref_scramble_frame(end, state, in, in_len, out, out_len);
 }
 
 struct sdsl_scrambled sdsl_descramble_frame(uint32_t end, uint32_t state,

@@ -172,34 +172,13 @@ void ref_put_check_bits(uint8_t *frame)
     pack(bits, FRAME_BITS, frame);
 }
 
-uint32_t ref_frame_write(uint32_t kind, uint32_t count,
-                         const uint8_t *coefficients, size_t coefficients_len,
-                         uint32_t a, uint32_t b,
-                         const uint8_t *vendor, size_t vendor_len,
-                         uint8_t *frame, size_t frame_len)
+/* A frame of these fields before it is scrambled, its pad zero. Nothing is checked here. */
+static void make_bits(uint32_t kind, uint32_t count, const uint8_t *coefficients, uint32_t a, uint32_t b, const uint8_t *vendor,
+                      uint8_t *bits)
 {
-    if (coefficients_len != 720 || vendor_len != 16 || frame_len != 529) {
-        return SDSL_BAD_LENGTH;
+    for (size_t n = 0; n <= FRAME_BITS; n++) {
+        bits[n] = 0;
     }
-    if (kind != SDSL_TRAINING && kind != SDSL_FINAL) {
-        return SDSL_UNKNOWN;
-    }
-    if (kind == SDSL_TRAINING) {
-        if (count < 128 || count > 180) {
-            return SDSL_BAD_COUNT;
-        }
-        for (size_t i = 0; i < count; i++) {
-            int64_t number = number_at(coefficients, i);
-            if (number < -2097152 || number > 2097151) {
-                return SDSL_OUT_OF_RANGE;
-            }
-        }
-        if (a > 2097151 || b > 2097151) {
-            return SDSL_OUT_OF_RANGE;
-        }
-    }
-
-    uint8_t bits[FRAME_BITS + 1] = {0};
     put_sync(bits, kind == SDSL_TRAINING ? training_sync : final_sync);
     if (kind == SDSL_TRAINING) {
         for (size_t i = 0; i < count; i++) {
@@ -214,8 +193,14 @@ uint32_t ref_frame_write(uint32_t kind, uint32_t count,
     }
     unpack(vendor, 128, bits + VENDOR_BIT - 1);
     put_check_bits(bits);
+}
+
+void ref_make_frame(uint32_t kind, uint32_t count, const uint8_t *coefficients, uint32_t a, uint32_t b, const uint8_t *vendor,
+                    uint8_t *frame)
+{
+    uint8_t bits[FRAME_BITS + 1];
+    make_bits(kind, count, coefficients, a, b, vendor, bits);
     pack(bits, FRAME_BITS, frame);
-    return SDSL_DONE;
 }
 
 /* Refusals 5 to 7 of a frame of the right length, and its kind. Reserved bits are under the check bits, and not judged otherwise. */
@@ -968,36 +953,6 @@ static struct sdsl_scrambled run_octets(bits_run *run, uint32_t end, uint32_t st
     return result;
 }
 
-static struct sdsl_scrambled run_frame(bits_run *run, uint32_t end, uint32_t state,
-                                       const uint8_t *in, size_t in_len,
-                                       uint8_t *out, size_t out_len)
-{
-    struct sdsl_scrambled result = {0, state};
-    if (in_len != 529 || out_len != 529) {
-        result.answer = SDSL_BAD_LENGTH;
-        return result;
-    }
-    result.answer = judge_scrambler(end, state);
-    if (result.answer != SDSL_DONE) {
-        return result;
-    }
-    uint8_t in_bits[FRAME_BITS + 1];
-    uint8_t out_bits[FRAME_BITS + 1] = {0};
-    unpack(in, FRAME_BITS, in_bits);
-    if (!all_zero(in_bits, LAST_BIT + 1, FRAME_BITS)) {
-        result.answer = SDSL_BAD_PAD;
-        return result;
-    }
-    /* The sync bits pass straight through; the run begins behind them. */
-    size_t straight = 14;
-    for (size_t n = 1; n <= straight; n++) {
-        out_bits[n] = in_bits[n];
-    }
-    result.state = run(end, state, in_bits + straight, LAST_BIT - straight, out_bits + straight);
-    pack(out_bits, FRAME_BITS, out);
-    return result;
-}
-
 /* One bit is a run of one. */
 static struct sdsl_scrambled_bit run_bit(bits_run *run, uint32_t end, uint32_t state, uint32_t bit)
 {
@@ -1046,18 +1001,97 @@ struct sdsl_scrambled ref_descramble(uint32_t end, uint32_t state,
     return run_octets(descramble_bits, end, state, in, in_len, bits, out, out_len);
 }
 
-struct sdsl_scrambled ref_scramble_frame(uint32_t end, uint32_t state,
-                                         const uint8_t *in, size_t in_len,
-                                         uint8_t *out, size_t out_len)
+/* ---- A whole frame through the scrambler, and back ---- */
+
+/* The 14 sync bits pass straight through and do not clock the state; the run begins behind them. The pad is zero. */
+static uint32_t run_behind_sync(bits_run *run, uint32_t end, uint32_t state, const uint8_t *in, uint8_t *out)
 {
-    return run_frame(scramble_bits, end, state, in, in_len, out, out_len);
+    for (size_t n = 1; n <= 14; n++) {
+        out[n] = in[n];
+    }
+    for (size_t n = LAST_BIT + 1; n <= FRAME_BITS; n++) {
+        out[n] = 0;
+    }
+    return run(end, state, in + 14, LAST_BIT - 14, out + 14);
+}
+
+uint32_t ref_put_on_line(uint32_t end, uint32_t state, const uint8_t *frame, uint8_t *line)
+{
+    uint8_t plain[FRAME_BITS + 1];
+    uint8_t sent[FRAME_BITS + 1];
+    unpack(frame, FRAME_BITS, plain);
+    uint32_t next = run_behind_sync(scramble_bits, end, state, plain, sent);
+    pack(sent, FRAME_BITS, line);
+    return next;
 }
 
 struct sdsl_scrambled ref_descramble_frame(uint32_t end, uint32_t state,
                                            const uint8_t *in, size_t in_len,
                                            uint8_t *out, size_t out_len)
 {
-    return run_frame(descramble_bits, end, state, in, in_len, out, out_len);
+    struct sdsl_scrambled result = {0, state};
+    if (in_len != 529 || out_len != 529) {
+        result.answer = SDSL_BAD_LENGTH;
+        return result;
+    }
+    result.answer = judge_scrambler(end, state);
+    if (result.answer != SDSL_DONE) {
+        return result;
+    }
+    uint8_t received[FRAME_BITS + 1];
+    uint8_t plain[FRAME_BITS + 1];
+    unpack(in, FRAME_BITS, received);
+    if (!all_zero(received, LAST_BIT + 1, FRAME_BITS)) {
+        result.answer = SDSL_BAD_PAD;
+        return result;
+    }
+    result.state = run_behind_sync(descramble_bits, end, state, received, plain);
+    pack(plain, FRAME_BITS, out);
+    return result;
+}
+
+/* Whether one of a training frame's numbers is outside its range. Of the coefficients only those in use are looked at. */
+static bool has_bad_number(uint32_t count, const uint8_t *coefficients, uint32_t a, uint32_t b)
+{
+    for (size_t i = 0; i < count; i++) {
+        int64_t number = number_at(coefficients, i);
+        if (number < -2097152 || number > 2097151) {
+            return true;
+        }
+    }
+    return a > 2097151 || b > 2097151;
+}
+
+/*
+ * The refusals of writing and of scrambling stand in one list. Of a final frame count, coefficients, A and B are not looked at, but its
+ * end and state are. There is no pad to refuse: the frame that is made here has zeros there.
+ */
+struct sdsl_scrambled ref_frame_send(uint32_t end, uint32_t state, uint32_t kind, uint32_t count,
+                                     const uint8_t *coefficients, size_t coefficients_len,
+                                     uint32_t a, uint32_t b,
+                                     const uint8_t *vendor, size_t vendor_len,
+                                     uint8_t *frame, size_t frame_len)
+{
+    struct sdsl_scrambled result = {SDSL_DONE, state};
+    bool training = kind == SDSL_TRAINING;
+    if (coefficients_len != 720 || vendor_len != 16 || frame_len != 529) {
+        result.answer = SDSL_BAD_LENGTH;
+    } else if ((kind != SDSL_TRAINING && kind != SDSL_FINAL) || (end != SDSL_LTU && end != SDSL_NTU)) {
+        result.answer = SDSL_UNKNOWN;
+    } else if (training && (count < 128 || count > 180)) {
+        result.answer = SDSL_BAD_COUNT;
+    } else if ((training && has_bad_number(count, coefficients, a, b)) || state >= 8388608) {
+        result.answer = SDSL_OUT_OF_RANGE;
+    }
+    if (result.answer != SDSL_DONE) {
+        return result;
+    }
+    uint8_t plain[FRAME_BITS + 1];
+    uint8_t sent[FRAME_BITS + 1];
+    make_bits(kind, count, coefficients, a, b, vendor, plain);
+    result.state = run_behind_sync(scramble_bits, end, state, plain, sent);
+    pack(sent, FRAME_BITS, frame);
+    return result;
 }
 
 /* ---- The receiver ---- */

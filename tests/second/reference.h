@@ -10,11 +10,11 @@
 #include "sdsl.h"
 
 /* The activation frame. */
-uint32_t ref_frame_write(uint32_t kind, uint32_t count,
-                         const uint8_t *coefficients, size_t coefficients_len,
-                         uint32_t a, uint32_t b,
-                         const uint8_t *vendor, size_t vendor_len,
-                         uint8_t *frame, size_t frame_len);
+struct sdsl_scrambled ref_frame_send(uint32_t end, uint32_t state, uint32_t kind, uint32_t count,
+                                     const uint8_t *coefficients, size_t coefficients_len,
+                                     uint32_t a, uint32_t b,
+                                     const uint8_t *vendor, size_t vendor_len,
+                                     uint8_t *frame, size_t frame_len);
 struct sdsl_frame_fields ref_frame_read(const uint8_t *frame, size_t frame_len,
                                         uint8_t *coefficients, size_t coefficients_len,
                                         uint8_t *vendor, size_t vendor_len,
@@ -52,9 +52,6 @@ struct sdsl_scrambled ref_scramble(uint32_t end, uint32_t state,
 struct sdsl_scrambled ref_descramble(uint32_t end, uint32_t state,
                                      const uint8_t *in, size_t in_len, size_t bits,
                                      uint8_t *out, size_t out_len);
-struct sdsl_scrambled ref_scramble_frame(uint32_t end, uint32_t state,
-                                         const uint8_t *in, size_t in_len,
-                                         uint8_t *out, size_t out_len);
 struct sdsl_scrambled ref_descramble_frame(uint32_t end, uint32_t state,
                                            const uint8_t *in, size_t in_len,
                                            uint8_t *out, size_t out_len);
@@ -92,8 +89,15 @@ struct sdsl_stepped ref_step(struct sdsl_supervisor state, uint32_t code);
 struct sdsl_run ref_run_codes(struct sdsl_supervisor state, const uint8_t *codes, size_t codes_len);
 
 /*
- * For the driver only, no namesake in sdsl.h: puts the right check bits into 529 octets, whatever else they hold.
+ * For the driver only, no namesakes in sdsl.h, and nothing is checked.
+ *
+ * ref_make_frame makes the 529 octets of a frame before it is scrambled, out of 720 octets of coefficients and 16 of vendor data.
+ * ref_put_check_bits puts the right check bits into 529 octets, whatever else they hold. ref_put_on_line scrambles 529 octets, whatever
+ * they hold, and gives the next state.
  */
+void ref_make_frame(uint32_t kind, uint32_t count, const uint8_t *coefficients, uint32_t a, uint32_t b, const uint8_t *vendor,
+                    uint8_t *frame);
 void ref_put_check_bits(uint8_t *frame);
+uint32_t ref_put_on_line(uint32_t end, uint32_t state, const uint8_t *frame, uint8_t *line);
 
 #endif

@@ -1,4 +1,7 @@
-/* second_receiver.c: the group `receiver`: sdsl_receive_start and sdsl_receive, call by call and over whole streams. */
+/*
+ * second_receiver.c: the group `receiver`: sdsl_receive_start and sdsl_receive, call by call and over whole streams, and frames that
+ * sdsl_frame_send sends.
+ */
 #include "harness.h"
 
 #ifdef SECOND_RECEIVER
@@ -14,6 +17,7 @@ static struct tally streams = {"streams joined", 0, 0};
 static struct tally rooms = {"states and line rooms", 0, 0};
 static struct tally made_ups = {"made-up states", 0, 0};
 static struct tally dues = {"answers that are due", 0, 0};
+static struct tally sents = {"sent, then received", 0, 0};
 static struct tally examples = {"examples", 0, 0};
 
 #define FRAME_BITS 4227
@@ -33,11 +37,14 @@ struct side {
     struct sdsl_received (*start)(uint32_t end);
     struct sdsl_received (*receive)(struct sdsl_receiver state, uint8_t *line, size_t line_len, const uint8_t *lump, size_t lump_len,
                                     size_t bits, uint8_t *frame, size_t frame_len);
+    struct sdsl_scrambled (*send)(uint32_t end, uint32_t state, uint32_t kind, uint32_t count, const uint8_t *coefficients,
+                                  size_t coefficients_len, uint32_t a, uint32_t b, const uint8_t *vendor, size_t vendor_len,
+                                  uint8_t *frame, size_t frame_len);
 };
 
 static const struct side sides[2] = {
-    {"library", sdsl_receive_start, sdsl_receive},
-    {"reference", ref_receive_start, ref_receive},
+    {"library", sdsl_receive_start, sdsl_receive, sdsl_frame_send},
+    {"reference", ref_receive_start, ref_receive, ref_frame_send},
 };
 
 static const uint32_t ends[] = {0, 1, 2, 3, 5, 18, 255, 256, 257, 65536, 65537, 2147483648, 2147483649, 4294967295};
@@ -291,8 +298,8 @@ static size_t add_frame(struct stream *s, size_t kind, size_t planted)
     return place;
 }
 
-/* A frame as a card writes it, scrambled behind the bits that the stream ends with. */
-static void add_written(struct stream *s, uint32_t kind)
+/* A frame of any fields, as a card sends it behind the bits that the stream ends with. */
+static void add_made(struct stream *s, uint32_t kind)
 {
     uint8_t coefficients[720];
     uint8_t vendor[16];
@@ -304,7 +311,7 @@ static void add_written(struct stream *s, uint32_t kind)
     uint32_t count = (uint32_t)between(128, 180);
     uint32_t a = (uint32_t)below(2097152);
     uint32_t b = (uint32_t)below(2097152);
-    ref_frame_write(kind, count, coefficients, sizeof coefficients, a, b, vendor, sizeof vendor, frame, sizeof frame);
+    ref_make_frame(kind, count, coefficients, a, b, vendor, frame);
     /* The scrambled bits alone, with the 23 before the frame. */
     uint8_t sent[STATE_BITS + FRAME_BITS];
     size_t tap = s->end == SDSL_LTU ? 5 : 18;
@@ -403,8 +410,8 @@ static void add_part(struct stream *s)
         break;
     case 3:
     case 4:
-        add_written(s, (uint32_t)kind);
-        add_written(s, (uint32_t)second);
+        add_made(s, (uint32_t)kind);
+        add_made(s, (uint32_t)second);
         break;
     case 5:
         damage(s, add_frame(s, kind, (size_t)below(3)));
@@ -674,7 +681,7 @@ static void short_streams(void)
             add_noise(&one, 60);
             add_frame(&one, 0, 2);
             drop(&one, 3000);
-            add_written(&one, 1);
+            add_made(&one, 1);
             add_two(&one, 7, 0, 1);
         }
         hear_in(&one, before, SINGLE);
@@ -742,7 +749,7 @@ static void two_frames(void)
                 one.len = 0;
                 add_noise(&one, 40);
                 if (add_two(&one, distances[d], kinds / 2, kinds % 2)) {
-                    add_written(&one, (uint32_t)below(2));
+                    add_made(&one, (uint32_t)below(2));
                     hear_in_four(&one, before);
                 }
             }
@@ -761,7 +768,7 @@ static void overlapping(void)
         add_noise(&one, 25);
         add_overlapping(&one, 2 + i / 2, i % 4 > 1);
         add_overlapping(&one, 3, false);
-        add_written(&one, SDSL_FINAL);
+        add_made(&one, SDSL_FINAL);
         hear_in_five(&one, before);
     }
 }
@@ -1324,7 +1331,10 @@ static void header_example(const struct side *side)
     uint8_t line[LINE_OCTETS] = {0};
     uint8_t heard[FRAME_OCTETS] = {0};
     const uint8_t before[3] = {0, 0, 0x40};
-    ref_scramble_frame(SDSL_LTU, 1, frame, sizeof frame, sent, sizeof sent);
+    const uint8_t unused[720] = {0};
+    const uint8_t vendor[16] = {0};
+    example(side->send(SDSL_LTU, 1, SDSL_FINAL, 0, unused, sizeof unused, 0, 0, vendor, sizeof vendor, sent, sizeof sent).answer == 0,
+            "a final frame is sent", side);
     struct sdsl_received got = side->start(SDSL_LTU);
     example(got.answer == 0 && got.given == 0 && got.place == 0 && got.state.end == 0 && got.state.heard == 0 && got.state.from == 0,
             "a start", side);
@@ -1340,6 +1350,63 @@ static void header_example(const struct side *side)
     example(got.answer == SDSL_UNKNOWN && got.state.end == 2 && got.state.heard == 0 && got.state.from == 0, "an unknown end", side);
     got = side->receive(got.state, line, sizeof line, before, sizeof before, 23, heard, sizeof heard);
     example(got.answer == SDSL_UNKNOWN && got.state.end == 2 && got.state.heard == 0 && got.given == 0, "a call with it", side);
+}
+
+/* A frame of any fields, sent by a side from a state, behind the bits of the stream. `plain` is the frame before it is scrambled. */
+static uint32_t add_sent(const struct side *sender, uint32_t state, uint8_t *plain)
+{
+    uint8_t coefficients[720];
+    uint8_t vendor[16];
+    uint8_t line[FRAME_OCTETS] = {0};
+    for (size_t i = 0; i < 180; i++) {
+        set_number(coefficients, i, between(-2097152, 2097151));
+    }
+    random_octets(vendor, sizeof vendor);
+    uint32_t kind = (uint32_t)below(2);
+    uint32_t count = (uint32_t)between(128, 180);
+    uint32_t a = (uint32_t)below(2097152);
+    uint32_t b = (uint32_t)below(2097152);
+    ref_make_frame(kind, count, coefficients, a, b, vendor, plain);
+    struct sdsl_scrambled sent = sender->send(one.end, state, kind, count, coefficients, sizeof coefficients, a, b, vendor, sizeof vendor,
+                                              line, sizeof line);
+    for (size_t n = 1; n <= FRAME_BITS; n++) {
+        one.bit[one.len] = get_bit(line, n);
+        one.len++;
+    }
+    return sent.state;
+}
+
+/*
+ * What was sent is there: frames that one side sends one after the other with the state handed on, the first from the 23 bits before it,
+ * are given by one side in their order, as they were before they were scrambled. The library is one of the two, or both.
+ */
+static void sent_streams(void)
+{
+    static struct given given;
+    static const size_t sizes[] = {97, 1000, 4096};
+    for (size_t i = 0; i < 9 + scaled(90); i++) {
+        uint8_t plain[4][FRAME_OCTETS];
+        size_t count = 1 + (size_t)below(4);
+        one.end = (uint32_t)below(2);
+        one.len = 0;
+        add_noise(&one, STATE_BITS + (size_t)below(100));
+        size_t place = one.len;
+        uint32_t state = 0;
+        for (size_t k = place - STATE_BITS; k < place; k++) {
+            state = 2 * state + one.bit[k];
+        }
+        for (size_t k = 0; k < count; k++) {
+            state = add_sent(&sides[i % 3 == 2], state, plain[k]);
+        }
+        hear_by(&sides[i % 3 == 1], sizes[below(ITEMS(sizes))], &given);
+        struct comparison comparison = {given.count == count ? NULL : "not as many given as were sent"};
+        for (size_t k = 0; k < count && comparison.wrong == NULL; k++) {
+            want(&comparison, given.found[k].place == place + k * FRAME_BITS, "another place");
+            want(&comparison, memcmp(given.found[k].frame, plain[k], FRAME_OCTETS) == 0, "another frame");
+        }
+        settle(comparison, &sents, "end %u, %zu frames from %zu on, sent by the %s, received by the %s: %zu given", one.end, count, place,
+               sides[i % 3 == 2].name, sides[i % 3 == 1].name, given.count);
+    }
 }
 
 static void all_examples(const struct side *side)
@@ -1375,7 +1442,8 @@ void second_receiver(void)
     totals();
     huge_lengths();
     all_faults();
-    const struct tally tallies[] = {starts, receives, streams, rooms, made_ups, dues, examples};
+    sent_streams();
+    const struct tally tallies[] = {starts, receives, streams, rooms, made_ups, dues, sents, examples};
     print_group("receiver", tallies, ITEMS(tallies));
 }
 

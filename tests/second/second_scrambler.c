@@ -1,9 +1,13 @@
-/* second_scrambler.c: the group `scrambler`: its start, a bit, a run and a whole frame, and back. */
+/*
+ * second_scrambler.c: the group `scrambler`: its start, a bit and a run, there and back; a whole frame there, by sdsl_frame_send, from
+ * every kind of state, and back.
+ */
 #include "harness.h"
 
 #ifdef SECOND_SCRAMBLER
 
 #include "reference.h"
+#include "sending.h"
 
 #include <string.h>
 
@@ -12,17 +16,16 @@ static struct tally bit_scrambles = {"sdsl_scramble_bit", 0, 0};
 static struct tally bit_descrambles = {"sdsl_descramble_bit", 0, 0};
 static struct tally scrambles = {"sdsl_scramble", 0, 0};
 static struct tally descrambles = {"sdsl_descramble", 0, 0};
-static struct tally frame_scrambles = {"sdsl_scramble_frame", 0, 0};
+static struct send_tallies sends = {{"sdsl_frame_send", 0, 0}, {"sent as due", 0, 0}};
+static struct tally by_runs = {"as a run of bits", 0, 0};
+static struct tally dues = {"answers that are due", 0, 0};
 static struct tally frame_descrambles = {"sdsl_descramble_frame", 0, 0};
 static struct tally round_trips = {"there and back", 0, 0};
 static struct tally examples = {"examples 6 to 8", 0, 0};
 
-#define LAST_STATE 8388607u
-
 typedef struct sdsl_scrambled_bit bit_step(uint32_t end, uint32_t state, uint32_t bit);
 typedef struct sdsl_scrambled octets_run(uint32_t end, uint32_t state, const uint8_t *in, size_t in_len, size_t bits,
                                          uint8_t *out, size_t out_len);
-typedef struct sdsl_scrambled frame_run(uint32_t end, uint32_t state, const uint8_t *in, size_t in_len, uint8_t *out, size_t out_len);
 
 /* The two directions, each with both sides' functions. */
 static const struct direction {
@@ -32,14 +35,9 @@ static const struct direction {
     octets_run *lib;
     octets_run *ref;
     struct tally *tally;
-    frame_run *lib_frame;
-    frame_run *ref_frame;
-    struct tally *frame_tally;
 } directions[2] = {
-    {sdsl_scramble_bit, ref_scramble_bit, &bit_scrambles, sdsl_scramble, ref_scramble, &scrambles,
-     sdsl_scramble_frame, ref_scramble_frame, &frame_scrambles},
-    {sdsl_descramble_bit, ref_descramble_bit, &bit_descrambles, sdsl_descramble, ref_descramble, &descrambles,
-     sdsl_descramble_frame, ref_descramble_frame, &frame_descrambles},
+    {sdsl_scramble_bit, ref_scramble_bit, &bit_scrambles, sdsl_scramble, ref_scramble, &scrambles},
+    {sdsl_descramble_bit, ref_descramble_bit, &bit_descrambles, sdsl_descramble, ref_descramble, &descrambles},
 };
 
 /* ---- One comparison each ---- */
@@ -71,16 +69,33 @@ static void try_run(const struct direction *direction, uint32_t end, uint32_t st
     give_back(&out);
 }
 
-static void try_frame(const struct direction *direction, uint32_t end, uint32_t state, const uint8_t *octets, size_t in_len,
-                      size_t out_len)
+/* The answer that is due to a whole frame back; all its octets are there, whatever the lengths say. */
+static uint32_t answer_due(uint32_t end, uint32_t state, const uint8_t *octets, size_t in_len, size_t out_len)
+{
+    const uint32_t answers[] = {in_len != 529 || out_len != 529 ? 1 : 0, end > 1 ? 2 : 0, state > LAST_STATE ? 4 : 0,
+                                octets[528] > 7 ? 6 : 0};
+    for (size_t i = 0; i < ITEMS(answers); i++) {
+        if (answers[i] != 0) {
+            return answers[i];
+        }
+    }
+    return 0;
+}
+
+/* A whole frame back: two comparisons. */
+static void try_frame(uint32_t end, uint32_t state, const uint8_t *octets, size_t in_len, size_t out_len)
 {
     struct pair in = lend(octets, in_len);
     struct pair out = lend_junk(out_len);
-    struct sdsl_scrambled lib = direction->lib_frame(end, state, in.lib, in.len, out.lib, out.len);
-    struct sdsl_scrambled ref = direction->ref_frame(end, state, in.ref, in.len, out.ref, out.len);
-    settle(compare(lib, ref, state, &in, &out), direction->frame_tally,
+    struct sdsl_scrambled lib = sdsl_descramble_frame(end, state, in.lib, in.len, out.lib, out.len);
+    struct sdsl_scrambled ref = ref_descramble_frame(end, state, in.ref, in.len, out.ref, out.len);
+    settle(compare(lib, ref, state, &in, &out), &frame_descrambles,
            "end %u state 0x%x lengths %zu %zu: library %u state 0x%x, reference %u state 0x%x", end, state, in_len, out_len, lib.answer,
            lib.state, ref.answer, ref.state);
+    uint32_t due = answer_due(end, state, octets, in_len, out_len);
+    struct comparison known = {lib.answer == due && ref.answer == due ? NULL : "another answer was due"};
+    settle(known, &dues, "a frame back, end %u state 0x%x lengths %zu %zu: library %u, reference %u, and %u was due", end, state, in_len,
+           out_len, lib.answer, ref.answer, due);
     give_back(&in);
     give_back(&out);
 }
@@ -113,11 +128,6 @@ static void try_bit(const struct direction *direction, uint32_t end, uint32_t st
 
 static const uint32_t ends[] = {0, 1, 2, 3, 5, 18, 255, 256, 257, 65536, 65537, 2147483648, 2147483649, 4294967295};
 static const uint32_t states[] = {0, 1, 2, 16, 131072, 4194304, 8388606, 8388607, 8388608, 8388609, 16777216, 2147483648, 4294967295};
-
-static uint32_t random_state(void)
-{
-    return (uint32_t)below(LAST_STATE + 1);
-}
 
 /* Every end with every state and every bit, and each single bit of the state. */
 static void bit_edges(const struct direction *direction)
@@ -240,7 +250,7 @@ static void random_runs(const struct direction *direction)
     }
 }
 
-/* ---- Whole frames ---- */
+/* ---- Whole frames back ---- */
 
 /* Octets of a frame by chance, the pad zero. Sync and check bits are not looked at. */
 static void make_frame(uint8_t *frame)
@@ -253,13 +263,13 @@ static void make_frame(uint8_t *frame)
     }
 }
 
-static void frame_edges(const struct direction *direction)
+static void frame_edges(void)
 {
     uint8_t frame[SDSL_FRAME_OCTETS + 1];
     for (size_t e = 0; e < ITEMS(ends); e++) {
         for (size_t s = 0; s < ITEMS(states); s++) {
             make_frame(frame);
-            try_frame(direction, ends[e], states[s], frame, SDSL_FRAME_OCTETS, SDSL_FRAME_OCTETS);
+            try_frame(ends[e], states[s], frame, SDSL_FRAME_OCTETS, SDSL_FRAME_OCTETS);
         }
     }
     static const size_t lengths[] = {0, 0, 1, 528, 529, 530};
@@ -267,7 +277,7 @@ static void frame_edges(const struct direction *direction)
         for (size_t o = 0; o < ITEMS(lengths); o++) {
             for (uint32_t end = 0; end < 3; end++) {
                 make_frame(frame);
-                try_frame(direction, end, random_state(), frame, lengths[i], lengths[o]);
+                try_frame(end, random_state(), frame, lengths[i], lengths[o]);
             }
         }
     }
@@ -276,19 +286,19 @@ static void frame_edges(const struct direction *direction)
         for (uint8_t pad = 0; pad < 32; pad++) {
             make_frame(frame);
             frame[SDSL_FRAME_OCTETS - 1] = (uint8_t)(frame[SDSL_FRAME_OCTETS - 1] | pad << 3);
-            try_frame(direction, end, random_state(), frame, SDSL_FRAME_OCTETS, SDSL_FRAME_OCTETS);
+            try_frame(end, random_state(), frame, SDSL_FRAME_OCTETS, SDSL_FRAME_OCTETS);
         }
         /* Each of the first 64 and last 32 bits alone, from both extreme states. */
         for (size_t n = 1; n <= 4227; n += n == 64 ? 4132 : 1) {
             memset(frame, 0, sizeof frame);
             flip_bit(frame, n);
-            try_frame(direction, end, 0, frame, SDSL_FRAME_OCTETS, SDSL_FRAME_OCTETS);
-            try_frame(direction, end, LAST_STATE, frame, SDSL_FRAME_OCTETS, SDSL_FRAME_OCTETS);
+            try_frame(end, 0, frame, SDSL_FRAME_OCTETS, SDSL_FRAME_OCTETS);
+            try_frame(end, LAST_STATE, frame, SDSL_FRAME_OCTETS, SDSL_FRAME_OCTETS);
         }
     }
 }
 
-static void frame_faults(const struct direction *direction)
+static void frame_faults(void)
 {
     enum { IN = 1, OUT = 2, END = 4, STATE = 8, PAD = 16, SETS = 32 };
     uint8_t frame[SDSL_FRAME_OCTETS + 1];
@@ -302,17 +312,156 @@ static void frame_faults(const struct direction *direction)
             size_t out_len = set & OUT ? (turn % 2 == 0 ? 528 : 530) : 529;
             uint32_t end = set & END ? ends[2 + below(ITEMS(ends) - 2)] : (uint32_t)below(2);
             uint32_t state = set & STATE ? (random32() | 8388608) : random_state();
-            try_frame(direction, end, state, frame, in_len, out_len);
+            try_frame(end, state, frame, in_len, out_len);
         }
     }
 }
 
-static void random_frames(const struct direction *direction)
+/* Any octets, and frames as they come off the line. */
+static void random_frames(void)
 {
     uint8_t frame[SDSL_FRAME_OCTETS + 1];
     for (size_t i = 0; i < scaled(1500); i++) {
         make_frame(frame);
-        try_frame(direction, (uint32_t)below(2), random_state(), frame, SDSL_FRAME_OCTETS, SDSL_FRAME_OCTETS);
+        try_frame((uint32_t)below(2), random_state(), frame, SDSL_FRAME_OCTETS, SDSL_FRAME_OCTETS);
+        struct sending in;
+        make_sending(&in, (uint32_t)below(2));
+        try_frame(in.end, in.state, due_of(&in).line, SDSL_FRAME_OCTETS, SDSL_FRAME_OCTETS);
+    }
+}
+
+/* ---- Whole frames there ---- */
+
+/* Every end with every state and both kinds; states with one bit set, all but one, and a bit too many. */
+static void send_states(void)
+{
+    struct sending in;
+    for (uint32_t kind = 0; kind < 2; kind++) {
+        for (size_t e = 0; e < ITEMS(ends); e++) {
+            for (size_t s = 0; s < ITEMS(states); s++) {
+                make_sending(&in, kind);
+                in.end = ends[e];
+                in.state = states[s];
+                try_send(&in, &sends);
+            }
+        }
+        for (uint32_t end = 0; end < 2; end++) {
+            for (uint32_t place = 0; place < 32; place++) {
+                make_sending(&in, kind);
+                in.end = end;
+                in.state = 1u << place;
+                try_send(&in, &sends);
+                in.state = LAST_STATE ^ 1u << place; /* from 23 on: every bit of a state, and one above */
+                try_send(&in, &sends);
+                in.state = random_state() | 1u << place;
+                try_send(&in, &sends);
+            }
+        }
+    }
+}
+
+/* Field bit n of a frame set alone, from 15 to 4144. */
+static void set_field_bit(struct sending *in, size_t n)
+{
+    memset(in->coefficients, 0, sizeof in->coefficients);
+    memset(in->vendor, 0, sizeof in->vendor);
+    in->count = 180;
+    in->a = n >= 3975 && n < 3996 ? 1u << (n - 3975) : 0;
+    in->b = n >= 3996 && n < 4017 ? 1u << (n - 3996) : 0;
+    if (n >= 4017) {
+        flip_bit(in->vendor, n - 4016);
+    } else if (n < 3975) {
+        size_t place = (n - 15) % 22;
+        set_number(in->coefficients, (n - 15) / 22, place == 21 ? -2097152 : 1 << place);
+    }
+}
+
+/* Single field bits from both extreme states: the first 50, the last 50, and every eleventh between; then no bit, and every bit. */
+static void send_bits(void)
+{
+    struct sending in;
+    for (uint32_t end = 0; end < 2; end++) {
+        for (size_t n = 15; n <= 4144; n += n < 64 || n > 4094 ? 1 : 11) {
+            make_sending(&in, n >= 4017 && below(2) == 0 ? SDSL_FINAL : SDSL_TRAINING);
+            set_field_bit(&in, n);
+            in.end = end;
+            in.state = 0;
+            try_send(&in, &sends);
+            in.state = LAST_STATE;
+            try_send(&in, &sends);
+        }
+        for (unsigned which = 0; which < 8; which++) {
+            make_sending(&in, which % 2);
+            memset(in.coefficients, which < 4 ? 0 : 255, sizeof in.coefficients);
+            memset(in.vendor, which < 4 ? 0 : 255, sizeof in.vendor);
+            in.a = which < 4 ? 0 : 2097151;
+            in.b = in.a;
+            in.end = end;
+            in.state = which % 4 < 2 ? 0 : LAST_STATE;
+            try_send(&in, &sends);
+        }
+    }
+}
+
+static void send_by_chance(void)
+{
+    for (size_t i = 0; i < scaled(1500); i++) {
+        struct sending in;
+        make_sending(&in, (uint32_t)below(2));
+        in.state = below(16) == 0 ? random32() : in.state;
+        in.end = below(16) == 0 ? random32() : in.end;
+        try_send(&in, &sends);
+    }
+}
+
+#define BEHIND_SYNC (SDSL_FRAME_BITS - SDSL_SYNC_BITS)
+
+/* The bits of a frame behind its sync bits, packed from the first octet on. */
+static void take_behind_sync(const uint8_t *frame, uint8_t *packed)
+{
+    memset(packed, 0, SDSL_FRAME_OCTETS);
+    for (size_t n = 1; n <= BEHIND_SYNC; n++) {
+        if (get_bit(frame, SDSL_SYNC_BITS + n)) {
+            flip_bit(packed, n);
+        }
+    }
+}
+
+/*
+ * Frames sent one after the other with the state handed on. Behind their sync bits they are what sdsl_scramble makes of the frames' own
+ * bits as one run, in its own states; and what sdsl_scramble_bit makes of them, bit by bit, for the first of a run.
+ */
+static void sent_as_runs(void)
+{
+    for (size_t i = 0; i < scaled(150) + 10; i++) {
+        struct comparison comparison = {NULL};
+        struct sending in;
+        make_sending(&in, SDSL_TRAINING);
+        uint32_t end = in.end;
+        uint32_t by_frame = i % 4 == 0 ? 0 : in.state;
+        uint32_t by_run = by_frame;
+        uint32_t by_bit = by_frame;
+        size_t frames = (size_t)below(6);
+        for (size_t k = 0; k < frames; k++) {
+            uint8_t line[SDSL_FRAME_OCTETS], due[SDSL_FRAME_OCTETS], plain[SDSL_FRAME_OCTETS], run[SDSL_FRAME_OCTETS] = {0};
+            make_sending(&in, (uint32_t)below(2));
+            in.end = end;
+            in.state = by_frame;
+            by_frame = try_send(&in, &sends).state;
+            send_by(&sides[0], &in, line);
+            take_behind_sync(line, due);
+            take_behind_sync(due_of(&in).plain, plain);
+            by_run = sdsl_scramble(end, by_run, plain, sizeof plain, BEHIND_SYNC, run, sizeof run).state;
+            want(&comparison, memcmp(run, due, sizeof run) == 0, "a run of its bits gives others");
+            want(&comparison, by_run == by_frame, "a run of its bits gives another state");
+            for (size_t n = 1; n <= BEHIND_SYNC && k == 0; n++) {
+                struct sdsl_scrambled_bit step = sdsl_scramble_bit(end, by_bit, get_bit(plain, n));
+                want(&comparison, step.bit == get_bit(due, n), "bit by bit it is another frame");
+                by_bit = step.state;
+            }
+            want(&comparison, k > 0 || by_bit == by_frame, "bit by bit it is another state");
+        }
+        settle(comparison, &by_runs, "end %u, %zu frames", end, frames);
     }
 }
 
@@ -341,6 +490,19 @@ static void round_trip(void)
         want(&comparison, whole.state == received.state, "the sender's next state does not come back");
         settle(comparison, &round_trips, "end %u state 0x%x octets %zu and %zu", end, state, first, len - first);
     }
+    /* A whole frame by the library: its fields and the sender's next state come back, and its sync bits stand on the line as they are. */
+    for (size_t i = 0; i < scaled(500); i++) {
+        struct sending fields;
+        uint8_t line[SDSL_FRAME_OCTETS] = {0};
+        make_sending(&fields, (uint32_t)below(2));
+        struct sdsl_scrambled there = send_by(&sides[0], &fields, line);
+        struct comparison comparison = {there.answer == 0 ? NULL : "refused"};
+        bool training = fields.kind == SDSL_TRAINING;
+        want(&comparison, line[0] == (training ? 0x9f : 0x6b) && (line[1] & 63) == (training ? 0x35 : 0x3e), "sync bits were scrambled");
+        want_received(&comparison, &sides[0], &fields, there, line);
+        settle(comparison, &round_trips, "a frame, end %u state 0x%x", fields.end, fields.state);
+    }
+    /* Any octets that the receiving side descrambles, put on the line by the reference: the octets and the next state come back. */
     for (size_t i = 0; i < scaled(500); i++) {
         uint8_t frame[SDSL_FRAME_OCTETS + 1];
         uint8_t line[SDSL_FRAME_OCTETS] = {0};
@@ -348,14 +510,12 @@ static void round_trip(void)
         uint32_t end = (uint32_t)below(2);
         uint32_t state = random_state();
         make_frame(frame);
-        struct sdsl_scrambled there = sdsl_scramble_frame(end, state, frame, sizeof line, line, sizeof line);
+        uint32_t next = ref_put_on_line(end, state, frame, line);
         struct sdsl_scrambled here = sdsl_descramble_frame(end, state, line, sizeof line, read, sizeof read);
-        struct comparison comparison = {NULL};
-        want(&comparison, there.answer == 0 && here.answer == 0, "refused");
+        struct comparison comparison = {here.answer == 0 ? NULL : "refused"};
         want(&comparison, memcmp(frame, read, sizeof read) == 0, "the frame does not come back");
-        want(&comparison, frame[0] == line[0] && (frame[1] & 63) == (line[1] & 63), "sync bits were scrambled");
-        want(&comparison, there.state == here.state, "the sender's next state does not come back");
-        settle(comparison, &round_trips, "a frame, end %u state 0x%x", end, state);
+        want(&comparison, next == here.state, "the sender's next state does not come back");
+        settle(comparison, &round_trips, "any octets, end %u state 0x%x", end, state);
     }
 }
 
@@ -394,13 +554,17 @@ void second_scrambler(void)
         run_single_bits(&directions[i]);
         run_faults(&directions[i]);
         random_runs(&directions[i]);
-        frame_edges(&directions[i]);
-        frame_faults(&directions[i]);
-        random_frames(&directions[i]);
     }
+    frame_edges();
+    frame_faults();
+    random_frames();
+    send_states();
+    send_bits();
+    send_by_chance();
+    sent_as_runs();
     round_trip();
-    const struct tally tallies[] = {starts, bit_scrambles, bit_descrambles, scrambles, descrambles, frame_scrambles, frame_descrambles,
-                                    round_trips, examples};
+    const struct tally tallies[] = {starts, bit_scrambles, bit_descrambles, scrambles, descrambles, frame_descrambles, dues,
+                                    sends.sends, sends.dues, by_runs, round_trips, examples};
     print_group("scrambler", tallies, ITEMS(tallies));
 }
 

@@ -18,7 +18,7 @@ flags="-std=c11 -Wall -Wextra -Wconversion -Werror -O2 -I$include"
 work=$(mktemp -d) || exit 2
 trap 'rm -rf "$work"' EXIT
 
-for file in harness bylist joined reference; do
+for file in harness sending bylist joined reference; do
     $cc $flags -c "$file.c" -o "$work/$file.o" || exit 2
 done
 sed 's/\bref_/mut_/g' reference.h > "$work/mutant.h"
@@ -87,21 +87,25 @@ mutant() {
     fi
 }
 
+# within FUNCTION TEXT SED...: changes in one function only
+within() {
+    local range="/^[a-z].*\\b$1(/,/^}/" text=$2 edits=() edit
+    shift 2
+    for edit in "$@"; do
+        edits+=(-e "$range$edit")
+    done
+    mutant "$text" "${edits[@]}"
+}
+
 group frame
 mutant "A and B read last bit first" -e '/^static int64_t get_field/,/^}/s/bits\[first + i\]/bits[first + (width == 21 ? 20 - i : i)]/'
 mutant "A and B written last bit first" -e '/^static void put_field/,/^}/s/bits\[first + i\]/bits[first + (width == 21 ? 20 - i : i)]/'
 mutant "a coefficient's sign lost" -e 's/^                number -= 4194304;$/                number -= 0;/'
 mutant "checks in another order: pad before sync" -e '/^static uint32_t judge(/,/^}/s/^    if (!has_sync(bits, training_sync).*/    if (!all_zero(bits, 4228, 4232)) return SDSL_BAD_PAD; else &/'
-mutant "checks in another order: kind before lengths" -e '/^uint32_t ref_frame_write/,/^}/s/^    if (coefficients_len/    if (kind > 1) return SDSL_UNKNOWN; else if (coefficients_len/'
-mutant "checks in another order: numbers before count" -e 's/^        if (count < 128 || count > 180) {/        if (a > 2097151) return SDSL_OUT_OF_RANGE; else if (count < 128 || count > 180) {/'
 mutant "pad not checked" -e '/^static uint32_t judge(/,/^}/s/LAST_BIT + 1, FRAME_BITS/LAST_BIT + 2, FRAME_BITS/'
 mutant "another divisor" -e 's/places\[4\] = {0, 4, 11, 16}/places[4] = {0, 4, 12, 16}/'
 mutant "c1 taken as the coefficient of 1" -e 's/^        c\[i\] = rest\[MESSAGE_BITS + i - 1\];/        c[i] = rest[MESSAGE_BITS + 16 - i];/'
-mutant "unused coefficients written, not zero" -e '/^    uint8_t bits\[FRAME_BITS + 1\] = {0};/,/^}/s/for (size_t i = 0; i < count; i++)/for (size_t i = 0; i < 180; i++)/'
 mutant "a final frame writes coefficients" -e 's/^    fields.kind = kind;/    fields.kind = kind; if (kind == SDSL_FINAL) coefficients[719] = 0;/'
-mutant "kind taken as one octet" -e '/^uint32_t ref_frame_write/,/^}/s/^    if (kind != SDSL_TRAINING && kind != SDSL_FINAL) {/    kind %= 256; if (kind != SDSL_TRAINING \&\& kind != SDSL_FINAL) {/'
-mutant "one octet too many written" -e '/^uint32_t ref_frame_write/,/^}/s/^    pack(bits, FRAME_BITS, frame);/    pack(bits, FRAME_BITS, frame); frame[529] ^= 1;/'
-mutant "a const buffer written" -e '/^uint32_t ref_frame_write/,/^}/s/^    put_check_bits(bits);/    put_check_bits(bits); ((uint8_t *)vendor)[15] ^= 128;/'
 mutant "vendor data written before a refusal" -e '/^struct sdsl_frame_fields ref_frame_read/,/^}/s/^    fields.answer = judge(bits, &kind);/    fields.answer = judge(bits, \&kind); pack(bits + 4016, 128, vendor);/'
 mutant "reserved bits answered with 8" -e '/^static uint32_t judge(/,/^}/s/^    return SDSL_DONE;/    return *kind == SDSL_TRAINING \&\& !all_zero(bits, 4145, 4211) ? 8 : SDSL_DONE;/'
 mutant "reserved bits answered with 8, before the check bits" -e '/^static uint32_t judge(/,/^}/s/^    divide(bits, c);/    if (*kind == SDSL_TRAINING \&\& !all_zero(bits, 4145, 4211)) return 8; else divide(bits, c);/'
@@ -140,8 +144,139 @@ mutant "a fourth room's length cut to 32 bits" -e '/^struct sdsl_frame_fields re
 mutant "a fourth room's length not looked at" -e '/^struct sdsl_frame_fields ref_frame_read/,/^}/s/ || reserved_len != 9//'
 mutant "a fourth room's length looked at for a training frame only (two lines)" -e '/^struct sdsl_frame_fields ref_frame_read/,/^}/s/ || reserved_len != 9//' -e '/^struct sdsl_frame_fields ref_frame_read/,/^}/s/^    fields.answer = judge(bits, &kind);/    if (has_sync(bits, training_sync) \&\& reserved_len != 9) { fields.answer = SDSL_BAD_LENGTH; return fields; } &/'
 mutant "checks in another order: the sync word before the fourth room's length (two lines)" -e '/^struct sdsl_frame_fields ref_frame_read/,/^}/s/ || reserved_len != 9//' -e '/^struct sdsl_frame_fields ref_frame_read/,/^}/s/^    fields.answer = judge(bits, &kind);/& if (fields.answer != SDSL_NO_SYNC \&\& reserved_len != 9) fields.answer = SDSL_BAD_LENGTH;/'
-mutant "writing leaves the old reserved bits" -e '/^uint32_t ref_frame_write/,/^}/s/^    put_check_bits(bits);/    unpack(frame + 518, 67, bits + 4144); &/'
-mutant "writing leaves the old reserved bits under the check bits of zeros" -e '/^uint32_t ref_frame_write/,/^}/s/^    put_check_bits(bits);/& unpack(frame + 518, 67, bits + 4144);/'
+send() { within ref_frame_send "$@"; }
+# What goes out, and the state that comes back.
+send "sent as written, not scrambled" 's/pack(sent, /pack(plain, /'
+send "sent as written, and the old state back (two lines)" 's/result.state = run_behind/run_behind/' 's/pack(sent, /pack(plain, /'
+send "sent descrambled" 's/run_behind_sync(scramble_bits, /run_behind_sync(descramble_bits, /'
+send "scrambled twice" 's/run_behind_sync(scramble_bits, .*/& for (size_t n = 1; n <= FRAME_BITS; n++) plain[n] = sent[n]; &/'
+send "right for the first bit, the rest as written" 's/^    pack(sent, /    for (size_t n = 16; n <= LAST_BIT; n++) sent[n] = plain[n]; &/'
+send "coefficients not scrambled, the rest is" 's/^    pack(sent, /    for (size_t n = 15; n < 3975; n++) sent[n] = plain[n]; &/'
+send "check bits not scrambled" 's/^    pack(sent, /    for (size_t n = 4212; n <= LAST_BIT; n++) sent[n] = plain[n]; &/'
+send "check bits of what goes out" 's/^    pack(sent, /    put_check_bits(sent); &/'
+send "sync bits scrambled, and the state clocked by them" 's/^    result.state = run_behind.*/    for (size_t n = 1; n <= FRAME_BITS; n++) sent[n] = 0; result.state = scramble_bits(end, state, plain, LAST_BIT, sent);/'
+send "clocked through the sync bits, which go out as they are" 's/^    result.state = run_behind.*/    for (size_t n = 1; n <= FRAME_BITS; n++) sent[n] = 0; result.state = scramble_bits(end, state, plain, LAST_BIT, sent); for (size_t n = 1; n <= 14; n++) sent[n] = plain[n];/'
+send "sync bits put into the state" 's/^    result.state = run_behind/    for (size_t n = 1; n <= 14; n++) state = (2 * state + plain[n]) % 8388608; &/'
+send "scrambled from the fourteenth bit on" 's/^    result.state = run_behind.*/    for (size_t n = 1; n <= FRAME_BITS; n++) sent[n] = plain[n]; result.state = scramble_bits(end, state, plain + 13, LAST_BIT - 13, sent + 13);/'
+send "scrambled from the sixteenth bit on" 's/^    result.state = run_behind.*/    for (size_t n = 1; n <= FRAME_BITS; n++) sent[n] = plain[n]; result.state = scramble_bits(end, state, plain + 15, LAST_BIT - 15, sent + 15);/'
+send "the pad scrambled too" 's/^    result.state = run_behind.*/    for (size_t n = 1; n <= 14; n++) sent[n] = plain[n]; result.state = scramble_bits(end, state, plain + 14, FRAME_BITS - 14, sent + 14);/'
+send "clocked through the pad, which goes out as zero" 's/^    result.state = run_behind.*/    for (size_t n = 1; n <= 14; n++) sent[n] = plain[n]; result.state = scramble_bits(end, state, plain + 14, FRAME_BITS - 14, sent + 14); for (size_t n = LAST_BIT + 1; n <= FRAME_BITS; n++) sent[n] = 0;/'
+send "scrambled with the other end's tap" 's/(scramble_bits, end, /(scramble_bits, 1 - end, /'
+send "scrambled with the LTU's tap at either end" 's/(scramble_bits, end, /(scramble_bits, SDSL_LTU, /'
+send "from the starting state each time" 's/(scramble_bits, end, state, /(scramble_bits, end, 0, /'
+send "the next state that of the plain bits" 's/run_behind_sync(scramble_bits, .*/& result.state = 0; for (size_t n = LAST_BIT - 22; n <= LAST_BIT; n++) result.state = 2 * result.state + plain[n];/'
+send "the old state handed back" 's/result.state = run_behind/run_behind/'
+send "the starting state handed back" 's/run_behind_sync(scramble_bits, .*/& result.state = 0;/'
+send "the next state without its newest bit" 's/run_behind_sync(scramble_bits, .*/& result.state \/= 2;/'
+send "the next state with a bit too many" 's/run_behind_sync(scramble_bits, .*/& result.state = 2 * result.state % 8388608;/'
+send "the next state the other way about" 's/run_behind_sync(scramble_bits, .*/& result.state = 0; for (size_t n = LAST_BIT; n > LAST_BIT - 23; n--) result.state = 2 * result.state + sent[n];/'
+send "always the frame of no fields" 's/^    make_bits(.*/    make_bits(kind, 0, coefficients, 0, 0, (const uint8_t[16]){0}, plain);/'
+send "a final frame for every kind" 's/^    make_bits(kind, /    make_bits(SDSL_FINAL, /'
+# The fields.
+within make_bits "the sync words exchanged" 's/kind == SDSL_TRAINING ? training_sync : final_sync/kind == SDSL_TRAINING ? final_sync : training_sync/'
+within make_bits "unused coefficients sent, not zero" 's/i < count; i++/i < 180; i++/'
+within make_bits "only 128 coefficients sent" 's/i < count; i++/i < 128; i++/'
+within make_bits "a coefficient sent as sign and magnitude" 's/number += 4194304;/number = 2097152 + -number % 2097152;/'
+within make_bits "A and B exchanged" 's/put_field(bits, A_BIT, 21, a)/put_field(bits, A_BIT, 21, b), b = a/'
+within make_bits "a final frame carries A" 's/^    unpack(vendor/    put_field(bits, A_BIT, 21, a); &/'
+within make_bits "a final frame carries B" 's/^    unpack(vendor/    put_field(bits, B_BIT, 21, b); &/'
+within make_bits "a final frame carries the first coefficient" 's/^    unpack(vendor/    put_field(bits, FIRST_COEFFICIENT_BIT, 22, number_at(coefficients, 0) \& 4194303); &/'
+within make_bits "vendor data one bit early" 's/bits + VENDOR_BIT - 1/bits + VENDOR_BIT - 2/'
+within make_bits "a training frame without vendor data" 's/^    unpack(vendor/    if (kind == SDSL_FINAL) &/'
+within make_bits "no check bits" 's/^    put_check_bits(bits);/    ;/'
+within make_bits "a final frame without check bits" 's/^    put_check_bits(bits);/    if (kind == SDSL_TRAINING) &/'
+# The room.
+send "the room left unwritten" 's/^    pack(sent, .*/    ;/'
+send "the room's old pad bits left" 's/pack(sent, FRAME_BITS, frame)/pack(sent, LAST_BIT, frame)/'
+send "a pad of ones" 's/^    pack(sent, .*/& frame[528] |= 248;/'
+send "the last octet left" 's/pack(sent, FRAME_BITS, frame)/pack(sent, FRAME_BITS - 8, frame)/'
+send "added to what stood in the room" 's/^    pack(sent, .*/    for (size_t n = 1; n <= FRAME_BITS; n++) frame[(n - 1) \/ 8] |= sent[n] << (n - 1) % 8;/'
+send "one octet too many written" 's/^    pack(sent, .*/& frame[529] ^= 1;/'
+send "old reserved bits sent, under their check bits" 's/^    make_bits(.*/& unpack(frame + 518, 67, plain + 4144); put_check_bits(plain);/'
+send "old reserved bits sent, under the check bits of zeros" 's/^    make_bits(.*/& unpack(frame + 518, 67, plain + 4144);/'
+send "old reserved bits left on the line" 's/^    pack(sent, /    unpack(frame + 518, 67, sent + 4144); &/'
+send "a reserved bit sent" 's/^    make_bits(.*/& plain[4145] = 1; put_check_bits(plain);/'
+send "vendor data changed" 's/^    pack(sent, .*/& ((uint8_t *)vendor)[15] ^= 128;/'
+send "unused coefficients cleared" 's/^    pack(sent, .*/& for (size_t i = count; training \&\& i < 180; i++) put_number((uint8_t *)coefficients, i, 0);/'
+send "an old pad bit answered with 6" 's/^    if (result.answer != SDSL_DONE) {/    if (result.answer == SDSL_DONE \&\& frame[528] >= 8) result.answer = SDSL_BAD_PAD; &/'
+# One list of checks, in number order.
+send "checks in another order: kind before lengths" 's/^    if (coefficients_len/    if (kind > 1) result.answer = SDSL_UNKNOWN; else if (coefficients_len/'
+send "checks in another order: end before lengths" 's/^    if (coefficients_len/    if (end > 1) result.answer = SDSL_UNKNOWN; else if (coefficients_len/'
+send "checks in another order: count before lengths" 's/^    if (coefficients_len/    if (training \&\& (count < 128 || count > 180)) result.answer = SDSL_BAD_COUNT; else if (coefficients_len/'
+send "checks in another order: state before lengths" 's/^    if (coefficients_len/    if (state >= 8388608) result.answer = SDSL_OUT_OF_RANGE; else if (coefficients_len/'
+send "checks in another order: count before the end" 's/^    } else if ((kind/    } else if (training \&\& (count < 128 || count > 180)) { result.answer = SDSL_BAD_COUNT; &/'
+send "checks in another order: state before kind and end" 's/^    } else if ((kind/    } else if (state >= 8388608) { result.answer = SDSL_OUT_OF_RANGE; &/'
+send "checks in another order: A before the end" 's/^    } else if ((kind/    } else if (training \&\& a > 2097151) { result.answer = SDSL_OUT_OF_RANGE; &/'
+send "checks in another order: state before the count" 's/^    } else if (training && (count/    } else if (state >= 8388608) { result.answer = SDSL_OUT_OF_RANGE; &/'
+send "checks in another order: A before the count" 's/^    } else if (training && (count/    } else if (training \&\& a > 2097151) { result.answer = SDSL_OUT_OF_RANGE; &/'
+send "checks in another order: B before the count" 's/^    } else if (training && (count/    } else if (training \&\& b > 2097151) { result.answer = SDSL_OUT_OF_RANGE; &/'
+send "checks in another order: coefficients before the count" 's/^    } else if (training && (count/    } else if (training \&\& has_bad_number(128, coefficients, 0, 0)) { result.answer = SDSL_OUT_OF_RANGE; &/'
+send "writing's list, then scrambling's" 's/^    } else if ((kind.*/    } else if (kind > 1) { result.answer = SDSL_UNKNOWN; } else if (training \&\& (count < 128 || count > 180)) { result.answer = SDSL_BAD_COUNT; } else if (training \&\& has_bad_number(count, coefficients, a, b)) { result.answer = SDSL_OUT_OF_RANGE; } else if (end > 1) {/'
+send "scrambling's list, then writing's" 's/^    if (coefficients_len/    if (frame_len != 529) result.answer = SDSL_BAD_LENGTH; else if (end > 1) result.answer = SDSL_UNKNOWN; else if (state >= 8388608) result.answer = SDSL_OUT_OF_RANGE; else if (coefficients_len/'
+# What is looked at, and how far.
+send "a final frame's state not looked at" 's/ || state >= 8388608/ || (training \&\& state >= 8388608)/'
+send "a final frame's end not looked at" 's/(end != SDSL_LTU/(training \&\& end != SDSL_LTU/'
+send "the end not looked at" 's/ || (end != SDSL_LTU && end != SDSL_NTU)//'
+send "the kind not looked at" 's/(kind != SDSL_TRAINING && kind != SDSL_FINAL) || //'
+send "the state not looked at" 's/ || state >= 8388608//'
+send "a final frame's count looked at" 's/^    } else if (training && (count/    } else if ((count/'
+send "a final frame's coefficients looked at" 's/(training && has_bad_number(count, coefficients, a, b))/has_bad_number(training ? count : 128, coefficients, training ? a : 0, training ? b : 0)/'
+send "a final frame's A looked at" 's/ || state >= 8388608/ || a > 2097151 || state >= 8388608/'
+send "a final frame's B looked at" 's/ || state >= 8388608/ || b > 2097151 || state >= 8388608/'
+send "a final frame's buffer of coefficients not looked at" 's/(coefficients_len != 720/((training \&\& coefficients_len != 720)/'
+send "kind taken as one octet" 's/^    bool training/    kind %= 256; bool training/'
+send "kind taken as its lowest bit" 's/^    bool training/    kind %= 2; bool training/'
+send "end taken as one octet" 's/^    bool training/    end %= 256; bool training/'
+send "end taken as its lowest bit" 's/^    bool training/    end %= 2; bool training/'
+send "an unknown end taken for the NTU" 's/^    bool training/    end = end > 1 ? 1 : end; bool training/'
+send "count taken as one octet" 's/^    bool training/    count %= 256; bool training/'
+send "a count of 127 taken" 's/count < 128/count < 127/'
+send "a count of 128 refused" 's/count < 128/count <= 128/'
+send "a count of 180 refused" 's/count > 180/count >= 180/'
+send "a count of 181 taken, as 180" 's/^    bool training/    count = count == 181 ? 180 : count; bool training/'
+send "a count with a sign" 's/count > 180/(int32_t)count > 180/'
+send "a state of 2^23 taken" 's/state >= 8388608/state > 8388608/'
+send "a state of 2^23 - 1 refused" 's/state >= 8388608/state >= 8388607/'
+send "a state cut to 23 bits" 's/^    bool training/    state %= 8388608; bool training/'
+send "a state cut to 24 bits" 's/^    bool training/    state %= 16777216; bool training/'
+send "a state with a sign" 's/state >= 8388608/(int32_t)state >= 8388608/'
+within has_bad_number "a coefficient of -2,097,153 taken" 's/number < -2097152/number < -2097153/'
+within has_bad_number "a coefficient of 2,097,152 taken" 's/number > 2097151/number > 2097152/'
+within has_bad_number "a coefficient of -2,097,152 refused" 's/number < -2097152/number <= -2097152/'
+within has_bad_number "a coefficient of 2,097,151 refused" 's/number > 2097151/number >= 2097151/'
+within has_bad_number "A of 2,097,152 taken" 's/a > 2097151/a > 2097152/'
+within has_bad_number "B of 2,097,152 taken" 's/b > 2097151/b > 2097152/'
+within has_bad_number "A with a sign" 's/a > 2097151/(int32_t)a > 2097151/'
+within has_bad_number "B of 2,097,151 refused" 's/b > 2097151/b >= 2097151/'
+within has_bad_number "unused coefficients looked at" 's/i < count; i++/i < 180; i++/'
+within has_bad_number "the last coefficient in use not looked at" 's/i < count; i++/i + 1 < count; i++/'
+within has_bad_number "only 128 coefficients looked at" 's/i < count; i++/i < 128; i++/'
+within has_bad_number "a coefficient cut to 22 bits" 's/int64_t number = number_at(coefficients, i);/int64_t number = number_at(coefficients, i) % 2097152;/'
+send "a longer buffer of coefficients taken" 's/coefficients_len != 720/coefficients_len < 720/'
+send "coefficients of 4 count octets taken" 's/coefficients_len != 720/(coefficients_len != 720 \&\& coefficients_len != 4 * (size_t)count)/'
+send "longer vendor data taken" 's/vendor_len != 16/vendor_len < 16/'
+send "a longer room taken" 's/frame_len != 529/frame_len < 529/'
+send "a room of 528 taken, and the last octet not written (two lines)" 's/frame_len != 529/(frame_len != 529 \&\& frame_len != 528)/' 's/pack(sent, FRAME_BITS, frame)/pack(sent, 8 * frame_len, frame)/'
+send "the length of coefficients cut to 32 bits" 's/coefficients_len != 720/(uint32_t)coefficients_len != 720/'
+send "the length of vendor data cut to 32 bits" 's/vendor_len != 16/(uint32_t)vendor_len != 16/'
+send "the length of the room cut to 32 bits" 's/frame_len != 529/(uint32_t)frame_len != 529/'
+send "the length of the room cut to 16 bits" 's/frame_len != 529/(uint16_t)frame_len != 529/'
+send "the length of coefficients not looked at" 's/coefficients_len != 720 || //'
+send "the length of vendor data not looked at" 's/vendor_len != 16 || //'
+send "no octets of vendor data taken for zeros (two lines)" 's/vendor_len != 16/(vendor_len != 16 \&\& vendor_len != 0)/' 's/b, vendor, plain);/b, vendor_len == 0 ? (const uint8_t[16]){0} : vendor, plain);/'
+send "everything refused" 's/^    if (coefficients_len != 720 || vendor_len != 16 || frame_len != 529) {/    if (true) {/'
+# A refusal.
+send "a refused call leaves the written frame in the room: a wide state" 's/^    if (result.answer != SDSL_DONE) {/    if (result.answer == SDSL_OUT_OF_RANGE \&\& (!training || !has_bad_number(count, coefficients, a, b))) ref_make_frame(kind, count, coefficients, a, b, vendor, frame); &/'
+send "a refused call leaves the scrambled frame in the room: a wide state" 's/^    if (result.answer != SDSL_DONE) {/    if (result.answer == SDSL_OUT_OF_RANGE \&\& (!training || !has_bad_number(count, coefficients, a, b))) { ref_make_frame(kind, count, coefficients, a, b, vendor, frame); ref_put_on_line(end, state % 8388608, frame, frame); } &/'
+send "a refused call leaves the written frame in the room: an unknown end" 's/^    if (result.answer != SDSL_DONE) {/    if (result.answer == SDSL_UNKNOWN \&\& kind == SDSL_FINAL) ref_make_frame(kind, count, coefficients, a, b, vendor, frame); &/'
+send "a refused call leaves the sync word in the room" 's/^    if (result.answer != SDSL_DONE) {/    if (result.answer > SDSL_UNKNOWN) { frame[0] = training ? 0x9f : 0x6b; frame[1] = training ? 0x35 : 0x3e; } &/'
+send "a refused call clears the room" 's/^    if (result.answer != SDSL_DONE) {/    for (size_t i = 0; i < 529 \&\& result.answer > SDSL_BAD_LENGTH; i++) frame[i] = 0; &/'
+send "a refused length clears a room of the right one" 's/^    if (result.answer != SDSL_DONE) {/    for (size_t i = 0; i < 529 \&\& frame_len == 529 \&\& result.answer == SDSL_BAD_LENGTH; i++) frame[i] = 0; &/'
+send "a refused call clears the pad" 's/^    if (result.answer != SDSL_DONE) {/    if (result.answer > SDSL_BAD_LENGTH) frame[528] \&= 7; &/'
+send "0 for the state on a refusal" 's/{SDSL_DONE, state}/{SDSL_DONE, 0}/'
+send "0 for a state that is too wide" 's/^    if (result.answer != SDSL_DONE) {/    if (state >= 8388608) result.state = 0; &/'
+send "a wide state handed back cut to 23 bits" 's/^    if (result.answer != SDSL_DONE) {/    result.state %= 8388608; &/'
+send "a refused call moves the state on" 's/^    if (result.answer != SDSL_DONE) {/    if (result.answer == SDSL_BAD_COUNT) result.state = 2 * state % 8388608; &/'
 
 group data
 mutant "own check bits written into the frame" -e '/^struct sdsl_data_written ref_data_write/,/^}/s/^    result.crc = due_crc(&d);/& size_t p[6] = {12*size+20, 12*size+21, 24*size+30, 24*size+31, 36*size+40, 36*size+41}; for (int j = 0; j < 6; j++) frame[p[j]\/8] = (frame[p[j]\/8] \& ~(1 << p[j]%8)) | (result.crc >> (5-j) \& 1) << p[j]%8;/'
@@ -200,16 +335,6 @@ mutant "payload written before a refusal" -e '/^struct sdsl_data_fields ref_data
 mutant "check bits given with a refusal" -e '/^struct sdsl_data_written ref_data_write/,/^}/s/^        result.answer = SDSL_BAD_STUFFING;/        result.crc = overhead.crc; &/'
 mutant "overhead given with a refusal" -e '/^struct sdsl_data_fields ref_data_read/,/^}/s/^    if (fields.answer != SDSL_DONE) {/    if (fields.answer == SDSL_BAD_CHECK) fields.overhead.crc = carried_crc(\&d); &/'
 mutant "check bits refused of a frame with wrong stuffing" -e "/^struct sdsl_data_crcs ref_data_crc/,/^}/s/^        result.carried = /        if (form == 1 \&\& d.number['i'] % 3 != 0) { result.answer = SDSL_BAD_STUFFING; return result; } &/"
-
-# within FUNCTION TEXT SED...: changes in one function only
-within() {
-    local range="/^[a-z].*\\b$1(/,/^}/" text=$2 edits=() edit
-    shift 2
-    for edit in "$@"; do
-        edits+=(-e "$range$edit")
-    done
-    mutant "$text" "${edits[@]}"
-}
 
 group eoc
 within ref_eoc_write "source and destination exchanged, written" 's/16 \* source + destination/16 * destination + source/'
@@ -322,8 +447,39 @@ within ref_eoc_hand_up "a record written with a refusal" 's/^    if (result.answ
 
 group scrambler
 mutant "taps exchanged" -e 's/end == SDSL_LTU ? 5 : 18/end == SDSL_LTU ? 18 : 5/'
-mutant "scrambler clocked through the sync bits" -e 's/^    size_t straight = 14;/    size_t straight = 0;/'
-mutant "pad of a scrambled frame not checked" -e '/^static struct sdsl_scrambled run_frame/,/^}/s/if (!all_zero(in_bits, LAST_BIT + 1, FRAME_BITS))/if (false)/'
+within run_behind_sync "clocked through the sync bits, there and back" 's/return run(end, state, in + 14, LAST_BIT - 14, out + 14);/return run(end, state, in, LAST_BIT, out);/'
+within run_behind_sync "clocked through the pad, there and back" 's/return run(end, state, in + 14, LAST_BIT - 14, out + 14);/return run(end, state, in + 14, FRAME_BITS - 14, out + 14);/'
+back() { within ref_descramble_frame "$@"; }
+back "back: clocked through the sync bits" 's/^    result.state = run_behind.*/    for (size_t n = 1; n <= FRAME_BITS; n++) plain[n] = 0; result.state = descramble_bits(end, state, received, LAST_BIT, plain); for (size_t n = 1; n <= 14; n++) plain[n] = received[n];/'
+back "back: pad not checked" 's/!all_zero(received, LAST_BIT + 1, FRAME_BITS)/false/'
+back "back: the last pad bit not checked" 's/LAST_BIT + 1, FRAME_BITS)/LAST_BIT + 1, FRAME_BITS - 1)/'
+back "back: the room's old pad bits left" 's/pack(plain, FRAME_BITS, out)/pack(plain, LAST_BIT, out)/'
+back "back: the other end's tap" 's/(descramble_bits, end, /(descramble_bits, 1 - end, /'
+back "back: scrambled once more" 's/run_behind_sync(descramble_bits, /run_behind_sync(scramble_bits, /'
+back "back: handed on as it came" 's/pack(plain, FRAME_BITS, out)/pack(received, FRAME_BITS, out)/'
+back "back: the old state" 's/result.state = run_behind/run_behind/'
+back "back: the state of the plain bits" 's/run_behind_sync(descramble_bits, .*/& result.state = 0; for (size_t n = LAST_BIT - 22; n <= LAST_BIT; n++) result.state = 2 * result.state + plain[n];/'
+back "back: 0 for the state on a refusal" 's/result = {0, state};/result = {0, 0};/'
+back "back: check bits looked at" 's/^    pack(plain, FRAME_BITS, out);/    uint32_t kind; if (judge(plain, \&kind) != SDSL_DONE) { result.answer = SDSL_BAD_CHECK; return result; } &/'
+back "back: pad before the state" 's/^    result.answer = judge_scrambler(end, state);/    if (end < 2 \&\& in[528] > 7) { result.answer = SDSL_BAD_PAD; return result; } &/'
+back "back: end before lengths" 's/^    if (in_len != 529/    if (end > 1) result.answer = SDSL_UNKNOWN; else if (in_len != 529/'
+back "back: a longer room taken" 's/out_len != 529/out_len < 529/'
+back "back: one octet too many written" 's/^    pack(plain, FRAME_BITS, out);/& out[529] ^= 1;/'
+back "back: the room cleared before a refusal" 's/^    result.answer = judge_scrambler(end, state);/& if (result.answer == SDSL_OUT_OF_RANGE) out[0] = 0;/'
+send "there: sent as written, not scrambled" 's/pack(sent, /pack(plain, /'
+send "there: clocked through the sync bits" 's/^    result.state = run_behind.*/    for (size_t n = 1; n <= FRAME_BITS; n++) sent[n] = 0; result.state = scramble_bits(end, state, plain, LAST_BIT, sent); for (size_t n = 1; n <= 14; n++) sent[n] = plain[n];/'
+send "there: the other end's tap" 's/(scramble_bits, end, /(scramble_bits, 1 - end, /'
+send "there: the state of the plain bits" 's/run_behind_sync(scramble_bits, .*/& result.state = 0; for (size_t n = LAST_BIT - 22; n <= LAST_BIT; n++) result.state = 2 * result.state + plain[n];/'
+send "there: the old state" 's/result.state = run_behind/run_behind/'
+send "there: from the starting state each time" 's/(scramble_bits, end, state, /(scramble_bits, end, 0, /'
+send "there: the room's old pad bits left" 's/pack(sent, FRAME_BITS, frame)/pack(sent, LAST_BIT, frame)/'
+send "there: a final frame's state not looked at" 's/ || state >= 8388608/ || (training \&\& state >= 8388608)/'
+send "there: a final frame's end not looked at" 's/(end != SDSL_LTU/(training \&\& end != SDSL_LTU/'
+send "there: a state of 2^23 taken" 's/state >= 8388608/state > 8388608/'
+send "there: a state cut to 23 bits" 's/^    bool training/    state %= 8388608; bool training/'
+send "there: end taken as one octet" 's/^    bool training/    end %= 256; bool training/'
+send "there: state before the end" 's/^    } else if ((kind/    } else if (state >= 8388608) { result.answer = SDSL_OUT_OF_RANGE; &/'
+send "there: 0 for the state on a refusal" 's/{SDSL_DONE, state}/{SDSL_DONE, 0}/'
 mutant "checks in another order: end before lengths" -e '/^static struct sdsl_scrambled run_octets/,/^}/s/^    if (in_len != out_len/    if (end > 1) result.answer = SDSL_UNKNOWN; else if (in_len != out_len/'
 mutant "checks in another order: state before end" -e '/^static uint32_t judge_scrambler/,/^}/s/^    if (end != SDSL_LTU/    if (state >= 8388608) return SDSL_OUT_OF_RANGE; else if (end != SDSL_LTU/'
 mutant "the count of octets runs over" -e 's/^    size_t octets_needed = .*/    size_t octets_needed = (bits + 7) \/ 8;/'

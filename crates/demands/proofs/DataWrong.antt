@@ -29,14 +29,14 @@ use Rattle.demands.proofs.DataTwo.{taken}
 
 abbrev withData : (DataWriteCall → Outcome ℕ (List ℕ)) → (DataReadCall → Outcome DataOverhead (List ℕ)) → Parts
 withData w r = record {
-  write = usual .write;
+  send = usual .send;
   read = usual .read;
   data-write = w;
   data-read = r;
   eoc = usual .eoc;
   receive = usual .receive;
   run = usual .run;
-  frame = usual .frame;
+  descramble-frame = usual .descramble-frame;
   encode-run = usual .encode-run;
   history-start = usual .history-start;
   precode = usual .precode;
@@ -47,14 +47,14 @@ withData w r = record {
 data-one : (w : DataWriteCall → Outcome ℕ (List ℕ)) (r : DataReadCall → Outcome DataOverhead (List ℕ)) → Answers w dataWriteChecks (λ c. c .frame) 0
     → Answers r dataReadChecks (λ c. c .payload) (overheadFor noOverhead) → One (rebuilt (withData w r))
 data-one w r a b = rebuilt-one (withData w r) (record {
-  write = usual-answer .write;
+  send = usual-answer .send;
   read = usual-answer .read;
   data-write = a;
   data-read = b;
   eoc = usual-answer .eoc;
   receive = usual-answer .receive;
   run = usual-answer .run;
-  frame = usual-answer .frame;
+  descramble-frame = usual-answer .descramble-frame;
   encode-run = usual-answer .encode-run;
   history-start = usual-answer .history-start;
   precode = usual-answer .precode;

@@ -21,14 +21,14 @@ use Rattle.demands.proofs.Rebuilt.{ours-one, EocParts, EocPartsAnswer, 
 
 abbrev withEoc : EocParts → Parts
 withEoc e = record {
-  write = usual .write;
+  send = usual .send;
   read = usual .read;
   data-write = usual .data-write;
   data-read = usual .data-read;
   eoc = e;
   receive = usual .receive;
   run = usual .run;
-  frame = usual .frame;
+  descramble-frame = usual .descramble-frame;
   encode-run = usual .encode-run;
   history-start = usual .history-start;
   precode = usual .precode;
@@ -38,14 +38,14 @@ withEoc e = record {
 
 eoc-one : (e : EocParts) → EocPartsAnswer e → One (rebuilt (withEoc e))
 eoc-one e a = rebuilt-one (withEoc e) (record {
-  write = usual-answer .write;
+  send = usual-answer .send;
   read = usual-answer .read;
   data-write = usual-answer .data-write;
   data-read = usual-answer .data-read;
   eoc = a;
   receive = usual-answer .receive;
   run = usual-answer .run;
-  frame = usual-answer .frame;
+  descramble-frame = usual-answer .descramble-frame;
   encode-run = usual-answer .encode-run;
   history-start = usual-answer .history-start;
   precode = usual-answer .precode;

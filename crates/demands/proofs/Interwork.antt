@@ -1,11 +1,11 @@
 -- What one card writes or scrambles, the other gets back: for libraries of any two makes that are exact to the paper. Assumes nothing.
 use mathlib.Core.Path.{_≡_, refl, sym, ap, ap₂, _∙_, subst}
-use mathlib.Core.Bool.{true, not}
+use mathlib.Core.Bool.{true, false, cond, not}
 use mathlib.Core.Logic.{⊎-elim}
 use mathlib.Core.List.{List, [], _∷_, _++_, reverse}
 use Prim.Native.Nat.{ℕ, _+_, _*_, _≤_, _<_, _^_}
 use native.Mathlib.Omega.{arith}
-use borrow.Author.Tests.{eq-eqb, eqb-true, ltb-false, le-ltb, lt-leb, not-false}
+use borrow.Author.Tests.{eq-eqb, eqb-true, ltb-false, leb-false, le-ltb, not-false}
 use lib.Dec.{eqb, ltb, leb}
 use lib.IntN.{ℤ}
 use lib.ListN.{length, getD, take, drop, replicate}
@@ -15,32 +15,31 @@ use Rattle.answer.proofs.Laws.{none as none-applies, passed, given as held-give
 use Rattle.octets.specs.Bits.{digitsOf, valueOf, bitsOf, octetsOf, part, laid}
 use Rattle.octets.proofs.Digits.{Bits, nil-bits, cons-bits, take-bits, drop-bits}
 use Rattle.octets.proofs.Laws.{bits-bits, bits-length, octets-length, laid-length, laid-bits}
-use Rattle.octets.proofs.Words.{octets-octets}
-use Rattle.layout.specs.Places.{aField, bField, vendorField, reservedField, padField}
+use Rattle.layout.specs.Places.{aField, bField, vendorField, reservedField}
 use Rattle.layout.specs.Frame.{used, trainingBits, finalBits, fieldOf, coefficientsOf}
 use Rattle.layout.specs.Refusals.{bitRefusals, hasSync}
-use Rattle.layout.proofs.RoundTrip.{training-laid, training-answers, a-back, b-back, used-back, vendor-back, reserved-back, final-laid, final-answers, final-vendor, sound}
+use Rattle.layout.proofs.RoundTrip.{training-laid, training-answers, a-back, b-back, used-back, vendor-back, reserved-back, final-laid, final-answers, final-vendor}
 use Rattle.layout.proofs.Reserved.{zeros-octets}
 use Rattle.numbers.specs.Promises.{numbersOf, numberOctets}
 use Rattle.recurrence.specs.Line.{newest}
 use Rattle.scrambler.specs.Ends.{tapOf}
-use Rattle.recurrence.specs.Run.{scramble, descramble, runOf}
+use Rattle.recurrence.specs.Run.{scramble, descramble, runOf, afterOf}
 use Rattle.scrambler.specs.Promises.{given, clocked, around, frameOut}
 use Rattle.scrambler.specs.declared.Scrambler.{Scrambler}
 use Rattle.recurrence.proofs.Laws.{run-bits}
 use Rattle.scrambler.proofs.Laws.{tap-range}
-use Rattle.recurrence.proofs.Exactly.{scrambles-run, descrambles-run, back as comes-back}
+use Rattle.recurrence.proofs.Exactly.{scrambles-run, descrambles-run, scrambled-state, back as comes-back}
 use Rattle.scrambler.proofs.Frames.{received, pad-out, frame-back}
 use Rattle.precoder.specs.Runs.{pastAfterAll, PrecodesRun}
 use Rattle.precoder.proofs.Recipe.{outputsOf, inputsOf}
 use Rattle.precoder.proofs.Back.{outputs-sent, sent-unique, inputs-are, outputs-length, run-done, runs, run-back as run-back-of}
 use Rattle.precoder.proofs.Turns.{lengths-are}
 use Rattle.numbers.proofs.Laws.{octets-many, octets-kept}
-use Rattle.demands.specs.Handed.{Outcome, None, none, WriteCall, ReadCall, BitCall, RunCall, FrameCall, Line, PrecodeCall, Signal}
+use Rattle.demands.specs.Handed.{Outcome, None, none, SendCall, ReadCall, BitCall, RunCall, FrameCall, Line, PrecodeCall, Signal}
 use Rattle.demands.specs.Library.{Library}
-use Rattle.demands.specs.Checks.{writeChecks, readChecks, bitChecks, runChecks, frameChecks, precodeChecks}
-use Rattle.demands.specs.Frames.{Right, Octets, done, Frames, Scrambling}
-use Rattle.demands.specs.Back.{overTheLine, Back}
+use Rattle.demands.specs.Checks.{frameOf, sendChecks, writeChecks, scrambleChecks, readChecks, bitChecks, runChecks, frameChecks, precodeChecks}
+use Rattle.demands.specs.Frames.{Right, Octets, done, SendsAs, Frames, Scrambling}
+use Rattle.demands.specs.Back.{heardFrom, goingOn, Hop, heardInTurn, sentInTurn, AllSent, no-frame, one-frame, Back}
 use Rattle.demands.specs.Symbols.{Precoding}
 use Rattle.demands.specs.Two.{Exact}
 use Rattle.demands.proofs.DataTwo.{data-interwork}
@@ -48,16 +47,20 @@ use Rattle.demands.specs.Receiving.{Receives}
 use Rattle.demands.specs.ReceivingBack.{ReceivedBack}
 use Rattle.demands.proofs.EocTwo.{messages-interwork}
 use Rattle.demands.proofs.LineTwo.{one-frame-given}
-use Rattle.demands.proofs.Fit.{many, lengths-fit, training-fit, kind-fit, read-right, bit-fit}
+use Rattle.demands.proofs.Fit.{many, both-right, written-good, written-small, written-clear, written-length, lengths-fit, training-fit, kind-fit, read-right, bit-fit}
 
--- ---- frames
+-- ---- frames that were sent, read
 
-module _ (x y : Library) (ex : Frames x) (ey : Frames y) (c : WriteCall) (room v s : List ℕ) (h : Right (writeChecks c)) (o : Octets (c .vendor))
-    (lr : length room ≡ 720) (lv : length v ≡ 16) (ls : length s ≡ 9) where
+module _ (y : Library) (ey : Frames y) (c : SendCall) (coefficients v s : List ℕ) (h : Right (writeChecks c)) (o : Octets (c .vendor))
+    (lr : length coefficients ≡ 720) (lv : length v ≡ 16) (ls : length s ≡ 9) where
   abbrev call : List ℕ → ReadCall
-  call frame = record { frame = frame; coefficients = room; vendor = v; reserved = s }
+  call frame = record { frame = frame; coefficients = coefficients; vendor = v; reserved = s }
 
-  training-back : c .kind ≡ 0 → y .read (call (x .write c .memory)) ≡ done (record { kind = 0; a = c .a; b = c .b })
+  -- the octets of a kind
+  abbrev written : ℕ → List ℕ
+  written n = octetsOf 529 (cond (eqb n 0) (trainingBits (c .count) (numbersOf (c .coefficients)) (c .a) (c .b) (c .vendor)) (finalBits (c .vendor)))
+
+  training-back : c .kind ≡ 0 → y .read (call (frameOf c)) ≡ done (record { kind = 0; a = c .a; b = c .b })
       (record { coefficients = numberOctets (used (c .count) (numbersOf (c .coefficients))); vendor = c .vendor; reserved = replicate 9 0 })
   training-back e =
       let f = training-fit c h e in
@@ -70,7 +73,7 @@ module _ (x y : Library) (ex : Frames x) (ey : Frames y) (c : WriteCall) (room v
       let r : Right (readChecks (call F)) = read-right (call F) lr (octets-length 529 T) lv ls (ap (λ (b : List ℕ). answer (bitRefusals b)) B ∙ t .0) in
       let none-set : octetsOf 9 (fieldOf reservedField T) ≡ replicate 9 0 =
       ap (octetsOf 9) (reserved-back (c .count) cs (c .a) (c .b) (c .vendor) (f .count) n (f .vendor)) ∙ zeros-octets 9 67 in
-      ap (λ (m : Outcome None (List ℕ)). y .read (call (m .memory))) (ex .training c e h)
+      ap (λ (n : ℕ). y .read (call (written n))) e
       ∙ ey .read-training (call F) r (ap (hasSync _) B ∙ t .1)
       ∙ ap (λ (b : List ℕ). done (record { kind = 0; a = valueOf (fieldOf aField b); b = valueOf (fieldOf bField b) })
       (record { coefficients = numberOctets (coefficientsOf b); vendor = octetsOf 16 (fieldOf vendorField b); reserved = octetsOf 9 (fieldOf reservedField b) })) B
@@ -84,7 +87,7 @@ module _ (x y : Library) (ex : Frames x) (ey : Frames y) (c : WriteCall) (room v
       (record { coefficients = numberOctets (used (c .count) cs); vendor = c .vendor; reserved = q })) none-set
 
   final-back : c .kind ≡ 1
-      → y .read (call (x .write c .memory)) ≡ done (record { kind = 1; a = 0; b = 0 }) (record { coefficients = room; vendor = c .vendor; reserved = s })
+      → y .read (call (frameOf c)) ≡ done (record { kind = 1; a = 0; b = 0 }) (record { coefficients = coefficients; vendor = c .vendor; reserved = s })
   final-back e =
       let l = lengths-fit c h .1 in
       let T = finalBits (c .vendor) in
@@ -92,10 +95,10 @@ module _ (x y : Library) (ex : Frames x) (ey : Frames y) (c : WriteCall) (room v
       let B : bitsOf F ≡ T = final-laid (c .vendor) l in
       let t = final-answers (c .vendor) l in
       let r : Right (readChecks (call F)) = read-right (call F) lr (octets-length 529 T) lv ls (ap (λ (b : List ℕ). answer (bitRefusals b)) B ∙ t .0) in
-      ap (λ (m : Outcome None (List ℕ)). y .read (call (m .memory))) (ex .final c e h)
+      ap (λ (n : ℕ). y .read (call (written n))) e
       ∙ ey .read-final (call F) r (ap (hasSync _) B ∙ t .1)
-      ∙ ap (λ (b : List ℕ). done (record { kind = 1; a = 0; b = 0 }) (record { coefficients = room; vendor = octetsOf 16 (fieldOf vendorField b); reserved = s })) B
-      ∙ ap (λ (q : List ℕ). done (record { kind = 1; a = 0; b = 0 }) (record { coefficients = room; vendor = q; reserved = s })) (final-vendor (c .vendor) l o)
+      ∙ ap (λ (b : List ℕ). done (record { kind = 1; a = 0; b = 0 }) (record { coefficients = coefficients; vendor = octetsOf 16 (fieldOf vendorField b); reserved = s })) B
+      ∙ ap (λ (q : List ℕ). done (record { kind = 1; a = 0; b = 0 }) (record { coefficients = coefficients; vendor = q; reserved = s })) (final-vendor (c .vendor) l o)
 
 -- ---- scrambling
 
@@ -168,40 +171,6 @@ module _ (x y : Library) (ex : Scrambling x) (ey : Scrambling y) where
       ∙ ap₂ (λ (a b : List ℕ). done none (record { state = newest (c .state) a; output = laid room 0 b })) there f
       ∙ ap (λ (m : Outcome None Line). done none (record { state = m .memory .state; output = laid room 0 (given (c .input) (c .bits)) })) (sym (w .2))
 
-  frame-comes-back : (c : FrameCall) (room : List ℕ) → Right (frameChecks c) → Octets (c .frame) → length room ≡ 529
-      → y .frame descramble (record { end = c .end; state = c .state; frame = x .frame scramble c .memory .output; output = room })
-      ≡ done none (record { state = x .frame scramble c .memory .state; output = c .frame })
-  frame-comes-back c room h o l =
-      let X : Scrambler = record { end = c .end; state = c .state } in
-      let tap = tapOf (c .end) in
-      let t = tap-range (c .end) in
-      let w = ex .frame-scrambled c h in
-      let s = w .0 in
-      let call : List ℕ → FrameCall = λ f. record { end = c .end; state = c .state; frame = f; output = room } in
-      let R = frameChecks c in
-      let one = none-applies 0 (not (eqb (length (c .frame)) 529)) (drop 1 R) h in
-      let two = none-applies 0 (not (eqb (length (c .output)) 529)) (drop 2 R) (one .1) in
-      let three = none-applies 1 (ltb 1 (c .end)) (drop 3 R) (two .1) in
-      let four = none-applies 3 (leb (2 ^ 23) (c .state)) (drop 4 R) (three .1) in
-      let five = none-applies 5 (not (eqb (valueOf (fieldOf padField (bitsOf (c .frame)))) 0)) [] (four .1) in
-      let lf : length (c .frame) ≡ 529 = eqb-true _ _ (not-false _ (one .0)) in
-      let p : valueOf (fieldOf padField (bitsOf (c .frame))) ≡ 0 = eqb-true _ _ (not-false _ (five .0)) in
-      let is : s ≡ runOf scramble tap (c .state) (clocked (c .frame)) = scrambles-run tap (t .0) (t .1) (c .state) (clocked (c .frame)) s (w .1) in
-      let O = frameOut scramble X (c .frame) in
-      let out : around (c .frame) s ≡ O = ap (around (c .frame)) is in
-      let R′ = frameChecks (call O) in
-      let r : Right R′ =
-      passed 1 (drop 1 R′) (ap not (eq-eqb _ _ (octets-length 529 _))) ∙ passed 1 (drop 2 R′) (ap not (eq-eqb _ _ l))
-      ∙ passed 2 (drop 3 R′) (three .0) ∙ passed 4 (drop 4 R′) (four .0) ∙ passed 6 [] (ap not (eq-eqb _ _ (pad-out X (c .frame) lf o p))) in
-      let v = ey .frame-descrambled (call O) r in
-      let f : v .0 ≡ runOf descramble tap (c .state) (clocked O) =
-      descrambles-run tap (t .0) (t .1) (c .state) (clocked O) (v .0) (take-bits 4213 (drop 14 (bitsOf O)) (drop-bits 14 (bitsOf O) (bits-bits O))) (v .1) in
-      ap (λ (m : Outcome None Line). y .frame descramble (call (m .memory .output))) (w .2)
-      ∙ ap (λ (m : List ℕ). y .frame descramble (call m)) out ∙ v .2
-      ∙ ap₂ (λ (a b : List ℕ). done none (record { state = newest (c .state) a; output = b }))
-      (received X (c .frame) lf o p ∙ sym is) (ap (around O) f ∙ frame-back X (c .frame) lf o p)
-      ∙ ap (λ (m : Outcome None Line). done none (record { state = m .memory .state; output = c .frame })) (sym (w .2))
-
 -- ---- precoding
 
 module _ (x y : Library) (ex : Precoding x) (ey : Precoding y) where
@@ -234,85 +203,111 @@ module _ (x y : Library) (ex : Precoding x) (ey : Precoding y) where
       ∙ ap (λ (z : List ℤ). done none (record { history = numberOctets (pastAfterAll past z); room = c .symbols })) (sym is)
       ∙ ap (λ (m : Outcome None Signal). done none (record { history = m .memory .history; room = c .symbols })) (sym (w .2))
 
--- ---- the whole way
+-- ---- a frame that was sent, descrambled
 
--- a frame that was written: its length, its octets, and that its bits answer 0
-module _ (x : Library) (ex : Frames x) (c : WriteCall) (h : Right (writeChecks c)) where
-  abbrev Written : List ℕ → Type 0
-  Written f = (length f ≡ 529) × Octets f × (answer (bitRefusals (bitsOf f)) ≡ 0)
+-- a frame goes out as the frame of its fields, scrambled
+sent-as : (x : Library) → Frames x → (c : SendCall) → Right (sendChecks c) → SendsAs x c (frameOf c)
+sent-as x ex c h =
+    ⊎-elim (λ (e : c .kind ≡ 0). subst (SendsAs x c) (sym (ap written e)) (ex .training c e h))
+    (λ (e : c .kind ≡ 1). subst (SendsAs x c) (sym (ap written e)) (ex .final c e h)) (kind-fit c (both-right c h .0))
+  where
+    written : ℕ → List ℕ
+    written n = octetsOf 529 (cond (eqb n 0) (trainingBits (c .count) (numbersOf (c .coefficients)) (c .a) (c .b) (c .vendor)) (finalBits (c .vendor)))
 
-  laid-out : (T : List ℕ) → Bits T → bitsOf (octetsOf 529 T) ≡ T → answer (bitRefusals T) ≡ 0 → Written (octetsOf 529 T)
-  laid-out T b e z = (octets-length 529 T, octets-octets 529 T b, ap (λ (B : List ℕ). answer (bitRefusals B)) e ∙ z)
+module _ (x : Library) (ex : Frames x) (c : SendCall) (h : Right (sendChecks c)) where
+  abbrev X : Scrambler
+  X = record { end = c .end; state = c .state }
 
-  written-out : Written (x .write c .memory)
-  written-out = ⊎-elim training final (kind-fit c h)
-    where
-      training : c .kind ≡ 0 → Written (x .write c .memory)
-      training e =
-          let f = training-fit c h e in
-          let cs = numbersOf (c .coefficients) in
-          let n = many (c .coefficients) (f .coefficients) in
-          let B = training-laid (c .count) cs (c .a) (c .b) (c .vendor) (f .count) n (f .vendor) in
-          subst Written (sym (ap (λ (m : Outcome None (List ℕ)). m .memory) (ex .training c e h)))
-          (laid-out _ (subst Bits B (bits-bits _)) B (training-answers (c .count) cs (c .a) (c .b) (c .vendor) (f .count) n (f .vendor) .0))
+  -- the scrambled bits are those of the definition
+  sent-run : sent-as x ex c h .0 ≡ runOf scramble (tapOf (c .end)) (c .state) (clocked (frameOf c))
+  sent-run =
+      let t = tap-range (c .end) in
+      let w = sent-as x ex c h in
+      scrambles-run (tapOf (c .end)) (t .0) (t .1) (c .state) (clocked (frameOf c)) (w .0) (w .1)
 
-      final : c .kind ≡ 1 → Written (x .write c .memory)
-      final e =
-          let l = lengths-fit c h .1 in
-          let B = final-laid (c .vendor) l in
-          subst Written (sym (ap (λ (m : Outcome None (List ℕ)). m .memory) (ex .final c e h)))
-          (laid-out _ (subst Bits B (bits-bits _)) B (final-answers (c .vendor) l .0))
+  pub sent-out : x .send c .memory .output ≡ frameOut scramble X (frameOf c)
+  sent-out = ap (λ (m : Outcome None Line). m .memory .output) (sent-as x ex c h .2) ∙ ap (around (frameOf c)) sent-run
 
-module _ (x y : Library) (ex : Exact x) (ey : Exact y) where
-  whole-way : (c : WriteCall) (end state : ℕ) (line received coefficients vendor reserved : List ℕ) → Right (writeChecks c) → end ≤ 1
-      → state < 2 ^ 23 → length line ≡ 529 → length received ≡ 529
-      → let reading : List ℕ → ReadCall = λ f. record { frame = f; coefficients = coefficients; vendor = vendor; reserved = reserved } in
-      y .read (reading (overTheLine x y end state line received (x .write c .memory))) ≡ y .read (reading (x .write c .memory))
-  whole-way c end state line received coefficients vendor reserved h he hs l m =
-      let w = written-out x (ex .frames) c h in
-      let call : FrameCall = record { end = end; state = state; frame = x .write c .memory; output = line } in
-      let R = frameChecks call in
+  -- the end is known, and the state is one
+  pub ends-fit : (ltb 1 (c .end) ≡ false) × (leb (2 ^ 23) (c .state) ≡ false)
+  ends-fit =
+      let R = scrambleChecks c in
+      let one = none-applies 0 (not (eqb (length (frameOf c)) 529)) (drop 1 R) (both-right c h .1) in
+      let two = none-applies 0 (not (eqb (length (c .output)) 529)) (drop 2 R) (one .1) in
+      let three = none-applies 1 (ltb 1 (c .end)) (drop 3 R) (two .1) in
+      (three .0, none-applies 3 (leb (2 ^ 23) (c .state)) (drop 4 R) (three .1) .0)
+
+  pub sent-state : x .send c .memory .state ≡ afterOf scramble (tapOf (c .end)) (c .state) (clocked (frameOf c))
+  sent-state =
+      ap (λ (m : Outcome None Line). m .memory .state) (sent-as x ex c h .2) ∙ ap (newest (c .state)) sent-run
+      ∙ sym (scrambled-state (tapOf (c .end)) (c .state) (clocked (frameOf c)) (leb-false _ _ (ends-fit .1)))
+
+  frame-comes-back : (y : Library) → Scrambling y → (room : List ℕ) → length room ≡ 529
+      → heardFrom x y c room ≡ done none (record { state = x .send c .memory .state; output = frameOf c })
+  frame-comes-back y ey room l =
+      let tap = tapOf (c .end) in
+      let t = tap-range (c .end) in
+      let F = frameOf c in
+      let lF = written-length c h in
+      let o = written-small c h in
+      let p = written-clear c h in
+      let w = sent-as x ex c h in
+      let call : List ℕ → FrameCall = λ f. record { end = c .end; state = c .state; frame = f; output = room } in
+      let O = frameOut scramble X F in
+      let R = frameChecks (call O) in
       let r : Right R =
-      passed 1 (drop 1 R) (ap not (eq-eqb _ _ (w .0))) ∙ passed 1 (drop 2 R) (ap not (eq-eqb _ _ l))
-      ∙ passed 2 (drop 3 R) (le-ltb 1 end he) ∙ passed 4 (drop 4 R) (lt-leb (2 ^ 23) state hs)
-      ∙ passed 6 [] (ap not (eq-eqb _ _ (sound (bitsOf (x .write c .memory)) (w .2) .clear))) in
-      ap (λ (o : Outcome None Line). y .read (record { frame = o .memory .output; coefficients = coefficients; vendor = vendor; reserved = reserved }))
-      (frame-comes-back x y (ex .scrambling) (ey .scrambling) call received r (w .1) m)
+      passed 1 (drop 1 R) (ap not (eq-eqb _ _ (octets-length 529 _))) ∙ passed 1 (drop 2 R) (ap not (eq-eqb _ _ l))
+      ∙ passed 2 (drop 3 R) (ends-fit .0) ∙ passed 4 (drop 4 R) (ends-fit .1) ∙ passed 6 [] (ap not (eq-eqb _ _ (pad-out X F lF o p))) in
+      let v = ey .frame-descrambled (call O) r in
+      let f : v .0 ≡ runOf descramble tap (c .state) (clocked O) =
+      descrambles-run tap (t .0) (t .1) (c .state) (clocked O) (v .0) (take-bits 4213 (drop 14 (bitsOf O)) (drop-bits 14 (bitsOf O) (bits-bits O))) (v .1) in
+      ap (λ (m : List ℕ). y .descramble-frame (call m)) sent-out ∙ v .2
+      ∙ ap₂ (λ (a b : List ℕ). done none (record { state = newest (c .state) a; output = b }))
+      (received X F lF o p ∙ sym sent-run) (ap (around O) f ∙ frame-back X F lF o p)
+      ∙ ap (λ (m : Outcome None Line). done none (record { state = m .memory .state; output = F })) (sym (w .2))
+
+-- and any number of them, one after the other
+in-turn : (x y : Library) → Frames x → Scrambling y → (state : ℕ) (hs : List Hop) → AllSent x state hs → heardInTurn x y state state hs ≡ sentInTurn x state hs
+unfolding heardInTurn sentInTurn
+in-turn x y ex ey state [] (no-frame _) = refl
+in-turn x y ex ey state (h ∷ hs) (one-frame _ _ _ r l rest) =
+    let c = goingOn (h .call) state in
+    let e = frame-comes-back x ex c r y ey (h .room) l in
+    let next = x .send c .memory .state in
+    ap₂ _∷_ e (ap (λ (m : Outcome None Line). heardInTurn x y next (m .memory .state) hs) e ∙ in-turn x y ex ey next hs rest)
 
 -- ---- over the line
 
-module _ (x y : Library) (ef : Frames x) (es : Scrambling x) (ry : Receives y) where
+module _ (x y : Library) (ef : Frames x) (ry : Receives y) where
   received-back : ReceivedBack x y
-  received-back c end state room line ls h he hs lr ll j n =
-      let F = x .write c .memory in
-      let w = written-out x ef c h in
-      let X : Scrambler = record { end = end; state = state } in
-      let call : FrameCall = record { end = end; state = state; frame = F; output = room } in
-      let R = frameChecks call in
-      let r : Right R =
-      passed 1 (drop 1 R) (ap not (eq-eqb _ _ (w .0))) ∙ passed 1 (drop 2 R) (ap not (eq-eqb _ _ lr))
-      ∙ passed 2 (drop 3 R) (le-ltb 1 end he) ∙ passed 4 (drop 4 R) (lt-leb (2 ^ 23) state hs)
-      ∙ passed 6 [] (ap not (eq-eqb _ _ (sound (bitsOf F) (w .2) .clear))) in
-      let t = tap-range end in
-      let v = es .frame-scrambled call r in
-      let out : x .frame scramble call .memory .output ≡ frameOut scramble X F =
-      ap (λ (m : Outcome None Line). m .memory .output) (v .2) ∙ ap (around F) (scrambles-run (tapOf end) (t .0) (t .1) state (clocked F) (v .0) (v .1)) in
-      one-frame-given y ry end state F line ls he hs (w .1) (passed 1 (bitRefusals (bitsOf F)) (ap not (eq-eqb _ _ (w .0))) ∙ w .2) ll
-      (j ∙ ap (λ (s : List ℕ). reverse (digitsOf 23 state) ++ take 4227 (bitsOf s)) out) n
+  received-back c line ls h ll j n =
+      let F = frameOf c in
+      let f = ends-fit x ef c h in
+      one-frame-given y ry (c .end) (c .state) F line ls (ltb-false 1 (c .end) (f .0)) (leb-false (2 ^ 23) (c .state) (f .1)) (written-small c h)
+      (passed 1 (bitRefusals (bitsOf F)) (ap not (eq-eqb _ _ (written-length c h))) ∙ written-good c h) ll
+      (j ∙ ap (λ (s : List ℕ). reverse (digitsOf 23 (c .state)) ++ take 4227 (bitsOf s)) (sent-out x ef c h)) n
 
 -- ---- the two sentences
 
 pub interwork : (x y : Library) → Exact x → Exact y → Back x y
 interwork x y ex ey =
     record {
-      training = λ c room v s e h o l m n. training-back x y (ex .frames) (ey .frames) c room v s h o l m n e;
-      final = λ c room v s e h o l m n. final-back x y (ex .frames) (ey .frames) c room v s h o l m n e;
+      frame = λ c room h l. back c room h l;
+      in-turn = in-turn x y (ex .frames) (ey .scrambling);
+      training = λ c room cs v s e h o l lc lv ls.
+          ap (λ (m : Outcome None Line). y .read (record { frame = m .memory .output; coefficients = cs; vendor = v; reserved = s })) (back c room h l)
+          ∙ training-back y (ey .frames) c cs v s (both-right c h .0) o lc lv ls e;
+      final = λ c room cs v s e h o l lc lv ls.
+          ap (λ (m : Outcome None Line). y .read (record { frame = m .memory .output; coefficients = cs; vendor = v; reserved = s })) (back c room h l)
+          ∙ final-back y (ey .frames) c cs v s (both-right c h .0) o lc lv ls e;
       data-frames = data-interwork x y (ex .data-frames) (ey .data-frames);
       messages = messages-interwork x y (ex .messages) (ey .messages);
       bit = bit-back x y (ex .scrambling) (ey .scrambling);
       run = run-back x y (ex .scrambling) (ey .scrambling);
-      frame = frame-comes-back x y (ex .scrambling) (ey .scrambling);
-      whole = whole-way x y ex ey;
-      received = received-back x y (ex .frames) (ex .scrambling) (ey .receiving);
+      received = received-back x y (ex .frames) (ey .receiving);
       precoded = precoded-back x y (ex .precoding) (ey .precoding);
     }
+  where
+    back : (c : SendCall) (room : List ℕ) → Right (sendChecks c) → length room ≡ 529
+        → heardFrom x y c room ≡ done none (record { state = x .send c .memory .state; output = frameOf c })
+    back c room h l = frame-comes-back x (ex .frames) c h y (ey .scrambling) room l

@@ -40,14 +40,14 @@ ReceiveAnswers f = Answers f receiveChecks held-in nothing
 
 abbrev withReceive : (ReceiveCall → Outcome GivenPlace LineRooms) → Parts
 withReceive f = record {
-  write = usual .write;
+  send = usual .send;
   read = usual .read;
   data-write = usual .data-write;
   data-read = usual .data-read;
   eoc = usual .eoc;
   receive = f;
   run = usual .run;
-  frame = usual .frame;
+  descramble-frame = usual .descramble-frame;
   encode-run = usual .encode-run;
   history-start = usual .history-start;
   precode = usual .precode;
@@ -57,14 +57,14 @@ withReceive f = record {
 
 receive-one : (f : ReceiveCall → Outcome GivenPlace LineRooms) → ReceiveAnswers f → One (rebuilt (withReceive f))
 receive-one f a = rebuilt-one (withReceive f) (record {
-  write = usual-answer .write;
+  send = usual-answer .send;
   read = usual-answer .read;
   data-write = usual-answer .data-write;
   data-read = usual-answer .data-read;
   eoc = usual-answer .eoc;
   receive = a;
   run = usual-answer .run;
-  frame = usual-answer .frame;
+  descramble-frame = usual-answer .descramble-frame;
   encode-run = usual-answer .encode-run;
   history-start = usual-answer .history-start;
   precode = usual-answer .precode;

@@ -35,7 +35,7 @@ use Rattle.datacrc.specs.declared.Sixes.{Sixes}
 use Rattle.datacrc.specs.Promises.{crcOf}
 use Rattle.datareader.specs.declared.Found.{Found as DataFound}
 use Rattle.datareader.specs.Promises.{foundOf as dataFoundOf, noOverhead}
-use Rattle.recurrence.specs.Run.{Way, scramble}
+use Rattle.recurrence.specs.Run.{Way, scramble, descramble}
 use Rattle.scrambler.proofs.One.{step-order as bit-order, run-order as scrambler-order, frame-order}
 use Rattle.symbol.specs.declared.Encoder.{Encoder}
 use Rattle.symbol.specs.Levels.{activationTests, dataTests, backTests}
@@ -62,7 +62,7 @@ use Rattle.host.specs.Frames.{fieldsOf}
 use Rattle.host.specs.Data.{overheadOf, overheadFor}
 use Rattle.host.specs.Scrambling.{crossing, bitCrossing}
 use Rattle.host.specs.Symbols.{encoder}
-use Rattle.host.proofs.One.{frame-write-order, frame-read-order, history-start-order}
+use Rattle.host.proofs.One.{frame-send-order, frame-read-order, history-start-order}
 use Rattle.demands.specs.Handed.{Outcome, None, none}
 use Rattle.demands.specs.HandedData.{DataWriteCall, DataCrcCall, DataReadCall}
 use Rattle.receiver.specs.declared.Received.{Received as Got}
@@ -75,7 +75,7 @@ use Rattle.demands.specs.Library.{Library}
 use Rattle.demands.specs.Contracts.{Keeps}
 use Rattle.demands.specs.One.{Answers, InTheirOrder, Ordered, One}
 use Rattle.demands.specs.Frames.{done}
-use Rattle.demands.specs.Checks.{writeChecks, readChecks, scramblerStartChecks, bitChecks, runChecks, frameChecks, encoderStartChecks, encodeChecks}
+use Rattle.demands.specs.Checks.{sendChecks, readChecks, scramblerStartChecks, bitChecks, runChecks, frameChecks, encoderStartChecks, encodeChecks}
 use Rattle.demands.specs.Checks.{dataWriteChecks, dataCrcChecks, dataReadChecks}
 use Rattle.demands.specs.Checks.{eocWriteChecks, eocReadChecks, eocHandUpChecks, receiveStartChecks, receiveChecks}
 use Rattle.demands.specs.Checks.{encodeRunChecks, historyStartChecks, precodeChecks, startChecks, stepChecks, codesChecks}
@@ -138,7 +138,7 @@ in-turn checks h c = rising-is (checks c) (h c)
 -- the checks run in their order
 pub ordered : Ordered
 ordered = record {
-  write = in-turn writeChecks (λ c. frame-write-order (c .kind) (c .count) (c .coefficients) (c .a) (c .b) (c .vendor) (c .frame));
+  send = in-turn sendChecks (λ c. frame-send-order (c .end) (c .state) (c .kind) (c .count) (c .coefficients) (c .a) (c .b) (c .vendor) (c .output));
   check = in-turn checkRefusals check-order;
   read = in-turn readChecks (λ c. frame-read-order (c .frame) (c .coefficients) (c .vendor) (c .reserved));
   data-write = λ c. data-write-order (c .form) (c .size) (c .sync) (overheadOf (c .overhead)) (c .payload) (c .frame);
@@ -151,7 +151,7 @@ ordered = record {
   scrambler-start = in-turn scramblerStartChecks scrambler-start-order;
   bit = in-turn bitChecks (λ c. bit-order (record { end = c .end; state = c .state }) (c .bit));
   run = in-turn runChecks (λ c. scrambler-order scramble (record { end = c .end; state = c .state }) (c .input) (c .bits) (c .output));
-  frame = in-turn frameChecks (λ c. frame-order scramble (record { end = c .end; state = c .state }) (c .frame) (c .output));
+  descramble-frame = in-turn frameChecks (λ c. frame-order descramble (record { end = c .end; state = c .state }) (c .frame) (c .output));
   receive-start = in-turn receiveStartChecks scrambler-start-order;
   receive = in-turn receiveChecks (λ c. receive-order (receiverIn (c .state)) (c .line) (c .lump) (c .bits) (c .frame));
   activation = in-turn activationTests activation-order;
@@ -381,16 +381,24 @@ module _ (x : Library) (k : Keeps x) where
       let o : x .run way c .memory .output ≡ c .output = w .promise .left ∙ kept (w .ran .answer) _ _ (other e h) in
       λ i. record { state = s i; output = o i })
 
-  frame-is : (way : Way) → Answers (x .frame way) frameChecks (λ c. record { state = c .state; output = c .output }) none
-  frame-is way =
-      answers (ordered .frame)
-      (λ c. ap (λ (r : Scrambled). r .answer) (k .frame way c refl .crossed) ∙ k .frame way c refl .promise .answered) (λ c h. only _)
+  send-is : Answers (x .send) sendChecks (λ c. record { state = c .state; output = c .output }) none
+  send-is =
+      answers (ordered .send) (λ c. k .send c refl .answered) (λ c h. only _)
       (λ c h.
-      let w = k .frame way c refl in
-      let e : x .frame way c .answer ≡ w .ran .answer = ap (λ (r : Scrambled). r .answer) (w .crossed) in
-      let s : x .frame way c .memory .state ≡ c .state =
+      let s = k .send c refl .next ∙ kept (x .send c .answer) _ _ h in
+      let o = k .send c refl .left ∙ kept (x .send c .answer) _ _ h in
+      λ i. record { state = s i; output = o i })
+
+  frame-is : Answers (x .descramble-frame) frameChecks (λ c. record { state = c .state; output = c .output }) none
+  frame-is =
+      answers (ordered .descramble-frame)
+      (λ c. ap (λ (r : Scrambled). r .answer) (k .descramble-frame c refl .crossed) ∙ k .descramble-frame c refl .promise .answered) (λ c h. only _)
+      (λ c h.
+      let w = k .descramble-frame c refl in
+      let e : x .descramble-frame c .answer ≡ w .ran .answer = ap (λ (r : Scrambled). r .answer) (w .crossed) in
+      let s : x .descramble-frame c .memory .state ≡ c .state =
       ap (λ (r : Scrambled). r .state) (w .crossed) ∙ ap (λ (y : _). y .state) (w .promise .next) ∙ kept (w .ran .answer) _ _ (other e h) in
-      let o : x .frame way c .memory .output ≡ c .output = w .promise .left ∙ kept (w .ran .answer) _ _ (other e h) in
+      let o : x .descramble-frame c .memory .output ≡ c .output = w .promise .left ∙ kept (w .ran .answer) _ _ (other e h) in
       λ i. record { state = s i; output = o i })
 
   codes-answer : (c : _) → x .run-codes c .answer ≡ answer (stateRefusals (stateIn (c .state)))
@@ -398,8 +406,7 @@ module _ (x : Library) (k : Keeps x) where
 
   pub one : One x
   one = record {
-    write = answers (ordered .write) (λ c. k .write c refl .answered)
-        (λ c h. only _) (λ c h. k .write c refl .left ∙ kept _ _ _ h);
+    send = send-is;
     check = answers (ordered .check) (λ c. k .check c refl .answered) (λ c h. only _) (λ c h. only _);
     read = answers (ordered .read) read-answer
         (λ c h.
@@ -423,7 +430,7 @@ module _ (x : Library) (k : Keeps x) where
         (λ e h. ap (λ (r : Scrambled). r .state) (k .scrambler-start e refl .crossed ∙ ap crossing (k .scrambler-start e refl .promise)));
     bit = bit-is;
     run = run-is;
-    frame = frame-is;
+    descramble-frame = frame-is;
     receive-start = receive-start-is;
     receive = receive-is;
     activation = answers (ordered .activation) (λ c. k .activation c refl .answered) (λ c h. k .activation c refl .level ∙ kept _ _ _ h) (λ c h. only _);

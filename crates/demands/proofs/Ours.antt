@@ -11,13 +11,11 @@ use Rattle.answer.proofs.Laws.{none as none-applies}
 use Rattle.octets.specs.Bits.{bitsOf, laid}
 use Rattle.layout.specs.Refusals.{checkRefusals}
 use Rattle.numbers.specs.Promises.{numbersOf, numberOctets}
-use Rattle.writer.specs.Promises.{frameOctets}
 use Rattle.checker.proofs.Laws.{checked}
 use Rattle.reader.specs.Promises.{foundOf, vendorOctets, reservedLeft}
-use Rattle.host.proofs.FrameLaws.{frame-written}
 use Rattle.scrambler.specs.Ends.{tapOf}
 use Rattle.scrambler.specs.Promises.{given, clocked, around}
-use Rattle.recurrence.specs.Run.{outOf, nextOf, runOf, afterOf}
+use Rattle.recurrence.specs.Run.{scramble, descramble, outOf, nextOf, runOf, afterOf}
 use Rattle.symbol.specs.Levels.{activationLevels, dataLevels, levelAt, placeIn, activationTests, dataTests, backTests}
 use Rattle.symbol.specs.Encoder.{codeOf, codesOf, x1, sentAfter, heldIn, registerOf, withRegister}
 use Rattle.samples.specs.Samples.{isSignal, atStart}
@@ -35,11 +33,12 @@ use Rattle.demands.specs.Handed.{none}
 use Rattle.demands.specs.Library.{Library}
 use Rattle.demands.specs.Contracts.{Keeps}
 use Rattle.demands.specs.One.{One}
-use Rattle.demands.specs.Checks.{writeChecks, readChecks, scramblerStartChecks, bitChecks, runChecks, frameChecks, encoderStartChecks, encodeChecks}
+use Rattle.demands.specs.Checks.{frameOf, sendChecks, readChecks, scramblerStartChecks, bitChecks, runChecks, frameChecks, encoderStartChecks, encodeChecks}
 use Rattle.demands.specs.Checks.{encodeRunChecks, historyStartChecks, precodeChecks}
 use Rattle.demands.specs.Two.{Two}
 use Rattle.demands.specs.Three.{Three, supervisor}
 use Rattle.demands.proofs.One.{one}
+use Rattle.demands.proofs.Fit.{written-right}
 use Rattle.demands.proofs.LineOurs.{starts, receives-lump, starts-keep, receives-lump-keep}
 use Rattle.demands.proofs.EocOurs.{eoc-writes, eoc-reads, eoc-hands-up, eoc-writes-keep, eoc-reads-keep, eoc-hands-up-keep}
 use Rattle.demands.proofs.DataOurs.{writes, gives, checks, reads, writes-keep, gives-keep, checks-keep, reads-keep}
@@ -58,12 +57,16 @@ sample y = held (answer (shaperTests y)) (ofBits binary32 0) (div binary32 (ofIn
 -- what our functions compute, by the definitions that their contracts cite
 unfoldable pub ours : Library
 ours = record {
-  write = λ c. record {
-    answer = answer (writeChecks c);
-    numbers = none;
-    memory = held (answer (writeChecks c)) (c .frame)
-        (frameOctets (c .kind) (c .count) (numbersOf (c .coefficients)) (c .a) (c .b) (c .vendor));
-  };
+  send = λ c.
+      let n = answer (sendChecks c) in
+      record {
+        answer = n;
+        numbers = none;
+        memory = record {
+          state = held n (c .state) (afterOf scramble (tapOf (c .end)) (c .state) (clocked (frameOf c)));
+          output = held n (c .output) (around (frameOf c) (runOf scramble (tapOf (c .end)) (c .state) (clocked (frameOf c))));
+        };
+      };
   check = λ f. record { answer = answer (checkRefusals f); numbers = none; memory = none };
   read = λ c.
       let n = answer (readChecks c) in
@@ -104,14 +107,14 @@ ours = record {
           output = held n (c .output) (laid (c .output) 0 (runOf way (tapOf (c .end)) (c .state) (given (c .input) (c .bits))));
         };
       };
-  frame = λ way c.
+  descramble-frame = λ c.
       let n = answer (frameChecks c) in
       record {
         answer = n;
         numbers = none;
         memory = record {
-          state = held n (c .state) (afterOf way (tapOf (c .end)) (c .state) (clocked (c .frame)));
-          output = held n (c .output) (around (c .frame) (runOf way (tapOf (c .end)) (c .state) (clocked (c .frame))));
+          state = held n (c .state) (afterOf descramble (tapOf (c .end)) (c .state) (clocked (c .frame)));
+          output = held n (c .output) (around (c .frame) (runOf descramble (tapOf (c .end)) (c .state) (clocked (c .frame))));
         };
       };
   activation = λ b. record { answer = answer (activationTests b); numbers = held (answer (activationTests b)) (pos 0) (levelAt activationLevels b); memory = none };
@@ -177,7 +180,7 @@ samples y = pick (answer (shaperTests y)) refl
 pub ours-keep : Keeps ours
 unfolding ours
 ours-keep = record {
-  write = λ c h. frame-written refl refl;
+  send = λ c h. record { answered = refl; next = refl; left = refl; check-right = λ z. written-right c z };
   check = λ f h. checked refl;
   read = λ c h. record { found = refl; coefficients-left = refl; vendor-left = refl; reserved-left = refl };
   data-write = λ c h. writes-keep c;
@@ -208,8 +211,8 @@ ours-keep = record {
     crossed = refl;
     promise = record { answered = refl; next = refl; left = refl };
   };
-  frame = λ way c h. record {
-    ran = record { answer = ours .frame way c .answer; next = record { end = c .end; state = ours .frame way c .memory .state } };
+  descramble-frame = λ c h. record {
+    ran = record { answer = ours .descramble-frame c .answer; next = record { end = c .end; state = ours .descramble-frame c .memory .state } };
     crossed = refl;
     promise = record { answered = refl; next = refl; left = refl };
   };

@@ -11,7 +11,7 @@ use Rattle.host.specs.declared.data.DataOverhead.{DataOverhead}
 use Rattle.host.specs.declared.supervising.Supervisor.{Supervisor}
 use Rattle.host.specs.Data.{overheadFor}
 use Rattle.host.specs.Supervising.{stateIn, stateOf}
-use Rattle.demands.specs.Handed.{Outcome, None, none, WriteCall, ReadCall, Fields, Rooms, RunCall, FrameCall, Line, EncodeRunCall, Codes, PrecodeCall}
+use Rattle.demands.specs.Handed.{Outcome, None, none, SendCall, ReadCall, Fields, Rooms, RunCall, FrameCall, Line, EncodeRunCall, Codes, PrecodeCall}
 use Rattle.demands.specs.Handed.{Signal}
 use Rattle.demands.specs.HandedData.{DataWriteCall, DataReadCall}
 use Rattle.demands.specs.HandedEoc.{EocWriteCall, EocReadCall, EocFields, EocUnitsCall}
@@ -20,7 +20,7 @@ use Rattle.demands.specs.HandedCodes.{StepCall, Shown}
 use Rattle.demands.specs.Library.{Library}
 use Rattle.demands.specs.One.{Answers, One}
 use Rattle.demands.specs.Checks.{dataWriteChecks, dataReadChecks, eocWriteChecks, eocReadChecks, eocHandUpChecks, receiveChecks}
-use Rattle.demands.specs.Checks.{writeChecks, readChecks, runChecks, frameChecks, encodeRunChecks, historyStartChecks, precodeChecks, stepChecks}
+use Rattle.demands.specs.Checks.{sendChecks, readChecks, runChecks, frameChecks, encodeRunChecks, historyStartChecks, precodeChecks, stepChecks}
 use Rattle.demands.proofs.One.{answers, ordered, one}
 use Rattle.demands.proofs.Ours.{ours, ours-keep}
 
@@ -42,14 +42,14 @@ pub record EocPartsAnswer (p : EocParts) : Type 0 where
 
 -- the functions that are changed below, and the rest of ours
 pub record Parts : Type 0 where
-  pub write : WriteCall → Outcome None (List ℕ)
+  pub send : SendCall → Outcome None Line
   pub read : ReadCall → Outcome Fields Rooms
   pub data-write : DataWriteCall → Outcome ℕ (List ℕ)
   pub data-read : DataReadCall → Outcome DataOverhead (List ℕ)
   pub eoc : EocParts
   pub receive : ReceiveCall → Outcome GivenPlace LineRooms
   pub run : Way → RunCall → Outcome None Line
-  pub frame : Way → FrameCall → Outcome None Line
+  pub descramble-frame : FrameCall → Outcome None Line
   pub encode-run : EncodeRunCall → Outcome None Codes
   pub history-start : List ℕ → Outcome None (List ℕ)
   pub precode : PrecodeCall → Outcome None Signal
@@ -58,7 +58,7 @@ pub record Parts : Type 0 where
 
 abbrev pub rebuilt : Parts → Library
 rebuilt p = record {
-  write = p .write;
+  send = p .send;
   check = ours .check;
   read = p .read;
   data-write = p .data-write;
@@ -71,7 +71,7 @@ rebuilt p = record {
   scrambler-start = ours .scrambler-start;
   bit = ours .bit;
   run = p .run;
-  frame = p .frame;
+  descramble-frame = p .descramble-frame;
   receive-start = ours .receive-start;
   receive = p .receive;
   activation = ours .activation;
@@ -91,7 +91,7 @@ rebuilt p = record {
 
 -- what demand 1 asks of them
 pub record PartsAnswer (p : Parts) : Type 0 where
-  pub write : Answers (p .write) writeChecks (λ c. c .frame) none
+  pub send : Answers (p .send) sendChecks (λ c. record { state = c .state; output = c .output }) none
   pub read : Answers (p .read) readChecks (λ c. record { coefficients = c .coefficients; vendor = c .vendor; reserved = c .reserved })
       (record { kind = 0; a = 0; b = 0 })
   pub data-write : Answers (p .data-write) dataWriteChecks (λ c. c .frame) 0
@@ -99,7 +99,7 @@ pub record PartsAnswer (p : Parts) : Type 0 where
   pub eoc : EocPartsAnswer (p .eoc)
   pub receive : Answers (p .receive) receiveChecks (λ c. record { state = c .state; line = c .line; frame = c .frame }) (record { given = 0; place = 0 })
   pub run : (way : Way) → Answers (p .run way) runChecks (λ c. record { state = c .state; output = c .output }) none
-  pub frame : (way : Way) → Answers (p .frame way) frameChecks (λ c. record { state = c .state; output = c .output }) none
+  pub descramble-frame : Answers (p .descramble-frame) frameChecks (λ c. record { state = c .state; output = c .output }) none
   pub encode-run : Answers (p .encode-run) encodeRunChecks (λ c. record { register = c .register; codes = c .codes }) none
   pub history-start : Answers (p .history-start) historyStartChecks (λ c. c) none
   pub precode : Answers (p .precode) precodeChecks (λ c. record { history = c .history; room = c .room }) none
@@ -108,7 +108,7 @@ pub record PartsAnswer (p : Parts) : Type 0 where
 
 pub rebuilt-one : (p : Parts) → PartsAnswer p → One (rebuilt p)
 rebuilt-one p a = record {
-  write = a .write;
+  send = a .send;
   check = ours-one .check;
   read = a .read;
   data-write = a .data-write;
@@ -121,7 +121,7 @@ rebuilt-one p a = record {
   scrambler-start = ours-one .scrambler-start;
   bit = ours-one .bit;
   run = a .run;
-  frame = a .frame;
+  descramble-frame = a .descramble-frame;
   receive-start = ours-one .receive-start;
   receive = a .receive;
   activation = ours-one .activation;
@@ -143,14 +143,14 @@ rebuilt-one p a = record {
 
 abbrev pub usual : Parts
 usual = record {
-  write = ours .write;
+  send = ours .send;
   read = ours .read;
   data-write = ours .data-write;
   data-read = ours .data-read;
   eoc = record { write = ours .eoc-write; read = ours .eoc-read; hand-up = ours .eoc-hand-up };
   receive = ours .receive;
   run = ours .run;
-  frame = ours .frame;
+  descramble-frame = ours .descramble-frame;
   encode-run = ours .encode-run;
   history-start = ours .history-start;
   precode = ours .precode;
@@ -160,14 +160,14 @@ usual = record {
 
 pub usual-answer : PartsAnswer usual
 usual-answer = record {
-  write = ours-one .write;
+  send = ours-one .send;
   read = ours-one .read;
   data-write = ours-one .data-write;
   data-read = ours-one .data-read;
   eoc = record { write = ours-one .eoc-write; read = ours-one .eoc-read; hand-up = ours-one .eoc-hand-up };
   receive = ours-one .receive;
   run = ours-one .run;
-  frame = ours-one .frame;
+  descramble-frame = ours-one .descramble-frame;
   encode-run = ours-one .encode-run;
   history-start = ours-one .history-start;
   precode = ours-one .precode;
@@ -177,14 +177,14 @@ usual-answer = record {
 
 abbrev pub withStep : (StepCall → Outcome Shown Supervisor) → Parts
 withStep f = record {
-  write = usual .write;
+  send = usual .send;
   read = usual .read;
   data-write = usual .data-write;
   data-read = usual .data-read;
   eoc = usual .eoc;
   receive = usual .receive;
   run = usual .run;
-  frame = usual .frame;
+  descramble-frame = usual .descramble-frame;
   encode-run = usual .encode-run;
   history-start = usual .history-start;
   precode = usual .precode;
@@ -202,14 +202,14 @@ stepping f t c =
 
 pub stepping-one : (f : State → ℕ → State) (t : State → ℕ) → One (rebuilt (withStep (stepping f t)))
 stepping-one f t = rebuilt-one (withStep (stepping f t)) (record {
-  write = usual-answer .write;
+  send = usual-answer .send;
   read = usual-answer .read;
   data-write = usual-answer .data-write;
   data-read = usual-answer .data-read;
   eoc = usual-answer .eoc;
   receive = usual-answer .receive;
   run = usual-answer .run;
-  frame = usual-answer .frame;
+  descramble-frame = usual-answer .descramble-frame;
   encode-run = usual-answer .encode-run;
   history-start = usual-answer .history-start;
   precode = usual-answer .precode;

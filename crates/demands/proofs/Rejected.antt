@@ -2,27 +2,31 @@
 use mathlib.Core.Path.{_≡_, refl, sym, ap, _∙_}
 use mathlib.Core.Bool.{not}
 use mathlib.Core.List.{List, [], _∷_, reverse}
-use Prim.Native.Nat.{ℕ, zero, suc}
+use Prim.Native.Nat.{ℕ, zero, suc, _<_}
 use native.Mathlib.Omega.{arith}
 use borrow.Author.Tests.{eq-eqb}
 use lib.Dec.{lit≤}
 use lib.IntN.{ℤ, pos}
-use lib.ListN.{length, drop, getD, replicate}
+use lib.ListN.{length, drop, getD, replicate, length-drop, length-replicate}
+use lib.Seq.{length-take-le}
 use Rattle.answer.specs.Answer.{answer}
 use Rattle.answer.proofs.Laws.{passed}
-use Rattle.octets.specs.Bits.{digitsOf, valueOf, bitsOf, octetsOf, laid}
+use Rattle.octets.specs.Bits.{digitsOf, valueOf, bitsOf, octetsOf, part, laid}
 use Rattle.octets.specs.Signed.{signedOf, twosOf, numberBits, numbersIn}
-use Rattle.octets.proofs.Digits.{take-bits}
-use Rattle.octets.proofs.Laws.{bits-bits, octets-length}
+use Rattle.octets.proofs.Digits.{Bits, take-bits, drop-bits}
+use Rattle.octets.proofs.Laws.{bits-bits, bits-length, octets-length}
 use Rattle.layout.specs.Places.{aField, bField}
-use Rattle.layout.specs.Frame.{trainingSync, used, trainingBits, finalBits, fieldOf}
-use Rattle.layout.specs.Refusals.{writeRefusals, bitRefusals, checkRefusals}
+use Rattle.remainder.specs.Division.{checkBits}
+use Rattle.remainder.specs.Register.{registerOf}
+use Rattle.layout.specs.Frame.{trainingSync, finalSync, used, message, frameBits, trainingBits, finalBits, fieldOf}
+use Rattle.layout.specs.Refusals.{bitRefusals, checkRefusals}
 use Rattle.layout.proofs.Laws.{used-length, training-length}
 use Rattle.layout.proofs.Fields.{a-field, b-field}
 use Rattle.layout.proofs.RoundTrip.{training-laid, final-laid, final-answers}
 use Rattle.numbers.specs.Promises.{numbersOf, numberOctets}
-use Rattle.recurrence.specs.Run.{Way, scramble, descramble, runOf}
-use Rattle.scrambler.specs.Promises.{given, around}
+use Rattle.recurrence.specs.Run.{Way, scramble, descramble, outOf, runOf, afterOf}
+use Rattle.scrambler.specs.Promises.{given, clocked, around, frameOut}
+use Rattle.scrambler.proofs.Frames.{received}
 use Rattle.recurrence.proofs.Exactly.{scrambles-run, descrambles-run}
 use Rattle.ranges.specs.Ranges.{every}
 use Rattle.symbol.specs.Levels.{placeIn}
@@ -31,14 +35,15 @@ use Rattle.samples.specs.Samples.{atStart}
 use Rattle.precoder.specs.Precoder.{exactSum}
 use Rattle.precoder.proofs.Recipe.{turnedOf, outputsOf}
 use Rattle.precoder.proofs.Back.{sent-unique, outputs-sent}
-use Rattle.demands.specs.Handed.{Outcome, None, none, WriteCall, ReadCall, Fields, Rooms, BitCall, RunCall, FrameCall, Line, WordsCall, EncodeCall}
+use Rattle.demands.specs.Handed.{Outcome, None, none, SendCall, ReadCall, Fields, Rooms, BitCall, RunCall, FrameCall, Line, WordsCall, EncodeCall}
 use Rattle.demands.specs.Handed.{EncodeRunCall, Symbol, Codes, PrecodeCall, Signal}
 use Rattle.demands.specs.Library.{Library}
-use Rattle.demands.specs.Checks.{writeChecks, frameChecks, encodeRunChecks, precodeChecks}
+use Rattle.demands.specs.Checks.{frameOf, sendChecks, frameChecks, encodeRunChecks, precodeChecks}
 use Rattle.demands.specs.Frames.{Right, Octets, done}
 use Rattle.demands.specs.Two.{Two}
-use Rattle.demands.proofs.Fit.{many}
-use Rattle.demands.specs.WrongLibraries.{OneFrame, FrameUnwritten, CoefficientsUnwritten, VendorUnwritten, RunUnwritten, WholeUnwritten, CodesUnwritten}
+use Rattle.demands.proofs.Fit.{many, written-length, written-small, written-clear}
+use Rattle.demands.proofs.Interwork.{sent-out, sent-state}
+use Rattle.demands.specs.WrongLibraries.{OneFrame, SendsPlain, PlainOnce, StateKept, FrameUnwritten, CoefficientsUnwritten, VendorUnwritten, RunUnwritten, WholeUnwritten, CodesUnwritten}
 use Rattle.demands.specs.WrongLibraries.{HistoryUnwritten, PrecodedUnwritten, DecodedUnwritten, CopiesTheRest, TurnsA, TurnsB, RejectedByTwo}
 
 -- ---- calls to which no check applies
@@ -46,13 +51,17 @@ use Rattle.demands.specs.WrongLibraries.{HistoryUnwritten, PrecodedUnwri
 abbrev pub zeros : ℕ → List ℕ
 zeros n = replicate n 0
 
--- a final frame with vendor data v, written over f
-abbrev final : List ℕ → List ℕ → WriteCall
-final v f = record { kind = 1; count = 0; coefficients = zeros 720; a = 0; b = 0; vendor = v; frame = f }
+-- a final frame with vendor data v, sent into the room f by an LTU from a state
+abbrev from : ℕ → List ℕ → List ℕ → SendCall
+from state v f = record { end = 0; state = state; kind = 1; count = 0; coefficients = zeros 720; a = 0; b = 0; vendor = v; output = f }
 
-final-right : (v f : List ℕ) → length v ≡ 16 → length f ≡ 529 → Right (writeChecks (final v f))
+-- from its start
+abbrev final : List ℕ → List ℕ → SendCall
+final v f = from 0 v f
+
+final-right : (v f : List ℕ) → length v ≡ 16 → length f ≡ 529 → Right (sendChecks (final v f))
 final-right v f l m =
-    let L = writeRefusals 1 0 (numbersOf (zeros 720)) 0 0 v f in
+    let L = drop 1 (sendChecks (final v f)) in
     passed 1 (drop 1 L) (ap not (eq-eqb _ _ (many (zeros 720) refl)))
     ∙ passed 1 (drop 2 L) (ap not (eq-eqb _ _ l)) ∙ passed 1 (drop 3 L) (ap not (eq-eqb _ _ m))
 
@@ -73,10 +82,10 @@ one-small zero = lit≤ tt
 one-small (suc i) = zeros-small 15 i
 
 -- a training frame with A = 1 and B = 1
-abbrev training : WriteCall
-training = record { kind = 0; count = 128; coefficients = zeros 720; a = 1; b = 1; vendor = zeros 16; frame = zeros 529 }
+abbrev training : SendCall
+training = record { end = 0; state = 0; kind = 0; count = 128; coefficients = zeros 720; a = 1; b = 1; vendor = zeros 16; output = zeros 529 }
 
-training-right : Right (writeChecks training)
+training-right : Right (sendChecks training)
 unfolding numbersOf numbersIn signedOf bitsOf digitsOf valueOf every
 training-right = refl
 
@@ -91,6 +100,56 @@ six-ones = record { end = 0; state = 0; input = 255 ∷ []; bits = 6; output = 0
 abbrev ones : List ℕ
 ones = 1 ∷ 1 ∷ 1 ∷ 1 ∷ 1 ∷ 1 ∷ []
 
+-- from a state with its oldest bit set
+abbrev pub turning : SendCall
+turning = from 4194304 (zeros 16) (zeros 529)
+
+pub turning-right : Right (sendChecks turning)
+turning-right =
+    let L = drop 1 (sendChecks turning) in
+    passed 1 (drop 1 L) (ap not (eq-eqb _ _ (many (zeros 720) refl)))
+
+-- and from one with its newest
+first-right : Right (sendChecks (from 1 (zeros 16) (zeros 529)))
+first-right =
+    let L = drop 1 (sendChecks (from 1 (zeros 16) (zeros 529))) in
+    passed 1 (drop 1 L) (ap not (eq-eqb _ _ (many (zeros 720) refl)))
+
+-- the clocked bits of a frame
+part-length : (f : List ℕ) → length f ≡ 529 → length (clocked f) ≡ 4213
+part-length f l = length-take-le 4213 (drop 14 (bitsOf f)) (omega (arith, length-drop 14 (bitsOf f), bits-length f))
+
+part-bits : (f : List ℕ) → Bits (clocked f)
+part-bits f = take-bits 4213 (drop 14 (bitsOf f)) (drop-bits 14 (bitsOf f) (bits-bits f))
+
+-- from the first of these states the first bit behind sync comes out turned over, whatever it is
+turned-over : (bs : List ℕ) → length bs ≡ 4213 → Bits bs → bs ≡ runOf scramble 5 4194304 bs → ⊥
+unfolding runOf
+turned-over [] l h e = omega (arith, l)
+turned-over (b ∷ bs) l h e = other b (h 0) (ap (λ (s : List ℕ). getD s 0 0) e)
+  where
+    other : (b : ℕ) → b < 2 → b ≡ outOf 5 4194304 b → ⊥
+    other zero m e = omega (arith, e)
+    other (suc zero) m e = omega (arith, e)
+    other (suc (suc b)) m e = omega (arith, m)
+
+pub turning-differs : frameOut scramble (record { end = 0; state = 4194304 }) (frameOf turning) ≡ frameOf turning → ⊥
+turning-differs e =
+    let f = frameOf turning in
+    let l = written-length turning turning-right in
+    turned-over (clocked f) (part-length f l) (part-bits f)
+    (sym (ap clocked e) ∙ received (record { end = 0; state = 4194304 }) f l (written-small turning turning-right) (written-clear turning turning-right))
+
+-- the clocked bits of a final frame without vendor data are zeros, and so are its check bits
+zeros-clocked : part 14 4213 (finalBits (zeros 16)) ≡ zeros 4213
+unfolding finalBits frameBits message finalSync numberBits twosOf digitsOf bitsOf registerOf
+zeros-clocked = refl
+
+-- from the second of these states 4,213 zeros lead to this one
+after-zeros : afterOf scramble 5 1 (zeros 4213) ≡ 6327237
+unfolding afterOf
+after-zeros = refl
+
 -- a frame of zeros, over a room that begins with a one
 abbrev over-one : FrameCall
 over-one = record { end = 0; state = 0; frame = zeros 529; output = 1 ∷ zeros 528 }
@@ -100,12 +159,12 @@ unfolding bitsOf digitsOf valueOf
 over-right = refl
 
 -- a final frame
-abbrev frame-written : List ℕ
-frame-written = octetsOf 529 (finalBits (zeros 16))
+abbrev final-frame : List ℕ
+final-frame = octetsOf 529 (finalBits (zeros 16))
 
-check-right : Right (checkRefusals frame-written)
+check-right : Right (checkRefusals final-frame)
 check-right =
-    passed 1 (bitRefusals (bitsOf frame-written)) (ap not (eq-eqb _ _ (octets-length 529 (finalBits (zeros 16)))))
+    passed 1 (bitRefusals (bitsOf final-frame)) (ap not (eq-eqb _ _ (octets-length 529 (finalBits (zeros 16)))))
     ∙ ap (λ (b : List ℕ). answer (bitRefusals b)) (final-laid (zeros 16) refl) ∙ final-answers (zeros 16) refl .0
 
 -- X3 alone, over a code of 0
@@ -129,34 +188,57 @@ symbol-small zero = lit≤ tt
 symbol-small (suc i) = zeros-small 3 i
 
 module _ (x : Library) (two : Two x) where
+  -- what a sent frame is once it is descrambled, from the LTU's start
+  heard : List ℕ → List ℕ
+  heard sent = x .descramble-frame (record { end = 0; state = 0; frame = sent; output = zeros 529 }) .memory .output
+
   -- what a final frame gives when it is read
   final-read : (v f room u : List ℕ) → length v ≡ 16 → length f ≡ 529 → Octets v → length room ≡ 720 → length u ≡ 16
-      → (x .read (record { frame = x .write (final v f) .memory; coefficients = room; vendor = u; reserved = zeros 9 }) .answer ≡ 0)
-      × (x .read (record { frame = x .write (final v f) .memory; coefficients = room; vendor = u; reserved = zeros 9 }) .memory .vendor ≡ v)
+      → (x .read (record { frame = heard (x .send (final v f) .memory .output); coefficients = room; vendor = u; reserved = zeros 9 }) .answer ≡ 0)
+      × (x .read (record { frame = heard (x .send (final v f) .memory .output); coefficients = room; vendor = u; reserved = zeros 9 }) .memory .vendor ≡ v)
+  unfolding heard
   final-read v f room u l m o n k =
-      let e = two .back .final (final v f) room u (zeros 9) refl (final-right v f l m) o n k refl in
+      let e = two .back .final (final v f) (zeros 529) room u (zeros 9) refl (final-right v f l m) o (length-replicate {A = ℕ} 529 0) n k refl in
       (ap (λ (r : Outcome Fields Rooms). r .answer) e, ap (λ (r : Outcome Fields Rooms). r .memory .vendor) e)
 
-  written : (v f : List ℕ) → length v ≡ 16 → length f ≡ 529 → (x .write (final v f) .answer ≡ 0) × (x .write (final v f) .memory ≡ octetsOf 529 (finalBits v))
-  written v f l m =
-      let e = two .exact .frames .final (final v f) refl (final-right v f l m) in
-      (ap (λ (r : Outcome None (List ℕ)). r .answer) e, ap (λ (r : Outcome None (List ℕ)). r .memory) e)
+  sent : (v f : List ℕ) → length v ≡ 16 → length f ≡ 529 → (x .send (final v f) .answer ≡ 0)
+      × (x .send (final v f) .memory .output ≡ frameOut scramble (record { end = 0; state = 0 }) (octetsOf 529 (finalBits v)))
+  sent v f l m =
+      let h = final-right v f l m in
+      (ap (λ (r : Outcome None Line). r .answer) (two .exact .frames .final (final v f) refl h .2), sent-out x (two .exact .frames) (final v f) h)
 
   one-frame-refuted : OneFrame x → ⊥
   one-frame-refuted w =
-      let z = written (zeros 16) (zeros 529) refl refl in
-      let u = written one-first (zeros 529) refl refl in
-      let same = w .1 (final (zeros 16) (zeros 529)) (z .0) ∙ sym (w .1 (final one-first (zeros 529)) (u .0)) in
+      let z = sent (zeros 16) (zeros 529) refl refl in
+      let u = sent one-first (zeros 529) refl refl in
+      let same = w (final (zeros 16) (zeros 529)) (final one-first (zeros 529)) refl refl (z .0) (u .0) in
       differ 15
       (sym (final-read (zeros 16) (zeros 529) (zeros 720) (zeros 16) refl refl (zeros-small 16) refl refl .1)
-      ∙ ap (λ (f : List ℕ). x .read (record { frame = f; coefficients = zeros 720; vendor = zeros 16; reserved = zeros 9 }) .memory .vendor) same
+      ∙ ap (λ (f : List ℕ). x .read (record { frame = heard f; coefficients = zeros 720; vendor = zeros 16; reserved = zeros 9 }) .memory .vendor) same
       ∙ final-read one-first (zeros 529) (zeros 720) (zeros 16) refl refl one-small refl refl .1)
 
   frame-refuted : FrameUnwritten x → ⊥
   frame-refuted w =
-      let z = written (zeros 16) (zeros 529) refl refl in
-      let u = written (zeros 16) (1 ∷ zeros 528) refl refl in
+      let z = sent (zeros 16) (zeros 529) refl refl in
+      let u = sent (zeros 16) (1 ∷ zeros 528) refl refl in
       differ 528 (sym (w (final (zeros 16) (zeros 529)) (z .0)) ∙ z .1 ∙ sym (u .1) ∙ w (final (zeros 16) (1 ∷ zeros 528)) (u .0))
+
+  once-refuted : PlainOnce x → ⊥
+  once-refuted w = w .2 (sym (sent-out x (two .exact .frames) (w .0) (w .1)) ∙ w .3)
+
+  plain-refuted : SendsPlain x → ⊥
+  plain-refuted w =
+      let a = ap (λ (r : Outcome None Line). r .answer) (two .exact .frames .final turning refl turning-right .2) in
+      once-refuted (turning, turning-right, turning-differs, w turning a)
+
+  -- a frame of zeros from the state 1 leaves another
+  kept-refuted : StateKept x → ⊥
+  kept-refuted w =
+      let c = from 1 (zeros 16) (zeros 529) in
+      let h = first-right in
+      let a = ap (λ (r : Outcome None Line). r .answer) (two .exact .frames .final c refl h .2) in
+      let z : clocked (frameOf c) ≡ zeros 4213 = ap (part 14 4213) (final-laid (zeros 16) refl) ∙ zeros-clocked in
+      omega (arith, sym (sent-state x (two .exact .frames) c h ∙ ap (afterOf scramble 5 1) z ∙ after-zeros) ∙ w c a)
 
   vendor-refuted : VendorUnwritten x → ⊥
   vendor-refuted w =
@@ -165,13 +247,14 @@ module _ (x : Library) (two : Two x) where
 
   -- a training frame with A = 1 and B = 1 is read so, and its words' bits are 1 and twenty zeros
   trained : List ℕ → ReadCall
-  trained room = record { frame = x .write training .memory; coefficients = room; vendor = zeros 16; reserved = zeros 9 }
+  trained room = record { frame = heard (x .send training .memory .output); coefficients = room; vendor = zeros 16; reserved = zeros 9 }
 
   read-trained : (room : List ℕ) → length room ≡ 720
       → x .read (trained room) ≡ done (record { kind = 0; a = 1; b = 1 })
       (record { coefficients = numberOctets (used 128 (numbersOf (zeros 720))); vendor = zeros 16; reserved = zeros 9 })
-  unfolding trained
-  read-trained room l = two .back .training training room (zeros 16) (zeros 9) refl training-right (zeros-small 16) l refl refl
+  unfolding trained heard
+  read-trained room l =
+      two .back .training training (zeros 529) room (zeros 16) (zeros 9) refl training-right (zeros-small 16) (length-replicate {A = ℕ} 529 0) l refl refl
 
   first-octet : getD (numberOctets (used 128 (numbersOf (zeros 720)))) 0 0 ≡ 0
   unfolding numbersOf numbersIn signedOf bitsOf digitsOf valueOf numberOctets numberBits twosOf octetsOf
@@ -185,12 +268,13 @@ module _ (x : Library) (two : Two x) where
       let e = sym (w (trained room) (ap (λ (o : Outcome Fields Rooms). o .answer) r)) ∙ ap (λ (o : Outcome Fields Rooms). o .memory .coefficients) r in
       omega (arith, ap (λ (l : List ℕ). getD l 0 0) e ∙ first-octet)
 
-  words-are : (fieldOf aField (bitsOf (x .write training .memory)) ≡ 1 ∷ zeros 20) × (fieldOf bField (bitsOf (x .write training .memory)) ≡ 1 ∷ zeros 20)
-  unfolding trainingBits digitsOf
+  words-are : (fieldOf aField (bitsOf (heard (x .send training .memory .output))) ≡ 1 ∷ zeros 20)
+      × (fieldOf bField (bitsOf (heard (x .send training .memory .output))) ≡ 1 ∷ zeros 20)
+  unfolding heard trainingBits digitsOf
   words-are =
       let cs = numbersOf (zeros 720) in
       let U = used-length 128 cs (lit≤ tt) (many (zeros 720) refl) in
-      let e = ap (λ (o : Outcome None (List ℕ)). bitsOf (o .memory)) (two .exact .frames .training training refl training-right)
+      let e = ap (λ (o : Outcome None Line). bitsOf (o .memory .output)) (two .back .frame training (zeros 529) training-right (length-replicate {A = ℕ} 529 0))
       ∙ training-laid 128 cs 1 1 (zeros 16) (lit≤ tt) (many (zeros 720) refl) refl in (
         ap (fieldOf aField) e ∙ a-field (used 128 cs) 1 1 (zeros 16) (zeros 67) U refl refl trainingSync training-length,
         ap (fieldOf bField) e ∙ b-field (used 128 cs) 1 1 (zeros 16) (zeros 67) U refl refl trainingSync training-length,
@@ -237,16 +321,13 @@ module _ (x : Library) (two : Two x) where
   unfolding octetsOf bitsOf digitsOf valueOf
   sync-out s = refl
 
-  framed : (way : Way) → (x .frame way over-one .answer ≡ 0) × (getD (x .frame way over-one .memory .output) 0 0 ≡ 0)
-  framed scramble =
-      let w = two .exact .scrambling .frame-scrambled over-one over-right in
-      (ap (λ (r : Outcome None Line). r .answer) (w .2), ap (λ (r : Outcome None Line). getD (r .memory .output) 0 0) (w .2) ∙ sync-out (w .0))
-  framed descramble =
+  framed : (x .descramble-frame over-one .answer ≡ 0) × (getD (x .descramble-frame over-one .memory .output) 0 0 ≡ 0)
+  framed =
       let w = two .exact .scrambling .frame-descrambled over-one over-right in
       (ap (λ (r : Outcome None Line). r .answer) (w .2), ap (λ (r : Outcome None Line). getD (r .memory .output) 0 0) (w .2) ∙ sync-out (w .0))
 
-  whole-refuted : (way : Way) → WholeUnwritten way x → ⊥
-  whole-refuted way w = omega (arith, sym (ap (λ (l : List ℕ). getD l 0 0) (w over-one (framed way .0))) ∙ framed way .1)
+  whole-refuted : WholeUnwritten x → ⊥
+  whole-refuted w = omega (arith, sym (ap (λ (l : List ℕ). getD l 0 0) (w over-one (framed .0))) ∙ framed .1)
 
   -- a history that began with a one begins with a zero
   zero-first : getD (numberOctets atStart) 0 0 ≡ 0
@@ -291,13 +372,13 @@ module _ (x : Library) (two : Two x) where
   pub rejected-by-two : RejectedByTwo x
   unfolding placeIn symbolsIn
   rejected-by-two = record {
-    refuses-writing = λ w. w (final (zeros 16) (zeros 529)) (written (zeros 16) (zeros 529) refl refl .0);
-    refuses-checking = λ w. w frame-written (ap (λ (o : Outcome None None). o .answer) (two .exact .frames .checked frame-written check-right));
+    refuses-sending = λ w. w (final (zeros 16) (zeros 529)) (sent (zeros 16) (zeros 529) refl refl .0);
+    refuses-checking = λ w. w final-frame (ap (λ (o : Outcome None None). o .answer) (two .exact .frames .checked final-frame check-right));
     refuses-reading = λ w. w _ (final-read (zeros 16) (zeros 529) (zeros 720) (zeros 16) refl refl (zeros-small 16) refl refl .0);
     refuses-scrambler-starts = λ w. w 0 (ap (λ (o : Outcome None ℕ). o .answer) (two .exact .scrambling .started 0 refl));
     refuses-bits = λ way w. w bit-one (bit-taken way);
     refuses-runs = λ way w. w six-ones (scrambled way .0);
-    refuses-frames = λ way w. w over-one (framed way .0);
+    refuses-frames = λ w. w over-one (framed .0);
     refuses-activation = λ w. w 0 (ap (λ (o : Outcome ℤ None). o .answer) (two .exact .symbols .activation 0 refl));
     refuses-levels = λ w. w 0 (ap (λ (o : Outcome ℤ None). o .answer) (two .exact .symbols .level 0 refl));
     refuses-codes = λ w. w _ (ap (λ (o : Outcome ℕ None). o .answer) (two .exact .symbols .code 0 (lit≤ tt)));
@@ -311,6 +392,9 @@ module _ (x : Library) (two : Two x) where
     refuses-decoding = λ w. w _ (ap (λ (r : Outcome None Signal). r .answer) decoded);
     refuses-shaping = λ w. w (pos 0) (two .exact .precoding .shaped (pos 0) refl .0);
     one-frame = one-frame-refuted;
+    sends-plain = plain-refuted;
+    plain-once = once-refuted;
+    state-kept = kept-refuted;
     frame-unwritten = frame-refuted;
     coefficients-unwritten = coefficients-refuted;
     vendor-unwritten = vendor-refuted;

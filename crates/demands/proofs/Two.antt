@@ -1,5 +1,5 @@
 -- The first sentence of demand 2 holds of every library that keeps our contracts. Assumes nothing.
-use mathlib.Core.Path.{_≡_, refl, ap, _∙_, subst}
+use mathlib.Core.Path.{_≡_, refl, sym, ap, _∙_, subst}
 use mathlib.Core.Bool.{Bool, cond}
 use mathlib.Core.List.{List, [], _∷_}
 use Prim.Native.Nat.{ℕ, _^_, _≤_, _<_}
@@ -15,11 +15,13 @@ use Rattle.layout.specs.Places.{aField, bField}
 use Rattle.layout.specs.Frame.{trainingBits, finalBits, fieldOf, coefficientsOf}
 use Rattle.numbers.specs.Promises.{numbersOf, numberOctets}
 use Rattle.scrambler.specs.Ends.{tapOf}
-use Rattle.scrambler.specs.Promises.{given, clocked, around}
+use Rattle.scrambler.specs.Promises.{given, clocked, around, frameOut}
 use Rattle.recurrence.specs.Line.{Scrambles, Descrambles, newest}
 use Rattle.recurrence.specs.Run.{Way, scramble, descramble, outOf, nextOf, runOf, afterOf}
 use Rattle.scrambler.specs.declared.Scrambler.{Scrambler}
 use Rattle.scrambler.proofs.Laws.{tap-range, run-sound, frame-sound}
+use Rattle.scrambler.proofs.Frames.{frame-back}
+use Rattle.layout.specs.Refusals.{RightCheck}
 use Rattle.recurrence.proofs.Exactly.{run-scrambles, run-descrambles, scrambled-state, descrambled-state}
 use Rattle.symbol.specs.declared.Encoder.{Encoder}
 use Rattle.symbol.specs.Levels.{dataLevels, levelAt}
@@ -32,18 +34,18 @@ use Rattle.host.specs.declared.frames.FrameFields.{FrameFields}
 use Rattle.host.specs.Frames.{fieldsOf, coefficientOctets}
 use Rattle.reader.specs.declared.Found.{Found}
 use Rattle.reader.specs.Promises.{foundOf, vendorOctets, reservedOctets, reservedLeft}
-use Rattle.demands.specs.Handed.{Outcome, none, WriteCall, ReadCall, Fields, Rooms, BitCall, RunCall, FrameCall}
+use Rattle.demands.specs.Handed.{Outcome, None, none, SendCall, ReadCall, Fields, Rooms, BitCall, RunCall, FrameCall, Line}
 use Rattle.demands.specs.Library.{Library}
 use Rattle.demands.specs.Contracts.{Keeps}
-use Rattle.demands.specs.Checks.{writeChecks, readChecks, bitChecks, runChecks, frameChecks}
-use Rattle.demands.specs.Frames.{Right, done, Frames, Scrambling}
+use Rattle.demands.specs.Checks.{frameOf, sendChecks, readChecks, bitChecks, runChecks, frameChecks}
+use Rattle.demands.specs.Frames.{Right, done, SendsAs, Frames, Scrambling}
 use Rattle.demands.specs.Symbols.{Symbols, Precoding}
 use Rattle.demands.specs.Two.{Exact}
 use Rattle.demands.proofs.One.{only, same, nothing-sent, found-answer}
 use Rattle.demands.proofs.DataTwo.{data-exact}
 use Rattle.demands.proofs.EocTwo.{messages-exact}
 use Rattle.demands.proofs.LineTwo.{receives}
-use Rattle.demands.proofs.Fit.{bit-fit}
+use Rattle.demands.proofs.Fit.{both-right, written-length, written-small, written-clear, bit-fit}
 
 -- ---- frames
 
@@ -71,20 +73,44 @@ module _ (tap state b : ℕ) (h : 1 ≤ tap) (l : tap ≤ 23) (lt : state < 2 ^ 
       (run-descrambles tap h l state (b ∷ []) B, descrambled-state tap state (b ∷ []) lt B)
 
 module _ (x : Library) (k : Keeps x) where
-  write-training : (c : WriteCall) → c .kind ≡ 0 → Right (writeChecks c)
-      → x .write c ≡ done none (octetsOf 529 (trainingBits (c .count) (numbersOf (c .coefficients)) (c .a) (c .b) (c .vendor)))
-  write-training c e h =
-      let z : x .write c .answer ≡ 0 = k .write c refl .answered ∙ h in
-      same z (only _)
-      (k .write c refl .left ∙ held-given _ _ _ z
-      ∙ ap (λ (n : ℕ). octetsOf 529 (cond (eqb n 0) (trainingBits (c .count) (numbersOf (c .coefficients)) (c .a) (c .b) (c .vendor)) (finalBits (c .vendor)))) e)
+  send-is : (c : SendCall) → Right (sendChecks c) → x .send c ≡ done none
+      (record {
+        state = afterOf scramble (tapOf (c .end)) (c .state) (clocked (frameOf c));
+        output = around (frameOf c) (runOf scramble (tapOf (c .end)) (c .state) (clocked (frameOf c)));
+      })
+  send-is c h =
+      let z : x .send c .answer ≡ 0 = k .send c refl .answered ∙ h in
+      let s = k .send c refl .next ∙ held-given _ _ _ z in
+      let o = k .send c refl .left ∙ held-given _ _ _ z in
+      same z (only _) (λ i. record { state = s i; output = o i })
 
-  write-final : (c : WriteCall) → c .kind ≡ 1 → Right (writeChecks c) → x .write c ≡ done none (octetsOf 529 (finalBits (c .vendor)))
-  write-final c e h =
-      let z : x .write c .answer ≡ 0 = k .write c refl .answered ∙ h in
-      same z (only _)
-      (k .write c refl .left ∙ held-given _ _ _ z
-      ∙ ap (λ (n : ℕ). octetsOf 529 (cond (eqb n 0) (trainingBits (c .count) (numbersOf (c .coefficients)) (c .a) (c .b) (c .vendor)) (finalBits (c .vendor)))) e)
+  sends : (c : SendCall) → Right (sendChecks c) → SendsAs x c (frameOf c)
+  sends c h =
+      let t = tap-range (c .end) in
+      let b = part-of-bits (frameOf c) 14 4213 in
+      let lt = frame-sound (record { end = c .end; state = c .state }) (frameOf c) (c .output) (both-right c h .1) .2 in (
+        runOf scramble (tapOf (c .end)) (c .state) (clocked (frameOf c)),
+        run-scrambles (tapOf (c .end)) (t .0) (t .1) (c .state) (clocked (frameOf c)) b,
+        send-is c h ∙ ap (λ (n : ℕ). done none (record {
+          state =
+              n;
+          output = around (frameOf c) (runOf scramble (tapOf (c .end)) (c .state) (clocked (frameOf c)));
+        }))
+            (scrambled-state (tapOf (c .end)) (c .state) (clocked (frameOf c)) lt),
+      )
+
+  -- the frame by its kind
+  of-kind : (c : SendCall) (n : ℕ) → c .kind ≡ n
+      → frameOf c ≡ octetsOf 529 (cond (eqb n 0) (trainingBits (c .count) (numbersOf (c .coefficients)) (c .a) (c .b) (c .vendor)) (finalBits (c .vendor)))
+  of-kind c n e =
+      ap (λ (m : ℕ). octetsOf 529 (cond (eqb m 0) (trainingBits (c .count) (numbersOf (c .coefficients)) (c .a) (c .b) (c .vendor)) (finalBits (c .vendor)))) e
+
+  -- what was sent is the frame, once it is descrambled
+  under : (c : SendCall) (h : Right (sendChecks c)) → frameOut descramble (record { end = c .end; state = c .state }) (x .send c .memory .output) ≡ frameOf c
+  under c h =
+      let X : Scrambler = record { end = c .end; state = c .state } in
+      ap (λ (o : Outcome None Line). frameOut descramble X (o .memory .output)) (send-is c h)
+      ∙ frame-back X (frameOf c) (written-length c h) (written-small c h) (written-clear c h)
 
   read-done : (c : ReadCall) → Right (readChecks c) → x .read c ≡ done
       (record { kind = foundOf 0 (bitsOf (c .frame)) .kind; a = foundOf 0 (bitsOf (c .frame)) .a; b = foundOf 0 (bitsOf (c .frame)) .b })
@@ -107,9 +133,9 @@ module _ (x : Library) (k : Keeps x) where
 
   pub frames : Frames x
   frames = record {
-    training = write-training;
-    final = write-final;
-    check-bits = λ c h. k .write c refl .check-right (k .write c refl .answered ∙ h);
+    training = λ c e h. subst (SendsAs x c) (of-kind c 0 e) (sends c h);
+    final = λ c e h. subst (SendsAs x c) (of-kind c 1 e) (sends c h);
+    check-bits = λ c h. subst (λ (f : List ℕ). RightCheck (bitsOf f)) (sym (under c h)) (k .send c refl .check-right (k .send c refl .answered ∙ h));
     checked = λ f h. same (k .check f refl .answered ∙ h) (only _) (only _);
     read-training = λ c h t. read-done c h ∙ ap (λ (s : Bool). readAs s (bitsOf (c .frame)) (c .coefficients) (c .reserved)) t;
     read-final = λ c h t. read-done c h ∙ ap (λ (s : Bool). readAs s (bitsOf (c .frame)) (c .coefficients) (c .reserved)) t;
@@ -137,10 +163,13 @@ module _ (x : Library) (k : Keeps x) where
       let o = w .promise .left ∙ held-given _ _ _ z in
       same (ap (λ (r : Scrambled). r .answer) (w .crossed) ∙ z) (only _) (λ i. record { state = s i; output = o i })
 
-  frame-is : (way : Way) (c : FrameCall) → Right (frameChecks c) → x .frame way c ≡ done none
-      (record { state = afterOf way (tapOf (c .end)) (c .state) (clocked (c .frame)); output = around (c .frame) (runOf way (tapOf (c .end)) (c .state) (clocked (c .frame))) })
-  frame-is way c h =
-      let w = k .frame way c refl in
+  frame-is : (c : FrameCall) → Right (frameChecks c) → x .descramble-frame c ≡ done none
+      (record {
+        state = afterOf descramble (tapOf (c .end)) (c .state) (clocked (c .frame));
+        output = around (c .frame) (runOf descramble (tapOf (c .end)) (c .state) (clocked (c .frame)));
+      })
+  frame-is c h =
+      let w = k .descramble-frame c refl in
       let z : w .ran .answer ≡ 0 = w .promise .answered ∙ h in
       let s = ap (λ (r : Scrambled). r .state) (w .crossed) ∙ ap (λ (y : Scrambler). y .state) (w .promise .next) ∙ held-given _ _ _ z in
       let o = w .promise .left ∙ held-given _ _ _ z in
@@ -189,26 +218,13 @@ module _ (x : Library) (k : Keeps x) where
           }))
               (descrambled-state (tapOf (c .end)) (c .state) (given (c .input) (c .bits)) lt b),
         );
-    frame-scrambled = λ c h.
-        let t = tap-range (c .end) in
-        let b = part-of-bits (c .frame) 14 4213 in
-        let lt = frame-sound (record { end = c .end; state = c .state }) (c .frame) (c .output) h .2 in (
-          runOf scramble (tapOf (c .end)) (c .state) (clocked (c .frame)),
-          run-scrambles (tapOf (c .end)) (t .0) (t .1) (c .state) (clocked (c .frame)) b,
-          frame-is scramble c h ∙ ap (λ (n : ℕ). done none (record {
-            state =
-                n;
-            output = around (c .frame) (runOf scramble (tapOf (c .end)) (c .state) (clocked (c .frame)));
-          }))
-              (scrambled-state (tapOf (c .end)) (c .state) (clocked (c .frame)) lt),
-        );
     frame-descrambled = λ c h.
         let t = tap-range (c .end) in
         let b = part-of-bits (c .frame) 14 4213 in
         let lt = frame-sound (record { end = c .end; state = c .state }) (c .frame) (c .output) h .2 in (
           runOf descramble (tapOf (c .end)) (c .state) (clocked (c .frame)),
           run-descrambles (tapOf (c .end)) (t .0) (t .1) (c .state) (clocked (c .frame)) b,
-          frame-is descramble c h ∙ ap (λ (n : ℕ). done none (record {
+          frame-is c h ∙ ap (λ (n : ℕ). done none (record {
             state =
                 n;
             output = around (c .frame) (runOf descramble (tapOf (c .end)) (c .state) (clocked (c .frame)));

@@ -11,7 +11,7 @@ use Rattle.demands.proofs.Ours.{ours, ours-keep}
 -- where C can make the call x, and elsewhere ours
 abbrev widen : Library → Library
 widen x = record {
-  write = λ c. cond (fromC .write c) (x .write c) (ours .write c);
+  send = λ c. cond (fromC .send c) (x .send c) (ours .send c);
   check = λ f. cond (fromC .check f) (x .check f) (ours .check f);
   read = λ c. cond (fromC .read c) (x .read c) (ours .read c);
   data-write = λ c. cond (fromC .data-write c) (x .data-write c) (ours .data-write c);
@@ -24,7 +24,7 @@ widen x = record {
   scrambler-start = λ e. cond (fromC .scrambler-start e) (x .scrambler-start e) (ours .scrambler-start e);
   bit = λ way c. cond (fromC .bit c) (x .bit way c) (ours .bit way c);
   run = λ way c. cond (fromC .run c) (x .run way c) (ours .run way c);
-  frame = λ way c. cond (fromC .frame c) (x .frame way c) (ours .frame way c);
+  descramble-frame = λ c. cond (fromC .descramble-frame c) (x .descramble-frame c) (ours .descramble-frame c);
   receive-start = λ e. cond (fromC .receive-start e) (x .receive-start e) (ours .receive-start e);
   receive = λ c. cond (fromC .receive c) (x .receive c) (ours .receive c);
   activation = λ b. cond (fromC .activation b) (x .activation b) (ours .activation b);
@@ -45,7 +45,7 @@ widen x = record {
 module _ (x : Library) (k : KeepsFor fromC x) where
   keeps : Keeps (widen x)
   keeps = record {
-    write = λ c h. by-cases (fromC .write c) (λ e. rw e (k .write c e)) (λ e. rw e (ours-keep .write c refl));
+    send = λ c h. by-cases (fromC .send c) (λ e. rw e (k .send c e)) (λ e. rw e (ours-keep .send c refl));
     check = λ f h. by-cases (fromC .check f) (λ e. rw e (k .check f e)) (λ e. rw e (ours-keep .check f refl));
     read = λ c h. by-cases (fromC .read c) (λ e. rw e (k .read c e)) (λ e. rw e (ours-keep .read c refl));
     data-write = λ c h. by-cases (fromC .data-write c) (λ e. rw e (k .data-write c e)) (λ e. rw e (ours-keep .data-write c refl));
@@ -58,7 +58,7 @@ module _ (x : Library) (k : KeepsFor fromC x) where
     scrambler-start = λ e h. by-cases (fromC .scrambler-start e) (λ t. rw t (k .scrambler-start e t)) (λ t. rw t (ours-keep .scrambler-start e refl));
     bit = λ way c h. by-cases (fromC .bit c) (λ e. rw e (k .bit way c e)) (λ e. rw e (ours-keep .bit way c refl));
     run = λ way c h. by-cases (fromC .run c) (λ e. rw e (k .run way c e)) (λ e. rw e (ours-keep .run way c refl));
-    frame = λ way c h. by-cases (fromC .frame c) (λ e. rw e (k .frame way c e)) (λ e. rw e (ours-keep .frame way c refl));
+    descramble-frame = λ c h. by-cases (fromC .descramble-frame c) (λ e. rw e (k .descramble-frame c e)) (λ e. rw e (ours-keep .descramble-frame c refl));
     receive-start = λ e h. by-cases (fromC .receive-start e) (λ t. rw t (k .receive-start e t)) (λ t. rw t (ours-keep .receive-start e refl));
     receive = λ c h. by-cases (fromC .receive c) (λ e. rw e (k .receive c e)) (λ e. rw e (ours-keep .receive c refl));
     activation = λ b h. by-cases (fromC .activation b) (λ e. rw e (k .activation b e)) (λ e. rw e (ours-keep .activation b refl));
@@ -82,7 +82,7 @@ module _ (x : Library) (k : KeepsFor fromC x) where
 
   same : SameFor fromC x (widen x)
   same = record {
-    write = λ c e. chosen (fromC .write c) (x .write c) (ours .write c) e;
+    send = λ c e. chosen (fromC .send c) (x .send c) (ours .send c) e;
     check = λ f e. chosen (fromC .check f) (x .check f) (ours .check f) e;
     read = λ c e. chosen (fromC .read c) (x .read c) (ours .read c) e;
     data-write = λ c e. chosen (fromC .data-write c) (x .data-write c) (ours .data-write c) e;
@@ -95,7 +95,7 @@ module _ (x : Library) (k : KeepsFor fromC x) where
     scrambler-start = λ e t. chosen (fromC .scrambler-start e) (x .scrambler-start e) (ours .scrambler-start e) t;
     bit = λ way c e. chosen (fromC .bit c) (x .bit way c) (ours .bit way c) e;
     run = λ way c e. chosen (fromC .run c) (x .run way c) (ours .run way c) e;
-    frame = λ way c e. chosen (fromC .frame c) (x .frame way c) (ours .frame way c) e;
+    descramble-frame = λ c e. chosen (fromC .descramble-frame c) (x .descramble-frame c) (ours .descramble-frame c) e;
     receive-start = λ e t. chosen (fromC .receive-start e) (x .receive-start e) (ours .receive-start e) t;
     receive = λ c e. chosen (fromC .receive c) (x .receive c) (ours .receive c) e;
     activation = λ b e. chosen (fromC .activation b) (x .activation b) (ours .activation b) e;

@@ -25,12 +25,12 @@ use Rattle.scrambler.specs.Ends.{tapOf}
 use Rattle.scrambler.specs.Promises.{given}
 use Rattle.scrambler.proofs.Laws.{tap-range}
 use Rattle.supervisor.proofs.Laws.{by-cases}
-use Rattle.demands.specs.Handed.{Outcome, None, none, WriteCall, ReadCall, Fields, Rooms, RunCall, FrameCall, Line, EncodeRunCall, Codes, PrecodeCall}
+use Rattle.demands.specs.Handed.{Outcome, None, none, SendCall, ReadCall, Fields, Rooms, RunCall, FrameCall, Line, EncodeRunCall, Codes, PrecodeCall}
 use Rattle.demands.specs.Handed.{Signal}
 use Rattle.demands.specs.One.{Answers, One}
-use Rattle.demands.specs.Checks.{writeChecks, readChecks, runChecks, frameChecks, encodeRunChecks, precodeChecks}
+use Rattle.demands.specs.Checks.{frameOf, sendChecks, readChecks, runChecks, frameChecks, encodeRunChecks, precodeChecks}
 use Rattle.demands.specs.Frames.{Right, Trains}
-use Rattle.demands.specs.WrongLibraries.{OneFrame, FrameUnwritten, CoefficientsUnwritten, VendorUnwritten, RunUnwritten, WholeUnwritten}
+use Rattle.demands.specs.WrongLibraries.{OneFrame, SendsPlain, PlainOnce, StateKept, FrameUnwritten, CoefficientsUnwritten, VendorUnwritten, RunUnwritten, WholeUnwritten}
 use Rattle.demands.specs.WrongLibraries.{HistoryUnwritten, CodesUnwritten, PrecodedUnwritten, DecodedUnwritten, CopiesTheRest, TurnsA, TurnsB}
 use Rattle.demands.specs.WrongReserved.{reservedNumber, TurnsAway, ElseAsDue, HandsZeros, ReservedUnwritten}
 use Rattle.demands.specs.NoStrawMan.{Built, OtherwiseAnswers, NoStrawMan}
@@ -39,24 +39,25 @@ use Rattle.demands.proofs.Two.{exact as exact-of}
 use Rattle.demands.proofs.Interwork.{laid-there, run-right}
 use Rattle.demands.proofs.Ours.{ours, ours-keep}
 use Rattle.demands.proofs.Rebuilt.{ours-one, Parts, rebuilt, rebuilt-one, usual, usual-answer}
+use Rattle.demands.proofs.Rejected.{turning, turning-right, turning-differs}
 use Rattle.demands.proofs.ReservedRejected.{call, call-right, trains, some-set}
 use Rattle.demands.proofs.DataWrong.{one-data-frame-built, data-frame-built, payload-built, own-six-built}
 use Rattle.demands.proofs.LineWrong.{never-gives-built, first-only-built, room-built}
 use Rattle.demands.proofs.EocWrong.{one-form-built, form-built, contents-built, hands-all-built, hands-nothing-built}
 use Rattle.demands.proofs.WrongSteps.{moves-once-built, never-opens-built, calls-exception-built, same-ticks-built, counts-codes-built, gives-up-built, ends-too-late-built}
 
--- ---- the writer
+-- ---- the sender
 
-abbrev withWrite : (WriteCall → Outcome None (List ℕ)) → Parts
-withWrite f = record {
-  write = f;
+abbrev withSend : (SendCall → Outcome None Line) → Parts
+withSend f = record {
+  send = f;
   read = usual .read;
   data-write = usual .data-write;
   data-read = usual .data-read;
   eoc = usual .eoc;
   receive = usual .receive;
   run = usual .run;
-  frame = usual .frame;
+  descramble-frame = usual .descramble-frame;
   encode-run = usual .encode-run;
   history-start = usual .history-start;
   precode = usual .precode;
@@ -64,16 +65,16 @@ withWrite f = record {
   step = usual .step;
 }
 
-write-one : (f : WriteCall → Outcome None (List ℕ)) → Answers f writeChecks (λ c. c .frame) none → One (rebuilt (withWrite f))
-write-one f a = rebuilt-one (withWrite f) (record {
-  write = a;
+send-one : (f : SendCall → Outcome None Line) → Answers f sendChecks (λ c. record { state = c .state; output = c .output }) none → One (rebuilt (withSend f))
+send-one f a = rebuilt-one (withSend f) (record {
+  send = a;
   read = usual-answer .read;
   data-write = usual-answer .data-write;
   data-read = usual-answer .data-read;
   eoc = usual-answer .eoc;
   receive = usual-answer .receive;
   run = usual-answer .run;
-  frame = usual-answer .frame;
+  descramble-frame = usual-answer .descramble-frame;
   encode-run = usual-answer .encode-run;
   history-start = usual-answer .history-start;
   precode = usual-answer .precode;
@@ -81,36 +82,70 @@ write-one f a = rebuilt-one (withWrite f) (record {
   step = usual-answer .step;
 })
 
--- it writes zeros, or nothing
-abbrev zeros-always : WriteCall → Outcome None (List ℕ)
-zeros-always c = record { answer = answer (writeChecks c); numbers = none; memory = held (answer (writeChecks c)) (c .frame) (replicate 529 0) }
+-- our sender with another frame
+abbrev sending : (SendCall → List ℕ) → SendCall → Outcome None Line
+sending frame c = record {
+  answer = answer (sendChecks c);
+  numbers = none;
+  memory = record { state = ours .send c .memory .state; output = held (answer (sendChecks c)) (c .output) (frame c) };
+}
 
+sending-one : (frame : SendCall → List ℕ) → One (rebuilt (withSend (sending frame)))
+sending-one frame = send-one (sending frame) (answers (ordered .send) (λ c. refl) (λ c h. refl)
+    (λ c h.
+    let e = ap (λ (m : Line). m .state) (ours-one .send .unchanged c (λ z. h (sym (ours-one .send .first c) ∙ z))) in
+    let o = kept (answer (sendChecks c)) (c .output) (frame c) h in
+    λ i. record { state = e i; output = o i }))
+
+-- it sends zeros, the frame as it is written, or nothing
 one-frame-built : Built OneFrame
 one-frame-built = (
-  rebuilt (withWrite zeros-always),
-  write-one zeros-always (answers (ordered .write) (λ c. refl) (λ c h. refl) (λ c h. kept (answer (writeChecks c)) (c .frame) (replicate 529 0) h)),
-  (replicate 529 0, λ c h. held-given (answer (writeChecks c)) (c .frame) (replicate 529 0) h),
+  rebuilt (withSend (sending (λ c. replicate 529 0))),
+  sending-one (λ c. replicate 529 0),
+  λ c d e s h k. held-given (answer (sendChecks c)) (c .output) (replicate 529 0) h ∙ sym (held-given (answer (sendChecks d)) (d .output) (replicate 529 0) k),
 )
 
-abbrev writes-nothing : WriteCall → Outcome None (List ℕ)
-writes-nothing c = record { answer = answer (writeChecks c); numbers = none; memory = c .frame }
+plain-built : Built SendsPlain
+plain-built = (rebuilt (withSend (sending frameOf)), sending-one frameOf, λ c h. held-given (answer (sendChecks c)) (c .output) (frameOf c) h)
+
+once-built : Built PlainOnce
+once-built = (
+  rebuilt (withSend (sending frameOf)),
+  sending-one frameOf,
+  (turning, turning-right, turning-differs, held-given (answer (sendChecks turning)) (turning .output) (frameOf turning) turning-right),
+)
 
 frame-built : Built FrameUnwritten
-frame-built =
-    (rebuilt (withWrite writes-nothing), write-one writes-nothing (answers (ordered .write) (λ c. refl) (λ c h. refl) (λ c h. refl)), λ c h. refl)
+frame-built = (
+  rebuilt (withSend (sending (λ c. c .output))),
+  sending-one (λ c. c .output),
+  λ c h. held-given (answer (sendChecks c)) (c .output) (c .output) h,
+)
+
+-- or it hands the old state back
+abbrev state-idle : SendCall → Outcome None Line
+state-idle c = record { answer = ours .send c .answer; numbers = none; memory = record { state = c .state; output = ours .send c .memory .output } }
+
+state-built : Built StateKept
+state-built = (
+  rebuilt (withSend state-idle),
+  send-one state-idle (answers (ordered .send) (ours-one .send .first) (λ c h. refl)
+      (λ c h. ap (λ (m : Line). record { state = c .state; output = m .output }) (ours-one .send .unchanged c h))),
+  λ c h. refl,
+)
 
 -- ---- the reader
 
 abbrev withRead : (ReadCall → Outcome Fields Rooms) → Parts
 withRead f = record {
-  write = usual .write;
+  send = usual .send;
   read = f;
   data-write = usual .data-write;
   data-read = usual .data-read;
   eoc = usual .eoc;
   receive = usual .receive;
   run = usual .run;
-  frame = usual .frame;
+  descramble-frame = usual .descramble-frame;
   encode-run = usual .encode-run;
   history-start = usual .history-start;
   precode = usual .precode;
@@ -127,14 +162,14 @@ ReadAnswers f = Answers f readChecks as-it-was (record { kind = 0; a = 0; b = 0 
 
 read-one : (f : ReadCall → Outcome Fields Rooms) → ReadAnswers f → One (rebuilt (withRead f))
 read-one f a = rebuilt-one (withRead f) (record {
-  write = usual-answer .write;
+  send = usual-answer .send;
   read = a;
   data-write = usual-answer .data-write;
   data-read = usual-answer .data-read;
   eoc = usual-answer .eoc;
   receive = usual-answer .receive;
   run = usual-answer .run;
-  frame = usual-answer .frame;
+  descramble-frame = usual-answer .descramble-frame;
   encode-run = usual-answer .encode-run;
   history-start = usual-answer .history-start;
   precode = usual-answer .precode;
@@ -309,14 +344,14 @@ turns-b-built = (
 
 abbrev withRun : (Way → RunCall → Outcome None Line) → Parts
 withRun f = record {
-  write = usual .write;
+  send = usual .send;
   read = usual .read;
   data-write = usual .data-write;
   data-read = usual .data-read;
   eoc = usual .eoc;
   receive = usual .receive;
   run = f;
-  frame = usual .frame;
+  descramble-frame = usual .descramble-frame;
   encode-run = usual .encode-run;
   history-start = usual .history-start;
   precode = usual .precode;
@@ -327,14 +362,14 @@ withRun f = record {
 run-one : (f : Way → RunCall → Outcome None Line) → ((way : Way) → Answers (f way) runChecks (λ c. record { state = c .state; output = c .output }) none)
     → One (rebuilt (withRun f))
 run-one f a = rebuilt-one (withRun f) (record {
-  write = usual-answer .write;
+  send = usual-answer .send;
   read = usual-answer .read;
   data-write = usual-answer .data-write;
   data-read = usual-answer .data-read;
   eoc = usual-answer .eoc;
   receive = usual-answer .receive;
   run = a;
-  frame = usual-answer .frame;
+  descramble-frame = usual-answer .descramble-frame;
   encode-run = usual-answer .encode-run;
   history-start = usual-answer .history-start;
   precode = usual-answer .precode;
@@ -431,14 +466,14 @@ history-idle s = record { answer = ours .history-start s .answer; numbers = none
 
 abbrev withHistory : Parts
 withHistory = record {
-  write = usual .write;
+  send = usual .send;
   read = usual .read;
   data-write = usual .data-write;
   data-read = usual .data-read;
   eoc = usual .eoc;
   receive = usual .receive;
   run = usual .run;
-  frame = usual .frame;
+  descramble-frame = usual .descramble-frame;
   encode-run = usual .encode-run;
   history-start = history-idle;
   precode = usual .precode;
@@ -450,14 +485,14 @@ history-built : Built HistoryUnwritten
 history-built = (
   rebuilt withHistory,
   rebuilt-one withHistory (record {
-    write = usual-answer .write;
+    send = usual-answer .send;
     read = usual-answer .read;
     data-write = usual-answer .data-write;
     data-read = usual-answer .data-read;
     eoc = usual-answer .eoc;
     receive = usual-answer .receive;
     run = usual-answer .run;
-    frame = usual-answer .frame;
+    descramble-frame = usual-answer .descramble-frame;
     encode-run = usual-answer .encode-run;
     history-start = answers (ordered .history-start) (ours-one .history-start .first) (λ c h. refl) (λ c h. refl);
     precode = usual-answer .precode;
@@ -469,9 +504,9 @@ history-built = (
 
 -- ---- whole frames, the encoder's runs, the precoder and its inverse
 
-abbrev frames-idle : Way → FrameCall → Outcome None Line
-frames-idle way c =
-    record { answer = ours .frame way c .answer; numbers = none; memory = record { state = ours .frame way c .memory .state; output = c .output } }
+abbrev frames-idle : FrameCall → Outcome None Line
+frames-idle c =
+    record { answer = ours .descramble-frame c .answer; numbers = none; memory = record { state = ours .descramble-frame c .memory .state; output = c .output } }
 
 abbrev codes-idle : EncodeRunCall → Outcome None Codes
 codes-idle c =
@@ -483,17 +518,17 @@ precodes-idle c = record { answer = ours .precode c .answer; numbers = none; mem
 abbrev decodes-idle : PrecodeCall → Outcome None Signal
 decodes-idle c = record { answer = ours .decode c .answer; numbers = none; memory = record { history = ours .decode c .memory .history; room = c .room } }
 
-abbrev withRest : (Way → FrameCall → Outcome None Line) → (EncodeRunCall → Outcome None Codes) → (PrecodeCall → Outcome None Signal)
+abbrev withRest : (FrameCall → Outcome None Line) → (EncodeRunCall → Outcome None Codes) → (PrecodeCall → Outcome None Signal)
     → (PrecodeCall → Outcome None Signal) → Parts
 withRest f e p d = record {
-  write = usual .write;
+  send = usual .send;
   read = usual .read;
   data-write = usual .data-write;
   data-read = usual .data-read;
   eoc = usual .eoc;
   receive = usual .receive;
   run = usual .run;
-  frame = f;
+  descramble-frame = f;
   encode-run = e;
   history-start = usual .history-start;
   precode = p;
@@ -501,20 +536,20 @@ withRest f e p d = record {
   step = usual .step;
 }
 
-module _ (f : Way → FrameCall → Outcome None Line) (e : EncodeRunCall → Outcome None Codes) (p d : PrecodeCall → Outcome None Signal) where
-  rest-one : ((way : Way) → Answers (f way) frameChecks (λ c. record { state = c .state; output = c .output }) none)
+module _ (f : FrameCall → Outcome None Line) (e : EncodeRunCall → Outcome None Codes) (p d : PrecodeCall → Outcome None Signal) where
+  rest-one : Answers f frameChecks (λ c. record { state = c .state; output = c .output }) none
       → Answers e encodeRunChecks (λ c. record { register = c .register; codes = c .codes }) none
       → Answers p precodeChecks (λ c. record { history = c .history; room = c .room }) none
       → Answers d precodeChecks (λ c. record { history = c .history; room = c .room }) none → One (rebuilt (withRest f e p d))
   rest-one af ae ap ad = rebuilt-one (withRest f e p d) (record {
-    write = usual-answer .write;
+    send = usual-answer .send;
     read = usual-answer .read;
     data-write = usual-answer .data-write;
     data-read = usual-answer .data-read;
     eoc = usual-answer .eoc;
     receive = usual-answer .receive;
     run = usual-answer .run;
-    frame = af;
+    descramble-frame = af;
     encode-run = ae;
     history-start = usual-answer .history-start;
     precode = ap;
@@ -522,20 +557,20 @@ module _ (f : Way → FrameCall → Outcome None Line) (e : EncodeRunCall → Ou
     step = usual-answer .step;
   })
 
-frame-idle-built : (way : Way) → Built (WholeUnwritten way)
-frame-idle-built way = (
+frame-idle-built : Built WholeUnwritten
+frame-idle-built = (
   rebuilt (withRest frames-idle (ours .encode-run) (ours .precode) (ours .decode)),
   rest-one frames-idle (ours .encode-run) (ours .precode) (ours .decode)
-      (λ way. answers (ordered .frame) (ours-one .frame way .first) (λ c h. refl)
-      (λ c h. ap (λ (m : Line). record { state = m .state; output = c .output }) (ours-one .frame way .unchanged c h)))
+      (answers (ordered .descramble-frame) (ours-one .descramble-frame .first) (λ c h. refl)
+      (λ c h. ap (λ (m : Line). record { state = m .state; output = c .output }) (ours-one .descramble-frame .unchanged c h)))
       (ours-one .encode-run) (ours-one .precode) (ours-one .decode),
   λ c h. refl,
 )
 
 codes-built : Built CodesUnwritten
 codes-built = (
-  rebuilt (withRest (ours .frame) codes-idle (ours .precode) (ours .decode)),
-  rest-one (ours .frame) codes-idle (ours .precode) (ours .decode) (ours-one .frame)
+  rebuilt (withRest (ours .descramble-frame) codes-idle (ours .precode) (ours .decode)),
+  rest-one (ours .descramble-frame) codes-idle (ours .precode) (ours .decode) (ours-one .descramble-frame)
       (answers (ordered .encode-run) (ours-one .encode-run .first) (λ c h. refl)
       (λ c h. ap (λ (m : Codes). record { register = m .register; codes = c .codes }) (ours-one .encode-run .unchanged c h)))
       (ours-one .precode) (ours-one .decode),
@@ -544,8 +579,8 @@ codes-built = (
 
 precoded-built : Built PrecodedUnwritten
 precoded-built = (
-  rebuilt (withRest (ours .frame) (ours .encode-run) precodes-idle (ours .decode)),
-  rest-one (ours .frame) (ours .encode-run) precodes-idle (ours .decode) (ours-one .frame) (ours-one .encode-run)
+  rebuilt (withRest (ours .descramble-frame) (ours .encode-run) precodes-idle (ours .decode)),
+  rest-one (ours .descramble-frame) (ours .encode-run) precodes-idle (ours .decode) (ours-one .descramble-frame) (ours-one .encode-run)
       (answers (ordered .precode) (ours-one .precode .first) (λ c h. refl)
       (λ c h. ap (λ (m : Signal). record { history = m .history; room = c .room }) (ours-one .precode .unchanged c h)))
       (ours-one .decode),
@@ -554,8 +589,8 @@ precoded-built = (
 
 decoded-built : Built DecodedUnwritten
 decoded-built = (
-  rebuilt (withRest (ours .frame) (ours .encode-run) (ours .precode) decodes-idle),
-  rest-one (ours .frame) (ours .encode-run) (ours .precode) decodes-idle (ours-one .frame) (ours-one .encode-run) (ours-one .precode)
+  rebuilt (withRest (ours .descramble-frame) (ours .encode-run) (ours .precode) decodes-idle),
+  rest-one (ours .descramble-frame) (ours .encode-run) (ours .precode) decodes-idle (ours-one .descramble-frame) (ours-one .encode-run) (ours-one .precode)
       (answers (ordered .precode) (ours-one .decode .first) (λ c h. refl)
       (λ c h. ap (λ (m : Signal). record { history = m .history; room = c .room }) (ours-one .decode .unchanged c h))),
   λ c h. refl,
@@ -571,6 +606,9 @@ no-straw-man = record {
     record { in-table = λ c. refl; no-numbers = λ c h. refl; unchanged = λ c h. refl },
   );
   one-frame = one-frame-built;
+  sends-plain = plain-built;
+  plain-once = once-built;
+  state-kept = state-built;
   frame-unwritten = frame-built;
   coefficients-unwritten = coefficients-built;
   vendor-unwritten = vendor-built;

@@ -3,11 +3,13 @@ use mathlib.Core.List.{List, [], _∷_}
 use Prim.Native.Nat.{ℕ}
 use Rattle.answer.specs.Answer.{Refusal, wrongLength}
 use Rattle.layout.specs.Refusals.{writeRefusals}
+use Rattle.sender.specs.Promises.{frameOctets}
 use Rattle.scrambler.specs.Promises.{unknownEnd, stepRefusals as bitTests, runRefusals, frameRefusals}
 use Rattle.numbers.specs.Promises.{coefficientsLength, numbersOf}
 use Rattle.symbol.specs.Encoder.{startTests, stepTests, runTests}
 use Rattle.precoder.specs.Runs.{runTests as precoderTests}
 use Rattle.supervisor.specs.Step.{startRefusals, stepRefusals, stateRefusals}
+use Rattle.host.specs.Sending.{frameSendRefusals}
 use Rattle.host.specs.Frames.{frameReadRefusals}
 use Rattle.dataframe.specs.Refusals.{crcRefusals, writeRefusals as dataWriteRefusals, checkRefusals as dataCheckRefusals, readRefusals as dataReadRefusals}
 use Rattle.eoc.specs.Refusals.{writeRefusals as eocWriteRefusals, readRefusals as eocReadRefusals}
@@ -17,16 +19,28 @@ use Rattle.receiver.specs.Promises.{receiveRefusals}
 use Rattle.host.specs.Receiving.{receiverIn}
 use Rattle.host.specs.Symbols.{encoder}
 use Rattle.host.specs.Supervising.{stateIn}
-use Rattle.demands.specs.Handed.{WriteCall, ReadCall, BitCall, RunCall, FrameCall, WordsCall, EncodeCall, EncodeRunCall, PrecodeCall}
+use Rattle.demands.specs.Handed.{SendCall, ReadCall, BitCall, RunCall, FrameCall, WordsCall, EncodeCall, EncodeRunCall, PrecodeCall}
 use Rattle.demands.specs.HandedData.{DataWriteCall, DataCrcCall, DataCheckCall, DataReadCall}
 use Rattle.demands.specs.HandedEoc.{EocWriteCall, EocReadCall, EocUnitsCall}
 use Rattle.demands.specs.HandedLine.{ReceiveCall}
 use Rattle.demands.specs.HandedCodes.{StartCall, StepCall, CodesCall}
 
--- the checks of writing, with the coefficients as 720 octets
-abbrev pub writeChecks : WriteCall → List Refusal
+-- the frame that is sent, as it is written, with the coefficients as 720 octets
+abbrev pub frameOf : SendCall → List ℕ
+frameOf c = frameOctets (c .kind) (c .count) (numbersOf (c .coefficients)) (c .a) (c .b) (c .vendor)
+
+-- the checks of sending it
+abbrev pub sendChecks : SendCall → List Refusal
+sendChecks c = frameSendRefusals (c .end) (c .state) (c .kind) (c .count) (c .coefficients) (c .a) (c .b) (c .vendor) (c .output)
+
+-- those of writing it into the room, by itself
+abbrev pub writeChecks : SendCall → List Refusal
 writeChecks c =
-    wrongLength (c .coefficients) coefficientsLength ∷ writeRefusals (c .kind) (c .count) (numbersOf (c .coefficients)) (c .a) (c .b) (c .vendor) (c .frame)
+    wrongLength (c .coefficients) coefficientsLength ∷ writeRefusals (c .kind) (c .count) (numbersOf (c .coefficients)) (c .a) (c .b) (c .vendor) (c .output)
+
+-- and those of scrambling it into the room
+abbrev pub scrambleChecks : SendCall → List Refusal
+scrambleChecks c = frameRefusals (record { end = c .end; state = c .state }) (frameOf c) (c .output)
 
 -- of reading
 abbrev pub readChecks : ReadCall → List Refusal
@@ -72,7 +86,7 @@ bitChecks c = bitTests (record { end = c .end; state = c .state }) (c .bit)
 abbrev pub runChecks : RunCall → List Refusal
 runChecks c = runRefusals (record { end = c .end; state = c .state }) (c .input) (c .bits) (c .output)
 
--- and a frame
+-- and of descrambling a frame
 abbrev pub frameChecks : FrameCall → List Refusal
 frameChecks c = frameRefusals (record { end = c .end; state = c .state }) (c .frame) (c .output)
 

@@ -11,15 +11,16 @@ use Rattle.recurrence.specs.Run.{Way}
 use Rattle.checker.specs.Promises.{Checked}
 use Rattle.datachecker.specs.Promises.{DataChecked}
 use Rattle.precoder.specs.Runs.{PrecodesRun, DecodesRun}
-use Rattle.host.specs.Frames.{FrameWritten, FrameRead}
+use Rattle.host.specs.Sending.{FrameSent}
+use Rattle.host.specs.Frames.{FrameRead}
 use Rattle.host.specs.Data.{DataFrameWritten, DataCrcGiven, DataFrameRead}
 use Rattle.host.specs.Channel.{EocWritten, EocRead, EocHanded}
-use Rattle.host.specs.Scrambling.{ScramblerStarted, BitScrambled, ScrambledRun, ScrambledFrame}
+use Rattle.host.specs.Scrambling.{ScramblerStarted, BitScrambled, ScrambledRun, FrameDescrambled}
 use Rattle.host.specs.Receiving.{ReceiverStarted, LumpReceived}
 use Rattle.host.specs.Symbols.{ActivationLevelGiven, DataLevelGiven, CodeGiven, EncoderStarted, SymbolEncoded, SymbolsEncoded, HistoryStarted, SampleShaped}
 use Rattle.host.specs.Supervising.{Started, StateStepped, CodesRun}
 use Rattle.demands.specs.Library.{Library}
-use Rattle.demands.specs.Handed.{WriteCall, ReadCall, BitCall, RunCall, FrameCall, WordsCall, EncodeCall, EncodeRunCall, PrecodeCall}
+use Rattle.demands.specs.Handed.{SendCall, ReadCall, BitCall, RunCall, FrameCall, WordsCall, EncodeCall, EncodeRunCall, PrecodeCall}
 use Rattle.demands.specs.HandedData.{DataWriteCall, DataCrcCall, DataCheckCall, DataReadCall}
 use Rattle.demands.specs.HandedEoc.{EocWriteCall, EocReadCall, EocUnitsCall}
 use Rattle.demands.specs.HandedLine.{ReceiveCall}
@@ -30,9 +31,10 @@ use Rattle.demands.specs.EveryCall.{everyCall}
 -- each function keeps the contract of the exported one, for the calls that are meant. Above each field the exported function with its arguments;
 -- where a call's field has another name, argument = field
 pub record KeepsFor (calls : Calls) (x : Library) : Type 0 where
-  -- sdsl_frame_write(kind, count, coefficients, a, b, vendor, frame)
-  pub write : (c : WriteCall) → calls .write c ≡ true → FrameWritten (c .kind) (c .count) (c .coefficients) (c .a) (c .b) (c .vendor) (c .frame)
-      (x .write c .answer) (x .write c .memory)
+  -- sdsl_frame_send(end, state, kind, count, coefficients, a, b, vendor, frame = output)
+  pub send : (c : SendCall) → calls .send c ≡ true
+      → FrameSent (c .end) (c .state) (c .kind) (c .count) (c .coefficients) (c .a) (c .b) (c .vendor) (c .output)
+      (record { answer = x .send c .answer; state = x .send c .memory .state }) (x .send c .memory .output)
   -- sdsl_frame_check(frame)
   pub check : (frame : List ℕ) → calls .check frame ≡ true → Checked frame (x .check frame .answer)
   -- sdsl_frame_read(frame, coefficients, vendor, reserved)
@@ -74,9 +76,9 @@ pub record KeepsFor (calls : Calls) (x : Library) : Type 0 where
   -- sdsl_scramble(end, state, input, bits, output), sdsl_descramble(end, state, input, bits, output)
   pub run : (way : Way) (c : RunCall) → calls .run c ≡ true → ScrambledRun way (c .end) (c .state) (c .input) (c .bits) (c .output)
       (record { answer = x .run way c .answer; state = x .run way c .memory .state }) (x .run way c .memory .output)
-  -- sdsl_scramble_frame(end, state, frame, output), sdsl_descramble_frame(end, state, frame, output)
-  pub frame : (way : Way) (c : FrameCall) → calls .frame c ≡ true → ScrambledFrame way (c .end) (c .state) (c .frame) (c .output)
-      (record { answer = x .frame way c .answer; state = x .frame way c .memory .state }) (x .frame way c .memory .output)
+  -- sdsl_descramble_frame(end, state, frame, output)
+  pub descramble-frame : (c : FrameCall) → calls .descramble-frame c ≡ true → FrameDescrambled (c .end) (c .state) (c .frame) (c .output)
+      (record { answer = x .descramble-frame c .answer; state = x .descramble-frame c .memory .state }) (x .descramble-frame c .memory .output)
   -- sdsl_receive_start(end)
   pub receive-start : (end : ℕ) → calls .receive-start end ≡ true → ReceiverStarted end
       (record {

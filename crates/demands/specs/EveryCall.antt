@@ -5,7 +5,7 @@ use Rattle.demands.specs.FromC.{Calls}
 -- all of them are meant
 abbrev pub everyCall : Calls
 everyCall = record {
-  write = λ c. true;
+  send = λ c. true;
   check = λ frame. true;
   read = λ c. true;
   data-write = λ c. true;
@@ -18,7 +18,7 @@ everyCall = record {
   scrambler-start = λ end. true;
   bit = λ c. true;
   run = λ c. true;
-  frame = λ c. true;
+  descramble-frame = λ c. true;
   receive-start = λ end. true;
   receive = λ c. true;
   activation = λ bit. true;

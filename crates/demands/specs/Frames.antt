@@ -14,11 +14,11 @@ use Rattle.layout.specs.Refusals.{hasSync, checkRefusals}
 use Rattle.numbers.specs.Promises.{numbersOf, numberOctets}
 use Rattle.recurrence.specs.Line.{Scrambles, Descrambles, newest}
 use Rattle.scrambler.specs.Ends.{tapOf}
-use Rattle.scrambler.specs.Promises.{given, clocked, around}
+use Rattle.scrambler.specs.Promises.{given, clocked, around, frameOut}
 use Rattle.recurrence.specs.Run.{scramble, descramble}
-use Rattle.demands.specs.Handed.{Outcome, none, WriteCall, ReadCall, BitCall, RunCall, FrameCall}
+use Rattle.demands.specs.Handed.{Outcome, none, SendCall, ReadCall, BitCall, RunCall, FrameCall}
 use Rattle.demands.specs.Library.{Library}
-use Rattle.demands.specs.Checks.{writeChecks, readChecks, scramblerStartChecks, bitChecks, runChecks, frameChecks}
+use Rattle.demands.specs.Checks.{sendChecks, readChecks, scramblerStartChecks, bitChecks, runChecks, frameChecks}
 
 -- no check of SCOPE's table applies
 abbrev pub Right : List Refusal → Type 0
@@ -44,17 +44,29 @@ noneSet = replicate reservedLength 0
 abbrev pub Trains : ReadCall → Type 0
 Trains c = Right (readChecks c) × (hasSync trainingSync (bitsOf (c .frame)) ≡ true)
 
+-- a frame goes out scrambled: "s(n) = f(n) xor s(n-tap) xor s(n-23)" of bits 15 to 4,227; the sync bits pass, and the pad is zero; the state that comes back
+-- "holds the last 23 scrambled bits"
+abbrev pub SendsAs : Library → SendCall → List ℕ → Type 0
+SendsAs x c frame =
+    (s : List ℕ) × Scrambles (tapOf (c .end)) (c .state) (clocked frame) s
+    × (x .send c ≡ done none (record { state = newest (c .state) s; output = around frame s }))
+
+-- what x sends, descrambled by the definition
+abbrev pub underIt : Library → SendCall → List ℕ
+underIt x c = bitsOf (frameOut descramble (record { end = c .end; state = c .state }) (x .send c .memory .output))
+
 -- FRAMES (000, clause 4.1.3)
 pub record Frames (x : Library) : Type 0 where
-  -- "Writing a training frame takes a count of 128 to 180, room for 180 coefficients of which only the first count are looked at
-  -- (the rest of the field is written zero), A, B and vendor data."
-  pub training : (c : WriteCall) → c .kind ≡ 0 → Right (writeChecks c)
-      → x .write c ≡ done none (octetsOf frameLength (trainingBits (c .count) (numbersOf (c .coefficients)) (c .a) (c .b) (c .vendor)))
+  -- "One operation takes the fields, the end and the scrambler state, and gives the scrambled frame and the next state." "Writing a training frame takes
+  -- a count of 128 to 180, room for 180 coefficients of which only the first count are looked at (the rest of the field is written zero), A, B and
+  -- vendor data."
+  pub training : (c : SendCall) → c .kind ≡ 0 → Right (sendChecks c)
+      → SendsAs x c (octetsOf frameLength (trainingBits (c .count) (numbersOf (c .coefficients)) (c .a) (c .b) (c .vendor)))
   -- "Writing a final frame takes vendor data only and puts zero in the other payload fields, with its own sync and check bits."
-  pub final : (c : WriteCall) → c .kind ≡ 1 → Right (writeChecks c) → x .write c ≡ done none (octetsOf frameLength (finalBits (c .vendor)))
-  -- "Check bits: the remainder of bits 15 to 4211 as a polynomial, bit 15 highest, times D^16, divided by D^16 + D^12 + D^5 + 1"
-  pub check-bits : (c : WriteCall) → Right (writeChecks c)
-      → Remainder 16 generator (messageOf (bitsOf (x .write c .memory))) (polynomial (fieldOf checkField (bitsOf (x .write c .memory))))
+  pub final : (c : SendCall) → c .kind ≡ 1 → Right (sendChecks c) → SendsAs x c (octetsOf frameLength (finalBits (c .vendor)))
+  -- "Check bits: the remainder of bits 15 to 4211 as a polynomial, bit 15 highest, times D^16, divided by D^16 + D^12 + D^5 + 1": under the scrambling
+  pub check-bits : (c : SendCall) → Right (sendChecks c)
+      → Remainder 16 generator (messageOf (underIt x c)) (polynomial (fieldOf checkField (underIt x c)))
   -- "Reading a training frame gives 180 coefficients, A, B and vendor data", takes any reserved bits, "and hands the 67 back as nine octets"
   pub read-training : (c : ReadCall) → Right (readChecks c) → hasSync trainingSync (bitsOf (c .frame)) ≡ true
       → x .read c ≡ done (record { kind = 0; a = valueOf (fieldOf aField (bitsOf (c .frame))); b = valueOf (fieldOf bField (bitsOf (c .frame))) })
@@ -90,10 +102,6 @@ pub record Scrambling (x : Library) : Type 0 where
       → (f : List ℕ) × Descrambles (tapOf (c .end)) (c .state) (given (c .input) (c .bits)) f
       × (x .run descramble c ≡ done none (record { state = newest (c .state) (given (c .input) (c .bits)); output = laid (c .output) 0 f }))
   -- the same for whole frames
-  pub frame-scrambled : (c : FrameCall) → Right (frameChecks c)
-      → (s : List ℕ) × Scrambles (tapOf (c .end)) (c .state) (clocked (c .frame)) s
-      × (x .frame scramble c ≡ done none (record { state = newest (c .state) s; output = around (c .frame) s }))
-  -- and back
   pub frame-descrambled : (c : FrameCall) → Right (frameChecks c)
       → (f : List ℕ) × Descrambles (tapOf (c .end)) (c .state) (clocked (c .frame)) f
-      × (x .frame descramble c ≡ done none (record { state = newest (c .state) (clocked (c .frame)); output = around (c .frame) f }))
+      × (x .descramble-frame c ≡ done none (record { state = newest (c .state) (clocked (c .frame)); output = around (c .frame) f }))

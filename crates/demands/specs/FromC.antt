@@ -8,7 +8,7 @@ use lib.ListN.{length}
 use Rattle.host.specs.declared.data.DataOverhead.{DataOverhead}
 use Rattle.host.specs.declared.receiving.Receiver.{Receiver}
 use Rattle.host.specs.declared.supervising.Supervisor.{Supervisor}
-use Rattle.demands.specs.Handed.{WriteCall, ReadCall, BitCall, RunCall, FrameCall, WordsCall, EncodeCall, EncodeRunCall, PrecodeCall}
+use Rattle.demands.specs.Handed.{SendCall, ReadCall, BitCall, RunCall, FrameCall, WordsCall, EncodeCall, EncodeRunCall, PrecodeCall}
 use Rattle.demands.specs.HandedData.{DataWriteCall, DataCrcCall, DataCheckCall, DataReadCall}
 use Rattle.demands.specs.HandedEoc.{EocWriteCall, EocReadCall, EocUnitsCall}
 use Rattle.demands.specs.HandedLine.{ReceiveCall}
@@ -50,7 +50,7 @@ supervisor s = u32 (s .end) && u32 (s .phase) && u32 (s .ticks) && u32 (s .attem
 
 -- which calls are meant, of each function
 pub record Calls : Type 0 where
-  pub write : WriteCall → Bool
+  pub send : SendCall → Bool
   pub check : List ℕ → Bool
   pub read : ReadCall → Bool
   pub data-write : DataWriteCall → Bool
@@ -63,7 +63,7 @@ pub record Calls : Type 0 where
   pub scrambler-start : ℕ → Bool
   pub bit : BitCall → Bool
   pub run : RunCall → Bool
-  pub frame : FrameCall → Bool
+  pub descramble-frame : FrameCall → Bool
   pub receive-start : ℕ → Bool
   pub receive : ReceiveCall → Bool
   pub activation : ℕ → Bool
@@ -83,7 +83,8 @@ pub record Calls : Type 0 where
 -- those that C can make
 abbrev pub fromC : Calls
 fromC = record {
-  write = λ c. u32 (c .kind) && u32 (c .count) && buffer (c .coefficients) && u32 (c .a) && u32 (c .b) && buffer (c .vendor) && buffer (c .frame);
+  send = λ c. u32 (c .end) && u32 (c .state) && u32 (c .kind) && u32 (c .count) && buffer (c .coefficients) && u32 (c .a) && u32 (c .b)
+      && buffer (c .vendor) && buffer (c .output);
   check = λ frame. buffer frame;
   read = λ c. buffer (c .frame) && buffer (c .coefficients) && buffer (c .vendor) && buffer (c .reserved);
   data-write = λ c. u32 (c .form) && u32 (c .size) && u32 (c .sync) && overhead (c .overhead) && buffer (c .payload) && buffer (c .frame);
@@ -96,7 +97,7 @@ fromC = record {
   scrambler-start = λ end. u32 end;
   bit = λ c. u32 (c .end) && u32 (c .state) && u32 (c .bit);
   run = λ c. u32 (c .end) && u32 (c .state) && buffer (c .input) && usize (c .bits) && buffer (c .output);
-  frame = λ c. u32 (c .end) && u32 (c .state) && buffer (c .frame) && buffer (c .output);
+  descramble-frame = λ c. u32 (c .end) && u32 (c .state) && buffer (c .frame) && buffer (c .output);
   receive-start = λ end. u32 end;
   receive = λ c. receiver (c .state) && buffer (c .line) && buffer (c .lump) && usize (c .bits) && buffer (c .frame);
   activation = λ bit. u32 bit;

@@ -14,15 +14,17 @@ pub record Outcome (N M : Type 0) : Type 0 where
 pub data None : Type 0 where
   none : None
 
--- sdsl_frame_write: 720 octets of coefficients, 16 of vendor data, room for 529 of a frame
-pub record WriteCall : Type 0 where
+-- sdsl_frame_send: the end and the scrambler's state; the fields, with 720 octets of coefficients and 16 of vendor data; room for 529 of a frame
+pub record SendCall : Type 0 where
+  pub end : ℕ
+  pub state : ℕ
   pub kind : ℕ
   pub count : ℕ
   pub coefficients : List ℕ
   pub a : ℕ
   pub b : ℕ
   pub vendor : List ℕ
-  pub frame : List ℕ
+  pub output : List ℕ
 
 -- sdsl_frame_read: a frame, room for the coefficients' octets, for vendor data and for the reserved bits
 pub record ReadCall : Type 0 where
@@ -57,7 +59,7 @@ pub record RunCall : Type 0 where
   pub bits : ℕ
   pub output : List ℕ
 
--- sdsl_scramble_frame and sdsl_descramble_frame
+-- sdsl_descramble_frame
 pub record FrameCall : Type 0 where
   pub end : ℕ
   pub state : ℕ

@@ -7,7 +7,7 @@ use Rattle.recurrence.specs.Run.{Way}
 use Rattle.host.specs.declared.data.DataOverhead.{DataOverhead}
 use Rattle.host.specs.declared.receiving.Receiver.{Receiver}
 use Rattle.host.specs.declared.supervising.Supervisor.{Supervisor}
-use Rattle.demands.specs.Handed.{Outcome, None, WriteCall, ReadCall, Fields, Rooms, BitCall, RunCall, FrameCall, Line, WordsCall, EncodeCall, Symbol}
+use Rattle.demands.specs.Handed.{Outcome, None, SendCall, ReadCall, Fields, Rooms, BitCall, RunCall, FrameCall, Line, WordsCall, EncodeCall, Symbol}
 use Rattle.demands.specs.Handed.{EncodeRunCall, Codes, PrecodeCall, Signal}
 use Rattle.demands.specs.HandedData.{DataWriteCall, DataCrcCall, Sixes, DataCheckCall, DataReadCall}
 use Rattle.demands.specs.HandedEoc.{EocWriteCall, EocReadCall, EocFields, EocUnitsCall}
@@ -16,7 +16,7 @@ use Rattle.demands.specs.HandedCodes.{StartCall, StepCall, Shown, CodesC
 
 -- the functions of sdsl.h
 pub record Library : Type 0 where
-  pub write : WriteCall → Outcome None (List ℕ)
+  pub send : SendCall → Outcome None Line
   pub check : List ℕ → Outcome None None
   pub read : ReadCall → Outcome Fields Rooms
   pub data-write : DataWriteCall → Outcome ℕ (List ℕ)
@@ -29,7 +29,7 @@ pub record Library : Type 0 where
   pub scrambler-start : ℕ → Outcome None ℕ
   pub bit : Way → BitCall → Outcome ℕ ℕ
   pub run : Way → RunCall → Outcome None Line
-  pub frame : Way → FrameCall → Outcome None Line
+  pub descramble-frame : FrameCall → Outcome None Line
   pub receive-start : ℕ → Outcome GivenPlace Receiver
   pub receive : ReceiveCall → Outcome GivenPlace LineRooms
   pub activation : ℕ → Outcome ℤ None

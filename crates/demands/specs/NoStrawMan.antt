@@ -8,7 +8,8 @@ use Rattle.demands.specs.Handed.{Outcome, ReadCall, Fields, Rooms}
 use Rattle.demands.specs.Library.{Library}
 use Rattle.demands.specs.One.{One}
 use Rattle.demands.specs.Three.{supervisor}
-use Rattle.demands.specs.WrongLibraries.{Refuses, OneFrame, FrameUnwritten, CoefficientsUnwritten, VendorUnwritten, RunUnwritten, WholeUnwritten}
+use Rattle.demands.specs.WrongLibraries.{Refuses, OneFrame, SendsPlain, PlainOnce, StateKept, FrameUnwritten, CoefficientsUnwritten}
+use Rattle.demands.specs.WrongLibraries.{VendorUnwritten, RunUnwritten, WholeUnwritten}
 use Rattle.demands.specs.WrongLibraries.{HistoryUnwritten, CodesUnwritten, PrecodedUnwritten, DecodedUnwritten, CopiesTheRest, TurnsA, TurnsB}
 use Rattle.demands.specs.WrongData.{OneDataFrame, DataFrameUnwritten, PayloadUnwritten, OwnSix}
 use Rattle.demands.specs.WrongMessages.{OneForm, FormUnwritten, ContentsUnwritten, HandsAll, HandsNothing}
@@ -30,11 +31,14 @@ pub record OtherwiseAnswers {C N M : Type 0} (f : C → Outcome N M) (before : C
 pub record NoStrawMan : Type 1 where
   pub refuses : {C N M : Type 0} (before : C → M) (nothing : N) → (f : C → Outcome N M) × Refuses f × OtherwiseAnswers f before nothing
   pub one-frame : Built OneFrame
+  pub sends-plain : Built SendsPlain
+  pub plain-once : Built PlainOnce
+  pub state-kept : Built StateKept
   pub frame-unwritten : Built FrameUnwritten
   pub coefficients-unwritten : Built CoefficientsUnwritten
   pub vendor-unwritten : Built VendorUnwritten
   pub run-unwritten : (way : Way) → Built (RunUnwritten way)
-  pub whole-unwritten : (way : Way) → Built (WholeUnwritten way)
+  pub whole-unwritten : Built WholeUnwritten
   pub history-unwritten : Built HistoryUnwritten
   pub codes-unwritten : Built CodesUnwritten
   pub precoded-unwritten : Built PrecodedUnwritten

@@ -20,7 +20,7 @@ use Rattle.host.specs.Data.{overheadFor}
 use Rattle.host.specs.Supervising.{stateOf}
 use Rattle.demands.specs.Handed.{Outcome, none}
 use Rattle.demands.specs.Library.{Library}
-use Rattle.demands.specs.Checks.{writeChecks, readChecks, scramblerStartChecks, bitChecks, runChecks, frameChecks, encoderStartChecks, encodeChecks}
+use Rattle.demands.specs.Checks.{sendChecks, readChecks, scramblerStartChecks, bitChecks, runChecks, frameChecks, encoderStartChecks, encodeChecks}
 use Rattle.demands.specs.Checks.{dataWriteChecks, dataCrcChecks, dataCheckChecks, dataReadChecks}
 use Rattle.demands.specs.Checks.{eocWriteChecks, eocReadChecks, eocHandUpChecks, receiveStartChecks, receiveChecks}
 use Rattle.demands.specs.Checks.{encodeRunChecks, historyStartChecks, precodeChecks, startChecks, stepChecks, codesChecks}
@@ -43,7 +43,7 @@ InTheirOrder {C} order checks = (c : C) → inTurn order (checks c) ≡ true
 -- "Checks run in the order of these numbers": so it is of each function's list of checks. Those of data-mode frames and of operations channel
 -- messages have orders of their own (SCOPE, M32: "the order 1, 2, 4, 5, 9, 6, 7"; K: "1, 4, 10, 11, 12, 7"; theorem `ordered`)
 pub record Ordered : Type 0 where
-  pub write : InTheirOrder rising writeChecks
+  pub send : InTheirOrder rising sendChecks
   pub check : InTheirOrder rising checkRefusals
   pub read : InTheirOrder rising readChecks
   pub data-write : InTheirOrder dataOrder dataWriteChecks
@@ -56,7 +56,7 @@ pub record Ordered : Type 0 where
   pub scrambler-start : InTheirOrder rising scramblerStartChecks
   pub bit : InTheirOrder rising bitChecks
   pub run : InTheirOrder rising runChecks
-  pub frame : InTheirOrder rising frameChecks
+  pub descramble-frame : InTheirOrder rising frameChecks
   pub receive-start : InTheirOrder rising receiveStartChecks
   pub receive : InTheirOrder rising receiveChecks
   pub activation : InTheirOrder rising activationTests
@@ -75,7 +75,7 @@ pub record Ordered : Type 0 where
 -- THE DEMAND, function by function: its checks, what its memory holds before (for the start of a state: 0, or no state; for a receiver's the end that was
 -- handed in, and zeros), and the numbers that a refusal gives
 pub record One (x : Library) : Type 0 where
-  pub write : Answers (x .write) writeChecks (λ c. c .frame) none
+  pub send : Answers (x .send) sendChecks (λ c. record { state = c .state; output = c .output }) none
   pub check : Answers (x .check) checkRefusals (λ c. none) none
   pub read : Answers (x .read) readChecks (λ c. record { coefficients = c .coefficients; vendor = c .vendor; reserved = c .reserved })
       (record { kind = 0; a = 0; b = 0 })
@@ -89,7 +89,7 @@ pub record One (x : Library) : Type 0 where
   pub scrambler-start : Answers (x .scrambler-start) scramblerStartChecks (λ c. 0) none
   pub bit : (way : Way) → Answers (x .bit way) bitChecks (λ c. c .state) 0
   pub run : (way : Way) → Answers (x .run way) runChecks (λ c. record { state = c .state; output = c .output }) none
-  pub frame : (way : Way) → Answers (x .frame way) frameChecks (λ c. record { state = c .state; output = c .output }) none
+  pub descramble-frame : Answers (x .descramble-frame) frameChecks (λ c. record { state = c .state; output = c .output }) none
   pub receive-start : Answers (x .receive-start) receiveStartChecks (λ c. record { end = c; heard = 0; from = 0 }) (record { given = 0; place = 0 })
   pub receive : Answers (x .receive) receiveChecks (λ c. record { state = c .state; line = c .line; frame = c .frame }) (record { given = 0; place = 0 })
   pub activation : Answers (x .activation) activationTests (λ c. none) (pos 0)

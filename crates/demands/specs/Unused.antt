@@ -10,7 +10,7 @@ NeverEight {C} f = (c : C) → f c .answer ≡ 8 → ⊥
 
 -- no function of a library does (theorem `eight-unused`: of every library that meets demand 1)
 pub record EightUnused (x : Library) : Type 0 where
-  pub write : NeverEight (x .write)
+  pub send : NeverEight (x .send)
   pub check : NeverEight (x .check)
   pub read : NeverEight (x .read)
   pub data-write : NeverEight (x .data-write)
@@ -23,7 +23,7 @@ pub record EightUnused (x : Library) : Type 0 where
   pub scrambler-start : NeverEight (x .scrambler-start)
   pub bit : (way : Way) → NeverEight (x .bit way)
   pub run : (way : Way) → NeverEight (x .run way)
-  pub frame : (way : Way) → NeverEight (x .frame way)
+  pub descramble-frame : NeverEight (x .descramble-frame)
   pub receive-start : NeverEight (x .receive-start)
   pub receive : NeverEight (x .receive)
   pub activation : NeverEight (x .activation)

@@ -6,7 +6,7 @@ use Prim.Native.Nat.{ℕ}
 use lib.IntN.{ℤ}
 use Rattle.recurrence.specs.Run.{Way}
 use Rattle.demands.specs.Library.{Library}
-use Rattle.demands.specs.Handed.{WriteCall, ReadCall, BitCall, RunCall, FrameCall, WordsCall, EncodeCall, EncodeRunCall, PrecodeCall}
+use Rattle.demands.specs.Handed.{SendCall, ReadCall, BitCall, RunCall, FrameCall, WordsCall, EncodeCall, EncodeRunCall, PrecodeCall}
 use Rattle.demands.specs.HandedData.{DataWriteCall, DataCrcCall, DataCheckCall, DataReadCall}
 use Rattle.demands.specs.HandedEoc.{EocWriteCall, EocReadCall, EocUnitsCall}
 use Rattle.demands.specs.HandedLine.{ReceiveCall}
@@ -16,7 +16,7 @@ use Rattle.demands.specs.Contracts.{KeepsFor, Keeps}
 
 -- two libraries give the same for the calls that are meant
 pub record SameFor (calls : Calls) (x y : Library) : Type 0 where
-  pub write : (c : WriteCall) → calls .write c ≡ true → x .write c ≡ y .write c
+  pub send : (c : SendCall) → calls .send c ≡ true → x .send c ≡ y .send c
   pub check : (frame : List ℕ) → calls .check frame ≡ true → x .check frame ≡ y .check frame
   pub read : (c : ReadCall) → calls .read c ≡ true → x .read c ≡ y .read c
   pub data-write : (c : DataWriteCall) → calls .data-write c ≡ true → x .data-write c ≡ y .data-write c
@@ -29,7 +29,7 @@ pub record SameFor (calls : Calls) (x y : Library) : Type 0 where
   pub scrambler-start : (end : ℕ) → calls .scrambler-start end ≡ true → x .scrambler-start end ≡ y .scrambler-start end
   pub bit : (way : Way) (c : BitCall) → calls .bit c ≡ true → x .bit way c ≡ y .bit way c
   pub run : (way : Way) (c : RunCall) → calls .run c ≡ true → x .run way c ≡ y .run way c
-  pub frame : (way : Way) (c : FrameCall) → calls .frame c ≡ true → x .frame way c ≡ y .frame way c
+  pub descramble-frame : (c : FrameCall) → calls .descramble-frame c ≡ true → x .descramble-frame c ≡ y .descramble-frame c
   pub receive-start : (end : ℕ) → calls .receive-start end ≡ true → x .receive-start end ≡ y .receive-start end
   pub receive : (c : ReceiveCall) → calls .receive c ≡ true → x .receive c ≡ y .receive c
   pub activation : (bit : ℕ) → calls .activation bit ≡ true → x .activation bit ≡ y .activation bit

@@ -9,25 +9,43 @@ use Rattle.layout.specs.Frame.{fieldOf}
 use Rattle.recurrence.specs.Line.{Scrambles}
 use Rattle.recurrence.specs.Run.{Way, scramble}
 use Rattle.scrambler.specs.Ends.{tapOf}
-use Rattle.scrambler.specs.Promises.{given}
-use Rattle.demands.specs.Handed.{Outcome, WriteCall, ReadCall, RunCall}
+use Rattle.scrambler.specs.Promises.{given, frameOut}
+use Rattle.demands.specs.Handed.{Outcome, SendCall, ReadCall, RunCall}
 use Rattle.demands.specs.Library.{Library}
+use Rattle.demands.specs.Checks.{frameOf, sendChecks}
+use Rattle.demands.specs.Frames.{Right}
 
 -- a function that refuses everything
 abbrev pub Refuses : {C N M : Type 0} → (C → Outcome N M) → Type 0
 Refuses {C} f = (c : C) → f c .answer ≡ 0 → ⊥
 
--- a writer that returns one frame always
+-- a sender that returns one frame always: from an end and a state, the same whatever the fields are
 abbrev pub OneFrame : Library → Type 0
-OneFrame x = (frame : List ℕ) × ((c : WriteCall) → x .write c .answer ≡ 0 → x .write c .memory ≡ frame)
+OneFrame x =
+    (c d : SendCall) → c .end ≡ d .end → c .state ≡ d .state → x .send c .answer ≡ 0 → x .send d .answer ≡ 0
+    → x .send c .memory .output ≡ x .send d .memory .output
+
+-- one that sends the frame as it is written, unscrambled: the fault of the spring
+abbrev pub SendsPlain : Library → Type 0
+SendsPlain x = (c : SendCall) → x .send c .answer ≡ 0 → x .send c .memory .output ≡ frameOf c
+
+-- one that does so once, with a frame whose scrambled form is another
+abbrev pub PlainOnce : Library → Type 0
+PlainOnce x =
+    (c : SendCall) × Right (sendChecks c) × (frameOut scramble (record { end = c .end; state = c .state }) (frameOf c) ≡ frameOf c → ⊥)
+    × (x .send c .memory .output ≡ frameOf c)
+
+-- one that hands the old state back
+abbrev pub StateKept : Library → Type 0
+StateKept x = (c : SendCall) → x .send c .answer ≡ 0 → x .send c .memory .state ≡ c .state
 
 -- a function that leaves an output unwritten: afterwards it holds what it held
 abbrev pub Unwritten : {C N M A : Type 0} → (C → Outcome N M) → (M → A) → (C → A) → Type 0
 Unwritten {C} f output before = (c : C) → f c .answer ≡ 0 → output (f c .memory) ≡ before c
 
--- the writer's frame
+-- the sender's frame
 abbrev pub FrameUnwritten : Library → Type 0
-FrameUnwritten x = Unwritten (x .write) (λ m. m) (λ c. c .frame)
+FrameUnwritten x = Unwritten (x .send) (λ m. m .output) (λ c. c .output)
 
 -- the reader's coefficients
 abbrev pub CoefficientsUnwritten : Library → Type 0
@@ -41,9 +59,9 @@ VendorUnwritten x = Unwritten (x .read) (λ m. m .vendor) (λ c. c .vendor)
 abbrev pub RunUnwritten : Way → Library → Type 0
 RunUnwritten way x = Unwritten (x .run way) (λ m. m .output) (λ c. c .output)
 
--- and for a whole frame
-abbrev pub WholeUnwritten : Way → Library → Type 0
-WholeUnwritten way x = Unwritten (x .frame way) (λ m. m .output) (λ c. c .output)
+-- and a descrambler for a whole frame
+abbrev pub WholeUnwritten : Library → Type 0
+WholeUnwritten x = Unwritten (x .descramble-frame) (λ m. m .output) (λ c. c .output)
 
 -- the history of a start
 abbrev pub HistoryUnwritten : Library → Type 0
@@ -80,13 +98,13 @@ TurnsB x = (c : ReadCall) → x .read c .answer ≡ 0 → x .read c .numbers .ki
 
 -- a library is none of these (theorem `rejected-by-two`: none that meets demand 2 is)
 pub record RejectedByTwo (x : Library) : Type 0 where
-  pub refuses-writing : Refuses (x .write) → ⊥
+  pub refuses-sending : Refuses (x .send) → ⊥
   pub refuses-checking : Refuses (x .check) → ⊥
   pub refuses-reading : Refuses (x .read) → ⊥
   pub refuses-scrambler-starts : Refuses (x .scrambler-start) → ⊥
   pub refuses-bits : (way : Way) → Refuses (x .bit way) → ⊥
   pub refuses-runs : (way : Way) → Refuses (x .run way) → ⊥
-  pub refuses-frames : (way : Way) → Refuses (x .frame way) → ⊥
+  pub refuses-frames : Refuses (x .descramble-frame) → ⊥
   pub refuses-activation : Refuses (x .activation) → ⊥
   pub refuses-levels : Refuses (x .level) → ⊥
   pub refuses-codes : Refuses (x .code) → ⊥
@@ -98,11 +116,14 @@ pub record RejectedByTwo (x : Library) : Type 0 where
   pub refuses-decoding : Refuses (x .decode) → ⊥
   pub refuses-shaping : Refuses (x .shape) → ⊥
   pub one-frame : OneFrame x → ⊥
+  pub sends-plain : SendsPlain x → ⊥
+  pub plain-once : PlainOnce x → ⊥
+  pub state-kept : StateKept x → ⊥
   pub frame-unwritten : FrameUnwritten x → ⊥
   pub coefficients-unwritten : CoefficientsUnwritten x → ⊥
   pub vendor-unwritten : VendorUnwritten x → ⊥
   pub run-unwritten : (way : Way) → RunUnwritten way x → ⊥
-  pub whole-unwritten : (way : Way) → WholeUnwritten way x → ⊥
+  pub whole-unwritten : WholeUnwritten x → ⊥
   pub history-unwritten : HistoryUnwritten x → ⊥
   pub codes-unwritten : CodesUnwritten x → ⊥
   pub precoded-unwritten : PrecodedUnwritten x → ⊥

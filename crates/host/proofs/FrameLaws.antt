@@ -1,43 +1,24 @@
--- From the promises of writer and reader to the exported ones. Assumes nothing.
+-- From reader's promise to the exported one. Assumes nothing.
 use mathlib.Core.Path.{_≡_, refl, sym, ap, _∙_, subst}
-use mathlib.Core.Bool.{Bool, true, false, cond, not}
-use mathlib.Core.List.{List, _∷_}
+use mathlib.Core.Bool.{Bool, true, false, cond}
+use mathlib.Core.List.{List}
 use Prim.Native.Nat.{ℕ, zero, suc}
 use native.Mathlib.Omega.{arith}
 use borrow.Author.Tests.{eq-eqb}
-use lib.Dec.{eqb}
 use lib.IntN.{ℤ}
 use lib.ListN.{length}
-use Rattle.answer.specs.Answer.{wrongLength, answer, held}
-use Rattle.answer.proofs.Laws.{none, kept, given}
+use Rattle.answer.specs.Answer.{answer, held}
+use Rattle.answer.proofs.Laws.{kept, given}
 use Rattle.octets.specs.Bits.{valueOf, bitsOf}
 use Rattle.octets.proofs.Numbers.{numbers-length}
 use Rattle.layout.specs.Places.{coefficientsField, aField, bField}
 use Rattle.layout.specs.Frame.{trainingSync, fieldOf, coefficientsOf}
-use Rattle.layout.specs.Refusals.{hasSync, writeRefusals, readRefusals}
+use Rattle.layout.specs.Refusals.{hasSync, readRefusals}
 use Rattle.numbers.specs.Promises.{numbersOf, numberOctets, NumbersPut}
 use Rattle.numbers.proofs.Laws.{put-whole}
-use Rattle.writer.specs.Promises.{frameOctets}
-use Rattle.writer.proofs.Promise.{written}
 use Rattle.reader.specs.declared.Found.{Found}
 use Rattle.reader.specs.Promises.{foundOf, coefficientsLeft, vendorOctets, reservedLeft, Read}
-use Rattle.host.specs.Frames.{FrameWritten, frameReadRefusals, fieldsOf, coefficientOctets, FrameRead}
-
--- ---- writing
-
--- the answer and the octets are the whole promise
-pub frame-written : {kind count : ℕ} {os : List ℕ} {a b : ℕ} {vendor frame : List ℕ} {r : ℕ} {exit : List ℕ}
-    → r ≡ answer (wrongLength os 720 ∷ writeRefusals kind count (numbersOf os) a b vendor frame)
-    → exit ≡ held r frame (frameOctets kind count (numbersOf os) a b vendor) → FrameWritten kind count os a b vendor frame r exit
-frame-written {kind} {count} {os} {a} {b} {vendor} {frame} {r} e f =
-    record {
-      answered = e;
-      left = f;
-      check-right = λ z.
-          let R = writeRefusals kind count (numbersOf os) a b vendor frame in
-          let none-refuses = z ∙ sym (none 0 (not (eqb (length os) 720)) R (sym e ∙ z) .1) in
-          written {kind = kind} {count = count} {cs = numbersOf os} {a = a} {b = b} none-refuses f .check-right z;
-    }
+use Rattle.host.specs.Frames.{frameReadRefusals, fieldsOf, coefficientOctets, FrameRead}
 
 -- ---- reading
 

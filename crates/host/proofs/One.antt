@@ -5,9 +5,8 @@ use mathlib.Core.List.{List, [], _∷_}
 use Prim.Native.Nat.{ℕ}
 use lib.IntN.{ℤ}
 use Rattle.answer.specs.Answer.{wrongLength, held, inOrder}
-use Rattle.layout.specs.Refusals.{writeRefusals}
 use Rattle.numbers.specs.Promises.{numbersOf, numberOctets}
-use Rattle.writer.specs.Promises.{frameOctets}
+use Rattle.sender.specs.Promises.{frameOctets}
 use Rattle.symbol.proofs.One.{activation-level-one, data-level-one, level-code-one, start-one as encoder-start-one, step-one, run-one}
 use Rattle.samples.specs.Samples.{atStart}
 use Rattle.samples.proofs.One.{shaper-one}
@@ -22,26 +21,33 @@ use Rattle.host.specs.declared.symbols.Shaped.{Shaped}
 use Rattle.host.specs.declared.supervising.Supervisor.{Supervisor}
 use Rattle.host.specs.declared.supervising.Stepped.{Stepped}
 use Rattle.host.specs.declared.supervising.Run.{Run}
-use Rattle.host.specs.Frames.{FrameWritten, FrameRead, frameReadRefusals}
+use Rattle.host.specs.Frames.{FrameRead, frameReadRefusals}
 use Rattle.host.specs.Symbols.{ActivationLevelGiven, DataLevelGiven, CodeGiven, EncoderStarted, SymbolEncoded, SymbolsEncoded}
 use Rattle.host.specs.Symbols.{HistoryStarted, SampleShaped, asLevel, encoder}
 use Rattle.host.specs.Supervising.{Started, StateStepped, CodesRun}
-use Rattle.recurrence.specs.Run.{Way}
+use Rattle.recurrence.specs.Run.{Way, scramble, descramble, afterOf}
+use Rattle.scrambler.specs.Ends.{tapOf}
+use Rattle.scrambler.specs.Promises.{clocked, frameOut}
+use Rattle.host.specs.Sending.{frameSendRefusals, FrameSent}
 use Rattle.scrambler.proofs.One.{start-one, step-one as bit-one, run-one as scrambler-run-one, frame-one}
 use Rattle.host.specs.declared.scrambling.Scrambled.{Scrambled}
 use Rattle.host.specs.declared.scrambling.ScrambledBit.{ScrambledBit}
-use Rattle.host.specs.Scrambling.{crossing, bitCrossing, ScramblerStarted, BitScrambled, ScrambledRun, ScrambledFrame}
+use Rattle.host.specs.Scrambling.{crossing, bitCrossing, ScramblerStarted, BitScrambled, ScrambledRun, FrameDescrambled}
 
-module _ (kind count : ℕ) (os : List ℕ) (a b : ℕ) (vendor frame : List ℕ) where
-  pub sdsl-frame-write-one : (r r′ : ℕ) (t t′ : List ℕ)
-      → FrameWritten kind count os a b vendor frame r t → FrameWritten kind count os a b vendor frame r′ t′ → (r ≡ r′) × (t ≡ t′)
-  sdsl-frame-write-one r r′ t t′ p q =
-      let e : r ≡ r′ = p .answered ∙ sym (q .answered) in
-      (e, p .left ∙ ap (λ (n : ℕ). held n frame (frameOctets kind count (numbersOf os) a b vendor)) e ∙ sym (q .left))
+module _ (end state kind count : ℕ) (os : List ℕ) (a b : ℕ) (vendor frame : List ℕ) where
+  pub sdsl-frame-send-one : (r r′ : Scrambled) (t t′ : List ℕ) → FrameSent end state kind count os a b vendor frame r t
+      → FrameSent end state kind count os a b vendor frame r′ t′ → (r ≡ r′) × (t ≡ t′)
+  sdsl-frame-send-one r r′ t t′ p q =
+      let F = frameOctets kind count (numbersOf os) a b vendor in
+      let e : r .answer ≡ r′ .answer = p .answered ∙ sym (q .answered) in
+      let n : r .state ≡ r′ .state = p .next ∙ ap (λ (k : ℕ). held k state (afterOf scramble (tapOf end) state (clocked F))) e ∙ sym (q .next) in (
+        λ i. record { answer = e i; state = n i },
+        p .left ∙ ap (λ (k : ℕ). held k frame (frameOut scramble (record { end = end; state = state }) F)) e ∙ sym (q .left),
+      )
 
-  pub frame-write-order : inOrder 1 (wrongLength os 720 ∷ writeRefusals kind count (numbersOf os) a b vendor frame) ≡ true
+  pub frame-send-order : inOrder 1 (frameSendRefusals end state kind count os a b vendor frame) ≡ true
   unfolding inOrder
-  frame-write-order = refl
+  frame-send-order = refl
 
 module _ (frame os vendor reserved : List ℕ) where
   pub sdsl-frame-read-one : (r r′ : FrameFields) (d d′ v v′ s s′ : List ℕ) → FrameRead frame os vendor reserved r d v s
@@ -139,9 +145,8 @@ sdsl-scramble-one way end state input bits output r r′ t t′ p q =
     let e = scrambler-run-one way (record { end = end; state = state }) input bits output (p .ran) (q .ran) t t′ (p .promise) (q .promise) in
     (p .crossed ∙ ap crossing (e .0) ∙ sym (q .crossed), e .1)
 
--- sdsl_scramble_frame and sdsl_descramble_frame
-pub sdsl-scramble-frame-one : (way : Way) (end state : ℕ) (frame output : List ℕ) (r r′ : Scrambled) (t t′ : List ℕ)
-    → ScrambledFrame way end state frame output r t → ScrambledFrame way end state frame output r′ t′ → (r ≡ r′) × (t ≡ t′)
-sdsl-scramble-frame-one way end state frame output r r′ t t′ p q =
-    let e = frame-one way (record { end = end; state = state }) frame output (p .ran) (q .ran) t t′ (p .promise) (q .promise) in
+pub sdsl-descramble-frame-one : (end state : ℕ) (frame output : List ℕ) (r r′ : Scrambled) (t t′ : List ℕ)
+    → FrameDescrambled end state frame output r t → FrameDescrambled end state frame output r′ t′ → (r ≡ r′) × (t ≡ t′)
+sdsl-descramble-frame-one end state frame output r r′ t t′ p q =
+    let e = frame-one descramble (record { end = end; state = state }) frame output (p .ran) (q .ran) t t′ (p .promise) (q .promise) in
     (p .crossed ∙ ap crossing (e .0) ∙ sym (q .crossed), e .1)

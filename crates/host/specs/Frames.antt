@@ -1,4 +1,4 @@
--- What the exported frame functions promise: those of writer and reader, with the coefficients as 720 octets.
+-- What reading a frame promises: what reader promises, with the coefficients as 720 octets.
 use mathlib.Core.Path.{_≡_}
 use mathlib.Core.Bool.{cond}
 use mathlib.Core.List.{List, _∷_}
@@ -7,18 +7,11 @@ use Rattle.layout.specs.Places.{vendorLength, reservedLength, frameLength}
 use Rattle.answer.specs.Answer.{Refusal, wrongLength, answer, held}
 use Rattle.octets.specs.Bits.{bitsOf}
 use Rattle.layout.specs.Frame.{trainingSync, coefficientsOf}
-use Rattle.layout.specs.Refusals.{hasSync, RightCheck, writeRefusals, bitRefusals}
+use Rattle.layout.specs.Refusals.{hasSync, bitRefusals}
 use Rattle.numbers.specs.Promises.{coefficientsLength, numbersOf, numberOctets}
-use Rattle.writer.specs.Promises.{frameOctets}
 use Rattle.reader.specs.declared.Found.{Found}
 use Rattle.reader.specs.Promises.{foundOf, vendorOctets, reservedLeft}
 use Rattle.host.specs.declared.frames.FrameFields.{FrameFields}
-
--- sdsl_frame_write: the answer, and the frame written, or as it was; the check bits of what was written are the remainder of its message
-pub record FrameWritten (kind count : ℕ) (os : List ℕ) (a b : ℕ) (vendor frame : List ℕ) (r : ℕ) (exit : List ℕ) : Type 0 where
-  pub answered : r ≡ answer (wrongLength os coefficientsLength ∷ writeRefusals kind count (numbersOf os) a b vendor frame)
-  pub left : exit ≡ held r frame (frameOctets kind count (numbersOf os) a b vendor)
-  pub check-right : r ≡ 0 → RightCheck (bitsOf exit)
 
 -- reading refuses a wrong length before anything else
 abbrev pub frameReadRefusals : List ℕ → List ℕ → List ℕ → List ℕ → List Refusal

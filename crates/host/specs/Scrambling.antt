@@ -4,7 +4,7 @@ use mathlib.Core.List.{List}
 use Prim.Native.Nat.{ℕ}
 use Rattle.scrambler.specs.declared.Ran.{Ran}
 use Rattle.scrambler.specs.declared.Step.{Step}
-use Rattle.recurrence.specs.Run.{Way}
+use Rattle.recurrence.specs.Run.{Way, descramble}
 use Rattle.scrambler.specs.Promises.{StartPromise, StepPromise, RunPromise, FramePromise}
 use Rattle.host.specs.declared.scrambling.Scrambled.{Scrambled}
 use Rattle.host.specs.declared.scrambling.ScrambledBit.{ScrambledBit}
@@ -35,8 +35,8 @@ pub record ScrambledRun (way : Way) (end state : ℕ) (input : List ℕ) (bits :
   pub crossed : r ≡ crossing ran
   pub promise : RunPromise way (record { end = end; state = state }) input bits output ran exit
 
--- sdsl_scramble_frame, sdsl_descramble_frame
-pub record ScrambledFrame (way : Way) (end state : ℕ) (frame output : List ℕ) (r : Scrambled) (exit : List ℕ) : Type 0 where
+-- sdsl_descramble_frame
+pub record FrameDescrambled (end state : ℕ) (frame output : List ℕ) (r : Scrambled) (exit : List ℕ) : Type 0 where
   pub ran : Ran
   pub crossed : r ≡ crossing ran
-  pub promise : FramePromise way (record { end = end; state = state }) frame output ran exit
+  pub promise : FramePromise descramble (record { end = end; state = state }) frame output ran exit

@@ -1,9 +1,9 @@
-// Activation frames for C: coefficients are 720 octets, four each, low octet first.
-ghost use Rattle.host.specs.Frames.{FrameWritten, FrameRead};
+// Activation frames for C, as they are once descrambled: coefficients are 720 octets, four each, low octet first.
+ghost use Rattle.host.specs.Frames.{FrameRead};
 ghost use Rattle.checker.specs.Promises.{Checked};
 
 // A coefficient buffer's octets.
-const COEFFICIENT_OCTETS: usize = 720;
+pub const COEFFICIENT_OCTETS: usize = 720;
 
 // What reading a frame gives.
 #[repr(C)]
@@ -12,26 +12,6 @@ pub struct FrameFields {
     pub kind: u32,
     pub a: u32,
     pub b: u32,
-}
-
-// Writes a frame of either kind.
-#[no_mangle]
-pub extern "C" fn sdsl_frame_write(
-    kind: u32,
-    count: u32,
-    coefficients: &[u8],
-    a: u32,
-    b: u32,
-    vendor: &[u8],
-    frame: &mut [u8],
-) -> u32
-    ensures { λ r. ⌜ FrameWritten kind count (now (coefficients .entry)) a b (now (vendor .entry)) (now (frame .entry)) r (now (frame .exit)) ⌝ }
-{
-    if coefficients.len() != COEFFICIENT_OCTETS {
-        return answer::LENGTH;
-    }
-    let cs = numbers::numbers(coefficients);
-    writer::write(kind, count, &cs, a, b, vendor, frame)
 }
 
 // What is wrong with a frame, or 0.

@@ -4,5 +4,6 @@ mod data;
 mod frames;
 mod receiving;
 mod scrambling;
+mod sending;
 mod supervising;
 mod symbols;

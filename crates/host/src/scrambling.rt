@@ -1,6 +1,6 @@
 // The scrambler for C: the answer and the next state together; a refused call hands the state back equal.
 ghost use Rattle.recurrence.specs.Run.{scramble, descramble};
-ghost use Rattle.host.specs.Scrambling.{ScramblerStarted, BitScrambled, ScrambledRun, ScrambledFrame};
+ghost use Rattle.host.specs.Scrambling.{ScramblerStarted, BitScrambled, ScrambledRun, FrameDescrambled};
 use scrambler::Scrambler;
 
 // The answer, and the state to go on with.
@@ -97,24 +97,6 @@ pub extern "C" fn sdsl_descramble(
     }
 }
 
-// Scrambles a whole frame.
-#[no_mangle]
-pub extern "C" fn sdsl_scramble_frame(
-    end: u32,
-    state: u32,
-    frame: &[u8],
-    output: &mut [u8],
-) -> Scrambled
-    ensures { λ r. ⌜ ScrambledFrame scramble end state (now (frame .entry)) (now (output .entry)) r (now (output .exit)) ⌝ }
-{
-    let ran = Scrambler { end, state }.scramble_frame(frame, output);
-    let next = ran.next;
-    Scrambled {
-        answer: ran.answer,
-        state: next.state,
-    }
-}
-
 // Descrambles a whole frame.
 #[no_mangle]
 pub extern "C" fn sdsl_descramble_frame(
@@ -123,7 +105,7 @@ pub extern "C" fn sdsl_descramble_frame(
     frame: &[u8],
     output: &mut [u8],
 ) -> Scrambled
-    ensures { λ r. ⌜ ScrambledFrame descramble end state (now (frame .entry)) (now (output .entry)) r (now (output .exit)) ⌝ }
+    ensures { λ r. ⌜ FrameDescrambled end state (now (frame .entry)) (now (output .entry)) r (now (output .exit)) ⌝ }
 {
     let ran = Scrambler { end, state }.descramble_frame(frame, output);
     let next = ran.next;

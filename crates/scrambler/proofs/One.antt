@@ -12,6 +12,9 @@ use Rattle.scrambler.specs.declared.Step.{Step}
 use Rattle.scrambler.specs.declared.Ran.{Ran}
 use Rattle.scrambler.specs.Promises.{StartPromise, stepRefusals, StepPromise, runRefusals, RunPromise, frameRefusals, clocked, frameOut, FramePromise}
 
+pub tap-one : (end r r′ : ℕ) → r ≡ tapOf end → r′ ≡ tapOf end → r ≡ r′
+tap-one end r r′ p q = p ∙ sym q
+
 pub start-one : (end : ℕ) (r r′ : Ran) → StartPromise end r → StartPromise end r′ → r ≡ r′
 start-one end r r′ p q = p ∙ sym q
 
@@ -41,7 +44,7 @@ module _ (way : Way) (x : Scrambler) (input : List ℕ) (bits : ℕ) (output : L
   unfolding inOrder
   run-order = refl
 
--- scramble_frame and descramble_frame
+-- descramble_frame
 module _ (way : Way) (x : Scrambler) (frame output : List ℕ) where
   pub frame-one : (r r′ : Ran) (t t′ : List ℕ) → FramePromise way x frame output r t → FramePromise way x frame output r′ t′ → (r ≡ r′) × (t ≡ t′)
   frame-one r r′ t t′ p q =

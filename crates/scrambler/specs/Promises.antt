@@ -63,7 +63,7 @@ frameRefusals x frame output =
 abbrev pub clocked : List ℕ → List ℕ
 clocked frame = part (placeOf coefficientsField) (placeOf padField - placeOf coefficientsField) (bitsOf frame)
 
--- Scrambler::clocked, which no public promise names: sync is laid into the output, and the line's run behind it
+-- for Scrambler::clocked and the sender, and no public promise names it: sync is laid into the output, and the line's run behind it
 pub record ClockedPromise (way : Way) (x : Scrambler) (frame output : List ℕ) (r : Ran) (exit : List ℕ) : Type 0 where
   pub same : r .next .end ≡ x .end
   pub ran : OnLine.RunPromise way (tapOf (x .end)) (x .state) frame (placeOf coefficientsField) (placeOf padField - placeOf coefficientsField)
@@ -77,7 +77,7 @@ around frame bits = octetsOf frameLength (fieldOf syncField (bitsOf frame) ++ (b
 abbrev pub frameOut : Way → Scrambler → List ℕ → List ℕ
 frameOut way x frame = around frame (runOf way (tapOf (x .end)) (x .state) (clocked frame))
 
--- Scrambler::scramble_frame and Scrambler::descramble_frame
+-- what a whole frame comes to in a direction: Scrambler::descramble_frame's promise, and what sending a frame is built of
 pub record FramePromise (way : Way) (x : Scrambler) (frame output : List ℕ) (r : Ran) (exit : List ℕ) : Type 0 where
   pub answered : r .answer ≡ answer (frameRefusals x frame output)
   pub next : r .next ≡ record { end = x .end; state = held (r .answer) (x .state) (afterOf way (tapOf (x .end)) (x .state) (clocked frame)) }

@@ -1,4 +1,4 @@
-// The scrambler (SCOPE, "Scrambler"; 002, clause 7.1.6): an end's tap and state; a bit at a time, runs of bits and whole frames; and back.
+// The scrambler (SCOPE, "Scrambler"; 002, clause 7.1.6): an end's tap and state; a bit at a time and runs of bits; and back, whole frames too.
 ghost use mathlib.Core.Path.{_≡_};
 ghost use Rattle.answer.specs.Answer.{answer};
 ghost use Rattle.recurrence.specs.Run.{scramble, descramble, wayOf};
@@ -27,8 +27,8 @@ pub struct Ran {
     pub next: Scrambler,
 }
 
-// The tap of an end that is known.
-fn tap(end: u32) -> u32
+// The tap of an end. An end that is neither has been refused before.
+pub fn tap(end: u32) -> u32
     ensures { λ r. ⌜ r ≡ tapOf end ⌝ }
 {
     if end == Scrambler::LTU {
@@ -197,14 +197,14 @@ impl Scrambler {
         answer::DONE
     }
 
-    // A frame's sync straight through, and the line's run over the bits between sync and pad.
-    fn clocked(self, back: bool, frame: &[u8], output: &mut [u8]) -> Ran
-        ensures { λ r. ⌜ ClockedPromise (wayOf back) self (now (frame .entry)) (now (output .entry)) r (now (output .exit)) ⌝ }
+    // A frame's sync straight through, and the line's run over the bits between sync and pad, descrambled.
+    fn clocked(self, frame: &[u8], output: &mut [u8]) -> Ran
+        ensures { λ r. ⌜ ClockedPromise descramble self (now (frame .entry)) (now (output .entry)) r (now (output .exit)) ⌝ }
     {
         let end = self.end;
         octets::copy(output, 0, frame, 0, layout::SYNC_BITS);
         let ran = recurrence::run(
-            back,
+            true,
             tap(end),
             self.state,
             frame,
@@ -221,9 +221,9 @@ impl Scrambler {
         }
     }
 
-    // A whole frame in either direction: the pad is zero.
-    fn frame(self, back: bool, frame: &[u8], output: &mut [u8]) -> Ran
-        ensures { λ r. ⌜ FramePromise (wayOf back) self (now (frame .entry)) (now (output .entry)) r (now (output .exit)) ⌝ }
+    // A whole frame descrambled: the pad is zero. Only crate `sender` scrambles one, as it sends it.
+    pub fn descramble_frame(self, frame: &[u8], output: &mut [u8]) -> Ran
+        ensures { λ r. ⌜ FramePromise descramble self (now (frame .entry)) (now (output .entry)) r (now (output .exit)) ⌝ }
     {
         let n = self.frame_refusal(frame, output);
         if n != answer::DONE {
@@ -232,22 +232,8 @@ impl Scrambler {
                 next: self,
             };
         }
-        let ran = self.clocked(back, frame, output);
+        let ran = self.clocked(frame, output);
         octets::clear(output, layout::PAD_AT, layout::PAD_BITS);
         ran
-    }
-
-    // A whole frame scrambled.
-    pub fn scramble_frame(self, frame: &[u8], output: &mut [u8]) -> Ran
-        ensures { λ r. ⌜ FramePromise scramble self (now (frame .entry)) (now (output .entry)) r (now (output .exit)) ⌝ }
-    {
-        self.frame(false, frame, output)
-    }
-
-    // A whole frame descrambled.
-    pub fn descramble_frame(self, frame: &[u8], output: &mut [u8]) -> Ran
-        ensures { λ r. ⌜ FramePromise descramble self (now (frame .entry)) (now (output .entry)) r (now (output .exit)) ⌝ }
-    {
-        self.frame(true, frame, output)
     }
 }

@@ -1,6 +1,6 @@
 -- `scrambler::Scrambler::clocked` meets its contract.
 use borrow.Author.Needs.{needs}
-use Rattle.recurrence.specs.Run.{wayOf}
+use Rattle.recurrence.specs.Run.{descramble}
 use Rattle.scrambler.proofs.Laws.{frame-clocked}
 use Rattle.scrambler.proofs.Scrambler.clocked.Statement.{statement}
 use Rattle.scrambler.proofs.Scrambler.clocked.Tie as tie
@@ -23,7 +23,7 @@ returns c =
     let t = c .before .before .before .before .tap in
     let z = c .before .before .before .before .before .before .before in
     let a = z .before .before .before .before .args in
-    frame-clocked (a .self) (a .frame .now) (a .output .now) (wayOf (a .back)) (t .result) (r .result) (z .copy .last .0)
+    frame-clocked (a .self) (a .frame .now) (a .output .now) descramble (t .result) (r .result) (z .copy .last .0)
     (r .last .1 .1 .1 .1 .1 .1 .0) (t .ensures) (z .copy .ensures) (r .ensures)
 
 pub clocked-spec : {M : Type 1} → statement M
