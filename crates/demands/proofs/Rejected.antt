@@ -2,21 +2,19 @@
 use mathlib.Core.Path.{_≡_, refl, sym, ap, _∙_}
 use mathlib.Core.Bool.{not}
 use mathlib.Core.List.{List, [], _∷_, reverse}
-use Prim.Native.Nat.{ℕ, zero, suc, _<_}
+use Prim.Native.Nat.{ℕ, zero, suc}
 use native.Mathlib.Omega.{arith}
 use borrow.Author.Tests.{eq-eqb}
 use lib.Dec.{lit≤}
 use lib.IntN.{ℤ, pos}
-use lib.ListN.{length, drop, getD, replicate, length-drop, length-replicate}
-use lib.Seq.{length-take-le}
+use lib.ListN.{length, drop, getD, replicate, length-replicate}
 use Rattle.answer.specs.Answer.{answer}
 use Rattle.answer.proofs.Laws.{passed}
 use Rattle.octets.specs.Bits.{digitsOf, valueOf, bitsOf, octetsOf, part, laid}
 use Rattle.octets.specs.Signed.{signedOf, twosOf, numberBits, numbersIn}
-use Rattle.octets.proofs.Digits.{Bits, take-bits, drop-bits}
-use Rattle.octets.proofs.Laws.{bits-bits, bits-length, octets-length}
+use Rattle.octets.proofs.Digits.{take-bits}
+use Rattle.octets.proofs.Laws.{bits-bits, octets-length}
 use Rattle.layout.specs.Places.{aField, bField}
-use Rattle.remainder.specs.Division.{checkBits}
 use Rattle.remainder.specs.Register.{registerOf}
 use Rattle.layout.specs.Frame.{trainingSync, finalSync, used, message, frameBits, trainingBits, finalBits, fieldOf}
 use Rattle.layout.specs.Refusals.{bitRefusals, checkRefusals}
@@ -24,7 +22,7 @@ use Rattle.layout.proofs.Laws.{used-length, training-length}
 use Rattle.layout.proofs.Fields.{a-field, b-field}
 use Rattle.layout.proofs.RoundTrip.{training-laid, final-laid, final-answers}
 use Rattle.numbers.specs.Promises.{numbersOf, numberOctets}
-use Rattle.recurrence.specs.Run.{Way, scramble, descramble, outOf, runOf, afterOf}
+use Rattle.recurrence.specs.Run.{Way, scramble, descramble, runOf, afterOf}
 use Rattle.scrambler.specs.Promises.{given, clocked, around, frameOut}
 use Rattle.scrambler.proofs.Frames.{received}
 use Rattle.recurrence.proofs.Exactly.{scrambles-run, descrambles-run}
@@ -43,7 +41,7 @@ use Rattle.demands.specs.Frames.{Right, Octets, done}
 use Rattle.demands.specs.Two.{Two}
 use Rattle.demands.proofs.Fit.{many, written-length, written-small, written-clear}
 use Rattle.demands.proofs.Interwork.{sent-out, sent-state}
-use Rattle.demands.specs.WrongLibraries.{OneFrame, SendsPlain, PlainOnce, StateKept, FrameUnwritten, CoefficientsUnwritten, VendorUnwritten, RunUnwritten, WholeUnwritten, CodesUnwritten}
+use Rattle.demands.specs.WrongLibraries.{OneFrame, FromStart, SendsPlain, PlainOnce, StateKept, FrameUnwritten, CoefficientsUnwritten, VendorUnwritten, RunUnwritten, WholeUnwritten, CodesUnwritten}
 use Rattle.demands.specs.WrongLibraries.{HistoryUnwritten, PrecodedUnwritten, DecodedUnwritten, CopiesTheRest, TurnsA, TurnsB, RejectedByTwo}
 
 -- ---- calls to which no check applies
@@ -51,13 +49,9 @@ use Rattle.demands.specs.WrongLibraries.{HistoryUnwritten, PrecodedUnwri
 abbrev pub zeros : ℕ → List ℕ
 zeros n = replicate n 0
 
--- a final frame with vendor data v, sent into the room f by an LTU from a state
-abbrev from : ℕ → List ℕ → List ℕ → SendCall
-from state v f = record { end = 0; state = state; kind = 1; count = 0; coefficients = zeros 720; a = 0; b = 0; vendor = v; output = f }
-
--- from its start
+-- a final frame with vendor data v, sent into the room f by an LTU from its start
 abbrev final : List ℕ → List ℕ → SendCall
-final v f = from 0 v f
+final v f = record { end = 0; state = 0; kind = 1; count = 0; coefficients = zeros 720; a = 0; b = 0; vendor = v; output = f }
 
 final-right : (v f : List ℕ) → length v ≡ 16 → length f ≡ 529 → Right (sendChecks (final v f))
 final-right v f l m =
@@ -100,55 +94,37 @@ six-ones = record { end = 0; state = 0; input = 255 ∷ []; bits = 6; output = 0
 abbrev ones : List ℕ
 ones = 1 ∷ 1 ∷ 1 ∷ 1 ∷ 1 ∷ 1 ∷ []
 
--- from a state with its oldest bit set
-abbrev pub turning : SendCall
-turning = from 4194304 (zeros 16) (zeros 529)
+-- a final frame that has a one in its vendor data
+abbrev pub lone : SendCall
+lone = final one-first (zeros 529)
 
-pub turning-right : Right (sendChecks turning)
-turning-right =
-    let L = drop 1 (sendChecks turning) in
-    passed 1 (drop 1 L) (ap not (eq-eqb _ _ (many (zeros 720) refl)))
+pub lone-right : Right (sendChecks lone)
+lone-right = final-right one-first (zeros 529) refl refl
 
--- and from one with its newest
-first-right : Right (sendChecks (from 1 (zeros 16) (zeros 529)))
-first-right =
-    let L = drop 1 (sendChecks (from 1 (zeros 16) (zeros 529))) in
-    passed 1 (drop 1 L) (ap not (eq-eqb _ _ (many (zeros 720) refl)))
+-- the bits of it that clock the state
+abbrev lone-bits : List ℕ
+lone-bits = part 14 4213 (finalBits one-first)
 
--- the clocked bits of a frame
-part-length : (f : List ℕ) → length f ≡ 529 → length (clocked f) ≡ 4213
-part-length f l = length-take-le 4213 (drop 14 (bitsOf f)) (omega (arith, length-drop 14 (bitsOf f), bits-length f))
+lone-clocked : clocked (frameOf lone) ≡ lone-bits
+lone-clocked = ap (part 14 4213) (final-laid one-first refl)
 
-part-bits : (f : List ℕ) → Bits (clocked f)
-part-bits f = take-bits 4213 (drop 14 (bitsOf f)) (drop-bits 14 (bitsOf f) (bits-bits f))
+-- five bits behind the one there is a zero, and a one on the line; and the state that is left
+five-behind : (getD lone-bits 4007 0 ≡ 0) × (getD (runOf scramble 5 0 lone-bits) 4007 0 ≡ 1)
+unfolding finalBits frameBits message finalSync numberBits twosOf digitsOf bitsOf registerOf runOf
+five-behind = (refl, refl)
 
--- from the first of these states the first bit behind sync comes out turned over, whatever it is
-turned-over : (bs : List ℕ) → length bs ≡ 4213 → Bits bs → bs ≡ runOf scramble 5 4194304 bs → ⊥
-unfolding runOf
-turned-over [] l h e = omega (arith, l)
-turned-over (b ∷ bs) l h e = other b (h 0) (ap (λ (s : List ℕ). getD s 0 0) e)
-  where
-    other : (b : ℕ) → b < 2 → b ≡ outOf 5 4194304 b → ⊥
-    other zero m e = omega (arith, e)
-    other (suc zero) m e = omega (arith, e)
-    other (suc (suc b)) m e = omega (arith, m)
+lone-after : afterOf scramble 5 0 lone-bits ≡ 1771550
+unfolding finalBits frameBits message finalSync numberBits twosOf digitsOf bitsOf registerOf afterOf
+lone-after = refl
 
-pub turning-differs : frameOut scramble (record { end = 0; state = 4194304 }) (frameOf turning) ≡ frameOf turning → ⊥
-turning-differs e =
-    let f = frameOf turning in
-    let l = written-length turning turning-right in
-    turned-over (clocked f) (part-length f l) (part-bits f)
-    (sym (ap clocked e) ∙ received (record { end = 0; state = 4194304 }) f l (written-small turning turning-right) (written-clear turning turning-right))
-
--- the clocked bits of a final frame without vendor data are zeros, and so are its check bits
-zeros-clocked : part 14 4213 (finalBits (zeros 16)) ≡ zeros 4213
-unfolding finalBits frameBits message finalSync numberBits twosOf digitsOf bitsOf registerOf
-zeros-clocked = refl
-
--- from the second of these states 4,213 zeros lead to this one
-after-zeros : afterOf scramble 5 1 (zeros 4213) ≡ 6327237
-unfolding afterOf
-after-zeros = refl
+pub lone-differs : frameOut scramble (record { end = 0; state = 0 }) (frameOf lone) ≡ frameOf lone → ⊥
+lone-differs e =
+    let f = frameOf lone in
+    let there : clocked f ≡ runOf scramble 5 0 (clocked f) =
+    sym (ap clocked e)
+    ∙ received (record { end = 0; state = 0 }) f (written-length lone lone-right) (written-small lone lone-right) (written-clear lone lone-right) in
+    let same : lone-bits ≡ runOf scramble 5 0 lone-bits = sym lone-clocked ∙ there ∙ ap (runOf scramble 5 0) lone-clocked in
+    omega (arith, sym (five-behind .0) ∙ ap (λ (s : List ℕ). getD s 4007 0) same ∙ five-behind .1)
 
 -- a frame of zeros, over a room that begins with a one
 abbrev over-one : FrameCall
@@ -226,19 +202,19 @@ module _ (x : Library) (two : Two x) where
   once-refuted : PlainOnce x → ⊥
   once-refuted w = w .2 (sym (sent-out x (two .exact .frames) (w .0) (w .1)) ∙ w .3)
 
-  plain-refuted : SendsPlain x → ⊥
-  plain-refuted w =
-      let a = ap (λ (r : Outcome None Line). r .answer) (two .exact .frames .final turning refl turning-right .2) in
-      once-refuted (turning, turning-right, turning-differs, w turning a)
+  -- the first frame of an LTU
+  first : FromStart x lone
+  first = sym (ap (λ (r : Outcome None ℕ). r .memory) (two .exact .scrambling .started 0 refl))
 
-  -- a frame of zeros from the state 1 leaves another
+  lone-sent : x .send lone .answer ≡ 0
+  lone-sent = ap (λ (r : Outcome None Line). r .answer) (two .exact .frames .final lone refl lone-right .2)
+
+  plain-refuted : SendsPlain x → ⊥
+  plain-refuted w = once-refuted (lone, lone-right, lone-differs, w lone first lone-sent)
+
   kept-refuted : StateKept x → ⊥
   kept-refuted w =
-      let c = from 1 (zeros 16) (zeros 529) in
-      let h = first-right in
-      let a = ap (λ (r : Outcome None Line). r .answer) (two .exact .frames .final c refl h .2) in
-      let z : clocked (frameOf c) ≡ zeros 4213 = ap (part 14 4213) (final-laid (zeros 16) refl) ∙ zeros-clocked in
-      omega (arith, sym (sent-state x (two .exact .frames) c h ∙ ap (afterOf scramble 5 1) z ∙ after-zeros) ∙ w c a)
+      omega (arith, sym (sent-state x (two .exact .frames) lone lone-right ∙ ap (afterOf scramble 5 0) lone-clocked ∙ lone-after) ∙ w lone first lone-sent)
 
   vendor-refuted : VendorUnwritten x → ⊥
   vendor-refuted w =

@@ -39,7 +39,7 @@ use Rattle.demands.proofs.Two.{exact as exact-of}
 use Rattle.demands.proofs.Interwork.{laid-there, run-right}
 use Rattle.demands.proofs.Ours.{ours, ours-keep}
 use Rattle.demands.proofs.Rebuilt.{ours-one, Parts, rebuilt, rebuilt-one, usual, usual-answer}
-use Rattle.demands.proofs.Rejected.{turning, turning-right, turning-differs}
+use Rattle.demands.proofs.Rejected.{lone, lone-right, lone-differs}
 use Rattle.demands.proofs.ReservedRejected.{call, call-right, trains, some-set}
 use Rattle.demands.proofs.DataWrong.{one-data-frame-built, data-frame-built, payload-built, own-six-built}
 use Rattle.demands.proofs.LineWrong.{never-gives-built, first-only-built, room-built}
@@ -106,13 +106,13 @@ one-frame-built = (
 )
 
 plain-built : Built SendsPlain
-plain-built = (rebuilt (withSend (sending frameOf)), sending-one frameOf, λ c h. held-given (answer (sendChecks c)) (c .output) (frameOf c) h)
+plain-built = (rebuilt (withSend (sending frameOf)), sending-one frameOf, λ c s h. held-given (answer (sendChecks c)) (c .output) (frameOf c) h)
 
 once-built : Built PlainOnce
 once-built = (
   rebuilt (withSend (sending frameOf)),
   sending-one frameOf,
-  (turning, turning-right, turning-differs, held-given (answer (sendChecks turning)) (turning .output) (frameOf turning) turning-right),
+  (lone, lone-right, lone-differs, held-given (answer (sendChecks lone)) (lone .output) (frameOf lone) lone-right),
 )
 
 frame-built : Built FrameUnwritten
@@ -131,7 +131,7 @@ state-built = (
   rebuilt (withSend state-idle),
   send-one state-idle (answers (ordered .send) (ours-one .send .first) (λ c h. refl)
       (λ c h. ap (λ (m : Line). record { state = c .state; output = m .output }) (ours-one .send .unchanged c h))),
-  λ c h. refl,
+  λ c s h. refl,
 )
 
 -- ---- the reader

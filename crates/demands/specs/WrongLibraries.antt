@@ -1,6 +1,6 @@
 -- LIBRARIES THAT HAVE TO BE REJECTED by demand 2 (SCOPE, "What the contracts owe"): what such a one does, over calls that are answered.
 use mathlib.Core.Path.{_≡_}
-use mathlib.Core.List.{List, reverse}
+use mathlib.Core.List.{reverse}
 use Prim.Native.Nat.{ℕ, _≤_, _<_}
 use lib.ListN.{getD, take}
 use Rattle.octets.specs.Bits.{valueOf, bitsOf}
@@ -25,19 +25,23 @@ OneFrame x =
     (c d : SendCall) → c .end ≡ d .end → c .state ≡ d .state → x .send c .answer ≡ 0 → x .send d .answer ≡ 0
     → x .send c .memory .output ≡ x .send d .memory .output
 
--- one that sends the frame as it is written, unscrambled: the fault of the spring
-abbrev pub SendsPlain : Library → Type 0
-SendsPlain x = (c : SendCall) → x .send c .answer ≡ 0 → x .send c .memory .output ≡ frameOf c
+-- a frame that is the first to be sent: the scrambler is where its start puts it
+abbrev pub FromStart : Library → SendCall → Type 0
+FromStart x c = c .state ≡ x .scrambler-start (c .end) .memory
 
--- one that does so once, with a frame whose scrambled form is another
+-- one that sends the frame as it is written, unscrambled, if only the first: the fault of the spring
+abbrev pub SendsPlain : Library → Type 0
+SendsPlain x = (c : SendCall) → FromStart x c → x .send c .answer ≡ 0 → x .send c .memory .output ≡ frameOf c
+
+-- one that does so in a single call, with a frame whose scrambled form is another
 abbrev pub PlainOnce : Library → Type 0
 PlainOnce x =
     (c : SendCall) × Right (sendChecks c) × (frameOut scramble (record { end = c .end; state = c .state }) (frameOf c) ≡ frameOf c → ⊥)
     × (x .send c .memory .output ≡ frameOf c)
 
--- one that hands the old state back
+-- one that hands the old state back, if only with the first frame; where it does so, no other state is ever reached
 abbrev pub StateKept : Library → Type 0
-StateKept x = (c : SendCall) → x .send c .answer ≡ 0 → x .send c .memory .state ≡ c .state
+StateKept x = (c : SendCall) → FromStart x c → x .send c .answer ≡ 0 → x .send c .memory .state ≡ c .state
 
 -- a function that leaves an output unwritten: afterwards it holds what it held
 abbrev pub Unwritten : {C N M A : Type 0} → (C → Outcome N M) → (M → A) → (C → A) → Type 0

@@ -14,7 +14,7 @@ use Rattle.octets.proofs.Numbers.{numbers-length}
 use Rattle.layout.specs.Places.{coefficientsField, aField, bField}
 use Rattle.layout.specs.Frame.{trainingSync, fieldOf, coefficientsOf}
 use Rattle.layout.specs.Refusals.{hasSync, readRefusals}
-use Rattle.numbers.specs.Promises.{numbersOf, numberOctets, NumbersPut}
+use Rattle.numbers.specs.Promises.{numberOctets, NumbersPut}
 use Rattle.numbers.proofs.Laws.{put-whole}
 use Rattle.reader.specs.declared.Found.{Found}
 use Rattle.reader.specs.Promises.{foundOf, coefficientsLeft, vendorOctets, reservedLeft, Read}

@@ -1,17 +1,14 @@
 -- From sender's promise to the exported one. Assumes nothing.
 use mathlib.Core.Path.{_≡_, refl, ap, _∙_}
-use mathlib.Core.Bool.{not}
 use mathlib.Core.List.{List}
 use Prim.Native.Nat.{ℕ}
 use borrow.Author.Tests.{eq-eqb, ne-eqb}
 use native.Mathlib.Omega.{arith}
-use lib.IntN.{ℤ}
 use lib.ListN.{length}
-use Rattle.answer.proofs.Laws.{passed, refused}
 use Rattle.numbers.specs.Promises.{numbersOf}
 use Rattle.scrambler.specs.declared.Scrambler.{Scrambler}
 use Rattle.scrambler.specs.declared.Ran.{Ran}
-use Rattle.sender.specs.Promises.{sendRefusals, Sent}
+use Rattle.sender.specs.Promises.{Sent}
 use Rattle.host.specs.Scrambling.{crossing}
 use Rattle.host.specs.Sending.{FrameSent}
 

@@ -8,7 +8,7 @@ use Rattle.answer.specs.Answer.{Refusal, wrongLength, answer, held}
 use Rattle.octets.specs.Bits.{bitsOf}
 use Rattle.layout.specs.Frame.{trainingSync, coefficientsOf}
 use Rattle.layout.specs.Refusals.{hasSync, bitRefusals}
-use Rattle.numbers.specs.Promises.{coefficientsLength, numbersOf, numberOctets}
+use Rattle.numbers.specs.Promises.{coefficientsLength, numberOctets}
 use Rattle.reader.specs.declared.Found.{Found}
 use Rattle.reader.specs.Promises.{foundOf, vendorOctets, reservedLeft}
 use Rattle.host.specs.declared.frames.FrameFields.{FrameFields}

@@ -4,7 +4,7 @@ use mathlib.Core.Bool.{false, not, _&&_, _||_}
 use mathlib.Core.List.{List}
 use Prim.Native.Nat.{ℕ, _^_, _<_}
 use borrow.Author.Tests.{eq-eqb, lt-ltb}
-use lib.Dec.{eqb, ltb, leb}
+use lib.Dec.{ltb, leb}
 use lib.IntN.{ℤ}
 use lib.ListN.{length, drop, take}
 use Rattle.answer.specs.Answer.{Refusal, answer}

@@ -1,13 +1,12 @@
 -- From the frame written and scrambled to the promise. Assumes nothing.
-use mathlib.Core.Path.{_≡_, refl, sym, ap, _∙_, subst}
+use mathlib.Core.Path.{_≡_, refl, sym, ap, _∙_}
 use mathlib.Core.Bool.{Bool, true, false}
 use mathlib.Core.List.{List}
-use Prim.Native.Nat.{ℕ, zero, suc, _≤_}
+use Prim.Native.Nat.{ℕ, zero, suc}
 use native.Mathlib.Omega.{arith}
 use lib.IntN.{ℤ}
-use lib.ListN.{length}
 use lib.Dec.{ltb}
-use Rattle.answer.specs.Answer.{answer, held}
+use Rattle.answer.specs.Answer.{answer}
 use Rattle.answer.proofs.Laws.{kept}
 use Rattle.layout.specs.Refusals.{writeRefusals}
 use Rattle.recurrence.specs.Run.{scramble}

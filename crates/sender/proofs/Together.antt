@@ -1,12 +1,11 @@
 -- Sending refuses what writing refuses and what scrambling refuses, and nothing else. Assumes nothing.
 use mathlib.Core.Path.{_≡_, refl, sym, ap, _∙_}
 use mathlib.Core.Bool.{Bool, true, false, cond, not, _&&_, _||_}
-use mathlib.Core.List.{List, [], _∷_}
+use mathlib.Core.List.{[], _∷_}
 use Prim.Native.Nat.{ℕ, zero, suc, _≤_, _<_}
 use native.Mathlib.Omega.{arith}
 use borrow.Author.Tests.{lt-ltb, le-ltb}
 use lib.Dec.{eqb, ltb, leb}
-use lib.IntN.{ℤ}
 use lib.ListN.{length, take}
 use Rattle.answer.specs.Answer.{refuse, answer}
 use Rattle.octets.specs.Bits.{valueOf, bitsOf}
@@ -15,9 +14,7 @@ use Rattle.ranges.specs.Ranges.{isCoefficient, isWord, every}
 use Rattle.layout.specs.Places.{padField}
 use Rattle.layout.specs.Frame.{fieldOf}
 use Rattle.layout.specs.Refusals.{writeRefusals}
-use Rattle.scrambler.specs.Promises.{frameRefusals}
-use Rattle.scrambler.specs.declared.Scrambler.{Scrambler}
-use Rattle.sender.specs.Promises.{frameOctets, sendRefusals, leastOf, Together}
+use Rattle.sender.specs.Promises.{frameOctets, leastOf, Together}
 use Rattle.sender.proofs.Promise.{pad-clear}
 
 -- 1 before any
