@@ -8,6 +8,7 @@ use lib.IntN.{ℤ, pos}
 use lib.ListN.{length, getD, take, drop, replicate, length-append, length-drop, List·getD-append, getD-replicate}
 use lib.Seq.{getD-take, getD-append-add, length-take-le, sets-eq, take-at, take-all, take-add}
 use Rattle.octets.specs.Bits.{digitsOf, valueOf, bitsOf, octetsOf, part, laid}
+use Rattle.octets.specs.Signed.{twosOf, numberBits}
 use Rattle.octets.proofs.Digits.{Bits, append-bits, digits-length, digits-bits, zeros-bits, take-bits, drop-bits}
 use Rattle.octets.proofs.Laws.{bits-length, bits-bits, laid-bits, laid-next, laid-end}
 use Rattle.octets.proofs.Numbers.{number-length, number-bits}
@@ -156,11 +157,16 @@ module _ (f v : List ℕ) (lf : length f ≡ 529) (s₁ s₂ t : List ℕ) where
       put f v trainingSync (coefficientBits U) a b lf training-length (number-length 22 U ∙ ap (λ (n : ℕ). 22 * n) (used-length count cs h l)) training-bits
       (number-bits 22 U) s₁ s₂ t (e₁ ∙ ap (laid f 0) training-digits) e₂ e
 
-  pub final-put : (cs : List ℤ) → s₁ ≡ laid f 0 (digitsOf 14 0x3e6b) → s₂ ≡ laid s₁ 14 (coefficientBits (used 0 cs))
+  -- coefficients that are zero
+  none-used : coefficientBits (replicate 180 (pos 0)) ≡ replicate 3960 0
+  unfolding numberBits twosOf digitsOf
+  none-used = refl
+
+  pub final-put : s₁ ≡ laid f 0 (digitsOf 14 0x3e6b) → s₂ ≡ laid s₁ 14 (replicate 3960 0)
       → t ≡ octetsOf 529 (frameBits (part 0 14 (bitsOf s₂)) (part 14 3960 (bitsOf s₂) ++ (digitsOf 21 0 ++ (digitsOf 21 0 ++ (bitsOf v ++ replicate 67 0)))))
       → t ≡ octetsOf 529 (finalBits v)
   unfolding finalBits message
-  final-put cs e₁ e₂ e =
-      let U = used 0 cs in
-      put f v finalSync (coefficientBits U) 0 0 lf final-length (number-length 22 U) final-bits (number-bits 22 U) s₁ s₂ t
-      (e₁ ∙ ap (laid f 0) final-digits) e₂ e
+  final-put e₁ e₂ e =
+      let Z : List ℤ = replicate 180 (pos 0) in
+      put f v finalSync (coefficientBits Z) 0 0 lf final-length (number-length 22 Z) final-bits (number-bits 22 Z) s₁ s₂ t
+      (e₁ ∙ ap (laid f 0) final-digits) (e₂ ∙ ap (laid s₁ 14) (sym none-used)) e

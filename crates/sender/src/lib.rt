@@ -64,13 +64,13 @@ fn put_training(frame: &mut [u8], coefficients: &[i32], count: usize, a: u32, b:
     finish(frame, a, b, vendor);
 }
 
-// A final frame: none of the coefficients is in use.
-fn put_final(frame: &mut [u8], coefficients: &[i32], vendor: &[u8])
-    requires { ⌜ (length (now frame) ≡ frameLength) × (length (now coefficients) ≡ coefficientCount) × (length (now vendor) ≡ vendorLength) ⌝ }
+// A final frame: zeros where a training frame has its coefficients.
+fn put_final(frame: &mut [u8], vendor: &[u8])
+    requires { ⌜ (length (now frame) ≡ frameLength) × (length (now vendor) ≡ vendorLength) ⌝ }
     ensures { λ r. ⌜ now (frame .exit) ≡ octetsOf frameLength (finalBits (now (vendor .entry))) ⌝ }
 {
     bitfields::put_field(frame, 0, layout::SYNC_BITS, layout::FINAL_SYNC);
-    put_coefficients(frame, coefficients, 0);
+    octets::clear(frame, layout::COEFFICIENTS_AT, layout::ALL_COEFFICIENT_BITS);
     finish(frame, 0, 0, vendor);
 }
 
@@ -84,7 +84,7 @@ fn put(plain: &mut [u8], kind: u32, count: u32, coefficients: &[i32], a: u32, b:
         let n = count as usize;
         put_training(plain, coefficients, n, a, b, vendor);
     } else {
-        put_final(plain, coefficients, vendor);
+        put_final(plain, vendor);
     }
 }
 

@@ -7,8 +7,8 @@ use Rattle.sender.proofs.put_final.Tie as tie
 put-field-requires : tie.Need-put-field-requires
 put-field-requires c κs = search needs
 
-put-coefficients-requires : tie.Need-put-coefficients-requires
-put-coefficients-requires c κs = search needs
+clear-requires : tie.Need-clear-requires
+clear-requires c κs = search needs
 
 finish-requires : tie.Need-finish-requires
 finish-requires c κs = search needs
@@ -20,12 +20,12 @@ returns : tie.Need-returns
 returns c =
     let a = c .before .before .before .before .before .before .before .before .before .before .before .before .before .before .args in
     let s₁ = c .before .before .before .before .before .before .before .before .before .before .put-field in
-    let s₂ = c .before .before .before .before .before .before .put-coefficients in
+    let s₂ = c .before .before .before .before .before .before .clear in
     let t = c .before .before .finish in
     final-put (a .frame .now) (a .vendor .now)
     (c .before .before .before .before .before .before .before .before .before .before .before .before .before .before .pre .0) (s₁ .last .0)
-    (s₂ .last .0) (t .last .0) (a .coefficients .now) (s₁ .ensures) (s₂ .ensures) (t .ensures)
+    (s₂ .last .0) (t .last .0) (s₁ .ensures) (s₂ .ensures) (t .ensures)
 
 pub put-final-spec : {M : Type 1} → statement M
 put-final-spec =
-    tie.close (tie.spec put-field-requires put-coefficients-requires finish-requires same-length returns)
+    tie.close (tie.spec put-field-requires clear-requires finish-requires same-length returns)
