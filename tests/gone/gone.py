@@ -153,9 +153,14 @@ def handed(files, function, argument):
 
 def lent_wrong(files, archive):
     """The room that is lent is given to the checks, which only look, and to what copies the sync bits, scrambles and clears the pad."""
-    sent, scrambled = handed(files, "send", "frame"), handed(files, "scrambled", "room")
-    wrong = [f"send hands the lent room to {sent[0]}"] * (sent != (["refusal", "scrambled"], 2))
-    return wrong + [f"scrambled hands it to {scrambled[0]}"] * (scrambled != (["octets::copy", "recurrence::run", "octets::clear"], 3))
+    due = {
+        ("send", "frame"): ["refusal", "scrambled"],
+        ("scrambled", "room"): ["clocked", "octets::clear"],
+        ("clocked", "room"): ["octets::copy", "recurrence::run"],
+    }
+    found = {place: handed(files, *place) for place in due}
+    return [f"{function} hands the lent room to {found[function, name][0]}"
+            for (function, name), calls in due.items() if found[function, name] != (calls, len(calls))]
 
 
 def names_wrong(files, archive):

@@ -1,18 +1,32 @@
 -- The code's checks come to the list of the promise. Assumes nothing.
 use mathlib.Core.Path.{_≡_, refl, sym, ap, ap₂, _∙_}
-use mathlib.Core.Bool.{false, not, _&&_, _||_}
-use mathlib.Core.List.{List}
+use mathlib.Core.Bool.{Bool, true, false, not, _&&_, _||_, true≢false, false≢true}
+use mathlib.Core.List.{List, _∷_}
 use Prim.Native.Nat.{ℕ, _^_, _<_}
 use borrow.Author.Tests.{eq-eqb, lt-ltb}
 use lib.Dec.{ltb, leb}
 use lib.IntN.{ℤ}
 use lib.ListN.{length, drop, take}
-use Rattle.answer.specs.Answer.{Refusal, answer}
+use Rattle.answer.specs.Answer.{Refusal, refuse, answer}
 use Rattle.answer.proofs.Laws.{passed, refused}
 use Rattle.ranges.specs.Ranges.{isCoefficient, isWord, every}
 use Rattle.scrambler.specs.declared.Scrambler.{Scrambler}
 use Rattle.sender.specs.Promises.{sendRefusals, leastOf, lineRefusals, fieldRefusals}
 use Rattle.sender.proofs.Together.{merged}
+
+-- the three lengths
+pub all-whole : (p q r : Bool) → (p && q && r) ≡ true → (p ≡ true) × (q ≡ true) × (r ≡ true)
+all-whole true true true e = (refl, refl, refl)
+all-whole true true false e = absurd (false≢true e)
+all-whole true false r e = absurd (false≢true e)
+all-whole false q r e = absurd (false≢true e)
+
+pub not-whole : (p q r : Bool) (rs : List Refusal) → (p && q && r) ≡ false
+    → 1 ≡ answer (refuse 1 (not p) ∷ refuse 1 (not q) ∷ refuse 1 (not r) ∷ rs)
+not-whole true true true rs e = absurd (true≢false e)
+not-whole true true false rs e = refl
+not-whole true false r rs e = refl
+not-whole false q r rs e = refl
 
 module _ (x : Scrambler) (kind count : ℕ) (cs : List ℤ) (a b : ℕ) (vendor frame : List ℕ) (l : length cs ≡ 180) (v : length vendor ≡ 16)
     (f : length frame ≡ 529) where

@@ -1,8 +1,10 @@
 // Sending an activation frame: its fields written, and scrambled on the way out (SCOPE, "Sending a frame"). The frame as it is written stands in an
 // array of its own; what is lent only ever gets the scrambled one.
 ghost use mathlib.Core.Path.{_≡_};
+ghost use mathlib.Core.Bool.{_&&_};
 ghost use mathlib.Core.List.{_++_};
 ghost use Prim.Native.Nat.{_≤_};
+ghost use lib.Dec.{eqb};
 ghost use lib.ListN.{length, replicate};
 ghost use Rattle.answer.specs.Answer.{answer};
 ghost use Rattle.octets.specs.Bits.{digitsOf, bitsOf, octetsOf, laid};
@@ -10,7 +12,7 @@ ghost use Rattle.ranges.specs.Ranges.{coefficientCount, wordWidth};
 ghost use Rattle.layout.specs.Places.{reservedWidth, vendorLength, frameLength, placeOf, syncField, coefficientsField};
 ghost use Rattle.layout.specs.Frame.{coefficientBits, used, behind, frameBits, trainingBits, finalBits, fieldOf};
 ghost use Rattle.recurrence.specs.Run.{scramble};
-ghost use Rattle.scrambler.specs.Promises.{frameRefusals, FramePromise};
+ghost use Rattle.scrambler.specs.Promises.{frameRefusals, ClockedPromise, FramePromise};
 ghost use Rattle.sender.specs.Promises.{frameOctets, sendRefusals, Sent, leastOf, lineRefusals, fieldRefusals};
 use scrambler::Ran;
 use scrambler::Scrambler;
@@ -88,23 +90,31 @@ fn put(plain: &mut [u8], kind: u32, count: u32, coefficients: &[i32], a: u32, b:
     }
 }
 
-// A frame scrambled into the room: sync straight through, the line's run over the bits between sync and pad, and the pad zero.
-fn scrambled(x: Scrambler, plain: &[u8], room: &mut [u8]) -> Ran
-    requires { ⌜ answer (frameRefusals x (now plain) (now room)) ≡ 0 ⌝ }
-    ensures { λ r. ⌜ FramePromise scramble x (now (plain .entry)) (now (room .entry)) r (now (room .exit)) ⌝ }
+// A frame's sync straight through, and the line's run over the bits between sync and pad, scrambled.
+fn clocked(x: Scrambler, plain: &[u8], room: &mut [u8]) -> recurrence::Ran
+    ensures { λ r. ⌜ ClockedPromise scramble x (now (plain .entry)) (now (room .entry))
+        (record { answer = r .answer; next = record { end = x .end; state = r .state } }) (now (room .exit)) ⌝ }
 {
-    let end = x.end;
     octets::copy(room, 0, plain, 0, layout::SYNC_BITS);
-    let ran = recurrence::run(
+    recurrence::run(
         false,
-        scrambler::tap(end),
+        scrambler::tap(x.end),
         x.state,
         plain,
         layout::SYNC_BITS,
         layout::PAYLOAD_BITS as usize,
         room,
-    );
+    )
+}
+
+// A whole frame scrambled into the room: the pad is zero.
+fn scrambled(x: Scrambler, plain: &[u8], room: &mut [u8]) -> Ran
+    requires { ⌜ answer (frameRefusals x (now plain) (now room)) ≡ 0 ⌝ }
+    ensures { λ r. ⌜ FramePromise scramble x (now (plain .entry)) (now (room .entry)) r (now (room .exit)) ⌝ }
+{
+    let ran = clocked(x, plain, room);
     octets::clear(room, layout::PAD_AT, layout::PAD_BITS);
+    let end = x.end;
     Ran {
         answer: ran.answer,
         next: Scrambler {
@@ -171,6 +181,16 @@ fn least(m: u32, n: u32) -> u32
     m
 }
 
+// Whether what is lent has the right lengths.
+fn whole(coefficients: &[i32], vendor: &[u8], frame: &[u8]) -> bool
+    ensures { λ r. ⌜ r ≡ (eqb (length (now (coefficients .entry))) coefficientCount && eqb (length (now (vendor .entry))) vendorLength
+        && eqb (length (now (frame .entry))) frameLength) ⌝ }
+{
+    (coefficients.len() == layout::COEFFICIENTS)
+        & (vendor.len() == layout::VENDOR_OCTETS)
+        & (frame.len() == layout::FRAME_OCTETS)
+}
+
 // What sending refuses, or 0: what scrambling refuses and what writing refuses, in number order. Of a final frame no coefficient is in use, and A and B
 // are zero.
 fn refusal(
@@ -185,13 +205,7 @@ fn refusal(
 ) -> u32
     ensures { λ r. ⌜ r ≡ answer (sendRefusals x kind count (now (coefficients .entry)) a b (now (vendor .entry)) (now (frame .entry))) ⌝ }
 {
-    if coefficients.len() != layout::COEFFICIENTS {
-        return answer::LENGTH;
-    }
-    if vendor.len() != layout::VENDOR_OCTETS {
-        return answer::LENGTH;
-    }
-    if frame.len() != layout::FRAME_OCTETS {
+    if !whole(coefficients, vendor, frame) {
         return answer::LENGTH;
     }
     let line = line_refusal(x);
