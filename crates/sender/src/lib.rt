@@ -27,7 +27,13 @@ fn put_coefficients(frame: &mut [u8], coefficients: &[i32], count: usize)
         layout::COEFFICIENTS_AT,
         layout::COEFFICIENT_BITS,
         &coefficients[0..count],
-        layout::COEFFICIENTS as u32,
+        count as u32,
+    );
+    let bits = layout::COEFFICIENT_STEP * count;
+    octets::clear(
+        frame,
+        layout::COEFFICIENTS_AT + bits,
+        layout::ALL_COEFFICIENT_BITS - bits as u32,
     );
 }
 
