@@ -6,12 +6,13 @@ use native.Mathlib.Nat.{mod-eq-of-lt, mul-suc, mul-zero}
 use native.Mathlib.Numerals.{add-one}
 use native.Mathlib.Omega.{arith}
 use lib.IntN.{ℤ, pos}
-use lib.ListN.{length, getD, take, drop, length-append, length-drop, take-append-drop}
+use lib.ListN.{length, getD, take, drop, replicate, length-append, length-drop, take-append-drop, replicate-append-replicate}
+use lib.Pow.{pow-pos}
 use lib.Seq.{take-at, drop-at, length-take-le, take-suc}
 use lib.Signed.{mag}
 use Rattle.octets.specs.Bits.{digitsOf, valueOf, laid}
 use Rattle.octets.specs.Signed.{signedOf, twosOf, numberBits, numbersIn}
-use Rattle.octets.proofs.Digits.{Bits, nil-bits, append-bits, take-bits, drop-bits, digits-length, digits-bits, digits-value, value-digits, value-lt}
+use Rattle.octets.proofs.Digits.{Bits, nil-bits, append-bits, take-bits, drop-bits, digits-length, digits-bits, digits-value, value-digits, value-lt, zeros-digits}
 use Rattle.octets.proofs.Complement.{twos-lt, signed-twos, twos-signed}
 use Rattle.octets.proofs.Laws.{laid-next}
 
@@ -38,6 +39,15 @@ module _ (w : ℕ) where
   pub number-none : [] ≡ numberBits w []
   unfolding numberBits
   number-none = refl
+
+  -- numbers that are zero
+  pub number-zeros : (m : ℕ) → numberBits w (replicate m (pos 0)) ≡ replicate (w * m) 0
+  unfolding numberBits twosOf
+  number-zeros zero = ap (λ (k : ℕ). replicate k 0) (sym (mul-zero w))
+  number-zeros (suc m) =
+      let n : w + w * m ≡ w * suc m = omega (arith, mul-suc w m) in
+      ap₂ _++_ (ap (digitsOf w) (mod-eq-of-lt (pow-pos w)) ∙ zeros-digits w) (number-zeros m)
+      ∙ replicate-append-replicate w (w * m) 0 ∙ ap (λ (k : ℕ). replicate k 0) n
 
   number-one : (z : ℤ) → numberBits w (z ∷ []) ≡ digitsOf w (twosOf w z)
   unfolding numberBits

@@ -1,17 +1,16 @@
 -- Laws of writing a frame, field behind field. Assumes nothing.
 use mathlib.Core.Path.{_≡_, refl, sym, ap, ap₂, _∙_, subst}
 use mathlib.Core.List.{List, _++_, append-assoc, reverse}
-use Prim.Native.Nat.{ℕ, zero, suc, _+_, _-_, _*_, _≤_, _<_}
+use Prim.Native.Nat.{ℕ, _+_, _-_, _*_, _≤_, _<_}
 use native.Mathlib.Omega.{arith}
 use lib.Dec.{lit≤}
 use lib.IntN.{ℤ, pos}
-use lib.ListN.{length, getD, take, drop, replicate, length-append, length-drop, List·getD-append, getD-replicate, replicate-append-replicate}
+use lib.ListN.{length, getD, take, drop, replicate, length-append, length-drop, List·getD-append, getD-replicate}
 use lib.Seq.{getD-take, getD-append-add, length-take-le, sets-eq, take-at, take-all, take-add}
 use Rattle.octets.specs.Bits.{digitsOf, valueOf, bitsOf, octetsOf, part, laid}
-use Rattle.octets.specs.Signed.{twosOf, numberBits}
 use Rattle.octets.proofs.Digits.{Bits, append-bits, digits-length, digits-bits, zeros-bits, take-bits, drop-bits}
 use Rattle.octets.proofs.Laws.{bits-length, bits-bits, laid-bits, laid-next, laid-end}
-use Rattle.octets.proofs.Numbers.{number-length, number-bits, number-append}
+use Rattle.octets.proofs.Numbers.{number-length, number-bits, number-append, number-zeros}
 use Rattle.octets.proofs.Fields.{part-is}
 use Rattle.remainder.specs.Division.{checkBits, generator}
 use Rattle.remainder.specs.Promises.{CheckBits}
@@ -38,27 +37,19 @@ module _ (count : ℕ) (cs : List ℤ) (n : count ≤ 180) (l : length cs ≡ 18
       ∙ getD-append-add (take count cs) (replicate (180 - count) (pos 0)) (k - count) (pos 0)
       ∙ getD-replicate (180 - count) (k - count) (pos 0) (pos 0) (omega arith))
 
--- coefficients that are zero
-zero-numbers : (m : ℕ) → coefficientBits (replicate m (pos 0)) ≡ replicate (22 * m) 0
-unfolding numberBits twosOf digitsOf
-zero-numbers zero = refl
-zero-numbers (suc m) =
-    let n : 22 + 22 * m ≡ 22 * suc m = omega arith in
-    ap (λ (l : List ℕ). replicate 22 0 ++ l) (zero-numbers m) ∙ replicate-append-replicate 22 (22 * m) 0 ∙ ap (λ (k : ℕ). replicate k 0) n
-
 -- those in use, and zeros behind them
 module _ (f : List ℕ) (cs : List ℤ) (count : ℕ) (n : count ≤ 180) (l : length cs ≡ 180) where
   used-bits : coefficientBits (take count cs) ++ replicate (3960 - 22 * count) 0 ≡ coefficientBits (used count cs)
   used-bits =
       let m : 3960 - 22 * count ≡ 22 * (180 - count) = omega arith in
       sym (number-append 22 (take count cs) (replicate (180 - count) (pos 0))
-      ∙ ap (λ (x : List ℕ). coefficientBits (take count cs) ++ x) (zero-numbers (180 - count) ∙ ap (λ (k : ℕ). replicate k 0) (sym m)))
+      ∙ ap (λ (x : List ℕ). coefficientBits (take count cs) ++ x) (number-zeros 22 (180 - count) ∙ ap (λ (k : ℕ). replicate k 0) (sym m)))
 
   pub coefficients-put : (s t : List ℕ) → s ≡ laid f 14 (coefficientBits (take count cs))
       → t ≡ laid s (14 + 22 * count) (replicate (3960 - 22 * count) 0) → t ≡ laid f 14 (coefficientBits (used count cs))
   coefficients-put s t e₁ e₂ =
       let U = coefficientBits (take count cs) in
-      let p : 14 + length U ≡ 14 + 22 * count = ap (λ (k : ℕ). 14 + k) (number-length 22 (take count cs) ∙ ap (λ (k : ℕ). 22 * k) (length-take-le count cs (omega arith))) in
+      let p : 14 + length U ≡ 14 + 22 * count = ap (λ (k : ℕ). 14 + k) (number-length 22 (take count cs) ∙ ap (λ (k : ℕ). 22 * k) (head-length count cs n l)) in
       laid-next f 14 U (replicate (3960 - 22 * count) 0) (14 + 22 * count) (number-bits 22 (take count cs)) p e₁ e₂ ∙ ap (laid f 14) used-bits
 
 -- ---- field behind field
@@ -187,4 +178,4 @@ module _ (f v : List ℕ) (lf : length f ≡ 529) (s₁ s₂ t : List ℕ) where
   final-put e₁ e₂ e =
       let Z : List ℤ = replicate 180 (pos 0) in
       put f v finalSync (coefficientBits Z) 0 0 lf final-length (number-length 22 Z) final-bits (number-bits 22 Z) s₁ s₂ t
-      (e₁ ∙ ap (laid f 0) final-digits) (e₂ ∙ ap (laid s₁ 14) (sym (zero-numbers 180))) e
+      (e₁ ∙ ap (laid f 0) final-digits) (e₂ ∙ ap (laid s₁ 14) (sym (number-zeros 22 180))) e
