@@ -29,7 +29,7 @@ OneFrame x =
 abbrev pub FromStart : Library → SendCall → Type 0
 FromStart x c = c .state ≡ x .scrambler-start (c .end) .memory
 
--- one that sends the frame as it is written, unscrambled, if only the first: the fault of the spring
+-- one that sends the frame as it is written, unscrambled, even if only the first: the fault of the spring
 abbrev pub SendsPlain : Library → Type 0
 SendsPlain x = (c : SendCall) → FromStart x c → x .send c .answer ≡ 0 → x .send c .memory .output ≡ frameOf c
 
@@ -39,7 +39,7 @@ PlainOnce x =
     (c : SendCall) × Right (sendChecks c) × (frameOut scramble (record { end = c .end; state = c .state }) (frameOf c) ≡ frameOf c → ⊥)
     × (x .send c .memory .output ≡ frameOf c)
 
--- one that hands the old state back, if only with the first frame; where it does so, no other state is ever reached
+-- one that hands the old state back, even if only with the first frame: then no other state is ever reached
 abbrev pub StateKept : Library → Type 0
 StateKept x = (c : SendCall) → FromStart x c → x .send c .answer ≡ 0 → x .send c .memory .state ≡ c .state
 

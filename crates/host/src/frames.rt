@@ -2,9 +2,6 @@
 ghost use Rattle.host.specs.Frames.{FrameRead};
 ghost use Rattle.checker.specs.Promises.{Checked};
 
-// A coefficient buffer's octets.
-pub const COEFFICIENT_OCTETS: usize = 720;
-
 // What reading a frame gives.
 #[repr(C)]
 pub struct FrameFields {
@@ -33,7 +30,7 @@ pub extern "C" fn sdsl_frame_read(
     ensures { λ r. ⌜ FrameRead (now (frame .entry)) (now (coefficients .entry)) (now (vendor .entry)) (now (reserved .entry)) r
         (now (coefficients .exit)) (now (vendor .exit)) (now (reserved .exit)) ⌝ }
 {
-    if coefficients.len() != COEFFICIENT_OCTETS {
+    if coefficients.len() != numbers::COEFFICIENT_OCTETS {
         return FrameFields {
             answer: answer::LENGTH,
             kind: 0,

@@ -1,7 +1,6 @@
 // Sending an activation frame for C: it goes out scrambled or not at all. Coefficients are 720 octets, as in reading; the state goes on as in every call of
 // the scrambler.
 ghost use Rattle.host.specs.Sending.{FrameSent};
-use crate::frames::COEFFICIENT_OCTETS;
 use crate::scrambling::Scrambled;
 use scrambler::Scrambler;
 
@@ -20,7 +19,7 @@ pub extern "C" fn sdsl_frame_send(
 ) -> Scrambled
     ensures { λ r. ⌜ FrameSent end state kind count (now (coefficients .entry)) a b (now (vendor .entry)) (now (frame .entry)) r (now (frame .exit)) ⌝ }
 {
-    if coefficients.len() != COEFFICIENT_OCTETS {
+    if coefficients.len() != numbers::COEFFICIENT_OCTETS {
         return Scrambled {
             answer: answer::LENGTH,
             state,
