@@ -12,7 +12,7 @@
 .PHONY: all test first pair bench house install uninstall clean help
 .NOTPARALLEL: # two runs of rt at a time would prove the same crate twice; rt itself uses every processor
 
-VERSION = 0.6.0
+VERSION = 0.6.1
 PROGRAMS = lister messages replay sorter
 PREFIX = /usr/local
 bindir = $(PREFIX)/bin

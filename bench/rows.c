@@ -114,7 +114,7 @@ static void make_symbols(void)
 static void make_codes(void)
 {
     static const uint8_t awaited[14] = {1, 0, 2, 0, 3, 0, 4, 0, 6, 0, 7, 0, 8, 0};
-    struct sdsl_supervisor state = ref_start(SDSL_LTU, SDSL_SILENCE_DEFAULT).state;
+    struct sdsl_supervisor state = ref_start(SDSL_LTU, SDSL_SILENCE_MIN).state;
     for (size_t i = 0; i < CODES; i++) {
         codes[i] = below(64) == 0 ? awaited[state.phase] : below(4096) == 0 ? SDSL_ABNORMAL : SDSL_TICK;
         state = ref_step(state, codes[i]).state;
@@ -257,7 +257,7 @@ static const struct other unprecode_others[] = {{"C, narrow products", unprecode
 
 static void step(const struct library *library)
 {
-    struct sdsl_stepped stepped = library->start(SDSL_LTU, SDSL_SILENCE_DEFAULT);
+    struct sdsl_stepped stepped = library->start(SDSL_LTU, SDSL_SILENCE_MIN);
     for (size_t i = 0; i < CODES; i++) {
         stepped = library->step(stepped.state, codes[i]);
         results.numbers[i] = 100000 * stepped.answer + 1000 * stepped.phase + stepped.attempt % 1000;
@@ -267,7 +267,7 @@ static void step(const struct library *library)
 
 static void run_codes(const struct library *library)
 {
-    struct sdsl_run run = library->run_codes(library->start(SDSL_LTU, SDSL_SILENCE_DEFAULT).state, codes, CODES);
+    struct sdsl_run run = library->run_codes(library->start(SDSL_LTU, SDSL_SILENCE_MIN).state, codes, CODES);
     results.numbers[0] = run.answer;
     results.numbers[1] = (uint32_t)run.attempts;
     results.numbers[2] = (uint32_t)run.opened_at;

@@ -40,8 +40,8 @@
 /* The version of this header and of the library that belongs to it. */
 #define SDSL_VERSION_MAJOR 0
 #define SDSL_VERSION_MINOR 6
-#define SDSL_VERSION_PATCH 0
-#define SDSL_VERSION "0.6.0"
+#define SDSL_VERSION_PATCH 1
+#define SDSL_VERSION "0.6.1"
 
 #ifdef __cplusplus
 extern "C" {
@@ -949,8 +949,9 @@ static inline const char *sdsl_phase_text(uint32_t phase)
 #define SDSL_SC_TICKS 5000
 #define SDSL_SETTLING_TICKS 1000
 #define SDSL_ATTEMPT_TICKS 15000     /* an attempt still open at its 15,000th tick ends in Exception */
-#define SDSL_SILENCE_DEFAULT 0       /* for sdsl_start: stands for 2,000 ticks */
-#define SDSL_SILENCE_MIN 2000
+#define SDSL_SILENCE_DEFAULT 0       /* for sdsl_start: stands for SDSL_SILENCE_DEFAULT_TICKS */
+#define SDSL_SILENCE_DEFAULT_TICKS 5000
+#define SDSL_SILENCE_MIN 2000        /* taken, and kept, where it is asked for */
 #define SDSL_SILENCE_MAX 60000
 #define SDSL_STATE_TICKS_MAX 59999   /* a state's `ticks`, at most */
 #define SDSL_STATE_ATTEMPT_MAX 14999 /* a state's `attempt`, at most */
@@ -977,7 +978,7 @@ struct sdsl_stepped {
 /*
  * Starts a supervisor.
  *   end      SDSL_LTU or SDSL_NTU
- *   silence  ticks in Exception before Ready, 2000 to 60000; 0 stands for the default, 2000
+ *   silence  ticks in Exception before Ready, 2000 to 60000; 0 stands for the default, 5000
  * A refused start gives a state of zeros, which every step refuses.
  * Answers 0, 2 (end), 4 (silence).
  *

@@ -1116,6 +1116,9 @@ static uint32_t try_start(void)
     struct sdsl_supervisor zeros = {0, 0, 0, 0, 0, 0, 0};
     want(r.phase == SDSL_READY && r.attempt == 0, "starts outside Ready");
     want(r.answer == SDSL_DONE ? is_state(r.state) && r.state.end == end : same_state(r.state, zeros), "gives a wrong state");
+    want(r.answer != SDSL_DONE || r.state.silence == (silence == SDSL_SILENCE_DEFAULT ? SDSL_SILENCE_DEFAULT_TICKS : silence),
+         "gives another silence");
+    want(silence != SDSL_SILENCE_DEFAULT || end > SDSL_NTU || r.answer == SDSL_DONE, "refuses the default silence");
     return r.answer;
 }
 

@@ -413,11 +413,17 @@ static void limits(void)
          sdsl_shaper(9 * SDSL_SIXTEENTH).value == 0.5625f && SDSL_STEPS == -SDSL_SAMPLE_MIN, "the limits of a sample");
     look(sdsl_start(SDSL_LTU, SDSL_SILENCE_MIN - 1).answer == SDSL_OUT_OF_RANGE &&
          sdsl_start(SDSL_LTU, SDSL_SILENCE_MAX + 1).answer == SDSL_OUT_OF_RANGE &&
-         sdsl_start(SDSL_LTU, SDSL_SILENCE_DEFAULT).state.silence == SDSL_SILENCE_MIN, "the limits of a silence");
+         sdsl_start(SDSL_LTU, SDSL_SILENCE_MIN).state.silence == SDSL_SILENCE_MIN, "the limits of a silence");
+    look(sdsl_start(SDSL_LTU, SDSL_SILENCE_DEFAULT).state.silence == SDSL_SILENCE_DEFAULT_TICKS &&
+         sdsl_start(SDSL_NTU, SDSL_SILENCE_DEFAULT).state.silence == SDSL_SILENCE_DEFAULT_TICKS, "the default silence");
 
     struct sdsl_supervisor ltu = sdsl_start(SDSL_LTU, SDSL_SILENCE_DEFAULT).state, ntu = sdsl_start(SDSL_NTU, SDSL_SILENCE_DEFAULT).state;
     look(sdsl_step(ltu, SDSL_REPORT_MAX).answer == SDSL_DONE && sdsl_step(ltu, SDSL_REPORT_MAX + 1).answer == SDSL_UNKNOWN &&
          sdsl_step(ltu, SDSL_REPORT_MAX).phase == SDSL_PHASE_MAX, "the last report and the last phase");
+    ltu.phase = ntu.phase = SDSL_EXCEPTION;
+    look(lasts(ltu) == SDSL_SILENCE_DEFAULT_TICKS && lasts(ntu) == SDSL_SILENCE_DEFAULT_TICKS, "the time of the default silence");
+    ltu.silence = ntu.silence = SDSL_SILENCE_MIN;
+    look(lasts(ltu) == SDSL_SILENCE_MIN && lasts(ntu) == SDSL_SILENCE_MIN, "the time of the shortest silence");
     ltu.phase = ntu.phase = SDSL_QUIET;
     look(lasts(ltu) == SDSL_LTU_QUIET_TICKS && lasts(ntu) == SDSL_NTU_QUIET_TICKS, "the quiet times");
     ltu.phase = SDSL_HEARING;

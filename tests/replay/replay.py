@@ -124,7 +124,7 @@ tick 2800: attempt 1, tick 2500: code 5: T_r
 case("code 7 after tick 14,999", "ntu", "1\n0*2800\n4\n5\n0*12499\n7\n", opened + told("""
 tick 15299: attempt 1, tick 14999: code 7: ends in data mode: Settling
 """) + end(15299, "attempt 1 ended in data mode after 14.999 s"))
-case("code 7 after tick 15,000", "ntu", "1\n0*2800\n4\n5\n0*12500\n7\n", opened + told("""
+case("code 7 after tick 15,000", "ntu 2000", "1\n0*2800\n4\n5\n0*12500\n7\n", opened + told("""
 tick 15300: attempt 1, tick 15000: time is up, ends in exception: Exception 2000
 tick 15300: code 7: changes nothing, still Exception 2000
 """) + end(15300, "attempt 1 ended in exception after 15.000 s: time was up in T_r; still silent in Exception, 0.000 s so far, 2.000 s left"))
@@ -177,14 +177,14 @@ tick 0: Ready
 tick 0: code 1: Await
 """)
 case("a card that waits in Await", "ltu", "1\n0*200000\n", awaiting + end(200000, "still waiting in Await for C_r, 200.000 s so far: C_r has not been heard"))
-case("a card that waits in Await after a failure", "ltu", "1\n2\n0*1500\n8\n0*2000\n0*7\n1\n0*30\n", awaiting + told("""
+case("a card that waits in Await after a failure", "ltu 2000", "1\n2\n0*1500\n8\n0*2000\n0*7\n1\n0*30\n", awaiting + told("""
 tick 0: attempt 1, tick 0: code 2: opens: Hearing
 tick 1500: attempt 1, tick 1500: code 8: ends in exception: Exception 2000
 tick 3500: Ready
 tick 3507: code 1: Await
 """) + end(3537, "attempt 1 ended in exception after 1.500 s: code 8, abnormal, came in Hearing; "
            "still waiting in Await for C_r, 0.030 s so far: C_r has not been heard"))
-case("a card that is ready after a failure", "ltu", "1\n2\n0*1500\n8\n0*2000\n0*7\n", awaiting + told("""
+case("a card that is ready after a failure", "ltu 2000", "1\n2\n0*1500\n8\n0*2000\n0*7\n", awaiting + told("""
 tick 0: attempt 1, tick 0: code 2: opens: Hearing
 tick 1500: attempt 1, tick 1500: code 8: ends in exception: Exception 2000
 tick 3500: Ready
@@ -205,6 +205,30 @@ case("a card in S_c", "ltu", "1\n2\n3\n0*512\n", trying + end(512, "attempt 1 is
 case("a card in S_c that has converged", "ltu", "1\n2\n3\n0*500\n4\n", trying + told("""
 tick 500: attempt 1, tick 500: code 4: heard, still S_c
 """) + end(500, "attempt 1 is still trying in S_c, 0.500 s of 15.000 s used, 14.500 s left"))
+
+# ---- how long a silence is: without the argument 5,000 ticks, with it as many as it says
+
+OPENS = {"ltu": ("Await", "1\n2\n", "tick 0: attempt 1, tick 0: code 2: opens: Hearing\n", 0, "Hearing"),
+         "ntu": ("Gap", "1\n0*300\n", """tick 300: attempt 1, tick 0: opens: C_r
+tick 1300: attempt 1, tick 1000: Quiet-ntu
+tick 2800: attempt 1, tick 2500: S_r
+""", 300, "S_r")}
+for which, (told_by_1, opening, opens, at, stuck) in OPENS.items():
+    for given, silence in (("", 5000), (" 5000", 5000), (" 2000", 2000)):
+        name = f"{which}{given}, silent for {silence} ticks"
+        quiet = told(f"tick 0: Ready\ntick 0: code 8: Exception {silence}")
+        case(f"{name} after code 8: one tick before", which + given, f"8\n0*{silence - 1}\n1\n", quiet + told(
+            f"tick {silence - 1}: code 1: changes nothing, still Exception {silence}")
+            + end(silence - 1, f"still silent in Exception, {seconds(silence - 1)} so far, 0.001 s left"))
+        case(f"{name} after code 8: ready", which + given, f"8\n0*{silence}\n", quiet + told(f"tick {silence}: Ready")
+             + end(silence, "still waiting in Ready for pre-activation to end, 0.000 s so far"))
+        quiet = told(f"tick 0: Ready\ntick 0: code 1: {told_by_1}\n{opens}"
+                     f"tick {at + 15000}: attempt 1, tick 15000: time is up, ends in exception: Exception {silence}")
+        ended = f"attempt 1 ended in exception after 15.000 s: time was up in {stuck}; still "
+        case(f"{name} after tick 15,000: one tick before", which + given, f"{opening}0*15000\n0*{silence - 1}\n", quiet
+             + end(at + 15000 + silence - 1, f"{ended}silent in Exception, {seconds(silence - 1)} so far, 0.001 s left"))
+        case(f"{name} after tick 15,000: ready", which + given, f"{opening}0*15000\n0*{silence}\n", quiet + told(f"tick {at + 15000 + silence}: Ready")
+             + end(at + 15000 + silence, f"{ended}waiting in Ready for pre-activation to end, 0.000 s so far"))
 
 # ---- the text of a log
 
@@ -257,10 +281,10 @@ report("standard input closed", (got.stdout, got.stderr) == (b"", b"replay: stan
 FULL = b"replay: standard output: No space left on device\n"
 for name, log in (("a short log", b"1\n0*5000\n"), ("a refused log", b"x"), ("a log with a thousand events", b"1\n8\n0*2000\n" * 500)):
     with open("/dev/full", "wb") as full:
-        got = subprocess.run(sys.argv[1:] + ["ntu"], input=log, stdout=full, stderr=subprocess.PIPE)
+        got = subprocess.run(sys.argv[1:] + ["ntu", "2000"], input=log, stdout=full, stderr=subprocess.PIPE)
     report(f"a full disk, {name}: one message", got.stderr == FULL)
 script = 'ulimit -f 1; trap "" XFSZ; "$@" > "$0"'
-got = subprocess.run(["sh", "-c", script, os.path.join(folder.name, "out")] + sys.argv[1:] + ["ntu"], input=b"1\n8\n0*2000\n" * 500, capture_output=True)
+got = subprocess.run(["sh", "-c", script, os.path.join(folder.name, "out")] + sys.argv[1:] + ["ntu", "2000"], input=b"1\n8\n0*2000\n" * 500, capture_output=True)
 report("a file that grows too large: one message in mid-story", got.stderr == b"replay: standard output: File too large\n")
 
 # ---- arguments
@@ -405,9 +429,12 @@ def story(which, silence, codes):
 rng = random.Random(SEED)
 differ = 0
 logs = 60
-for k in range(logs):
+for k in range(2 * logs):
     which = rng.choice(("ltu", "ntu"))
     silence = rng.choice((2000, 2001, 5000))
+    given = f" {silence}"
+    if k >= logs:  # the silence left out
+        silence, given = 5000, ""
     lines, codes = [], []
     for _ in range(rng.randrange(1, 60)):
         if rng.random() < 0.5:
@@ -418,10 +445,10 @@ for k in range(logs):
             code = rng.choice("12345671234567123456781")
             lines.append(code)
             codes.append(code)
-    got = run(f"{which} {silence}", "\n".join(lines).encode("ascii"))
+    got = run(which + given, "\n".join(lines).encode("ascii"))
     if got != (0, story(which, silence, codes).encode("ascii"), b""):
         differ += 1
         if differ == 1:
-            print(f"  {which} {silence} {lines}\n{got[1].decode('latin-1')}  and not\n{story(which, silence, codes)}")
-report(f"{logs} random logs (seed {SEED}): {differ} differ", differ == 0)
+            print(f"  {which}{given} {lines}\n{got[1].decode('latin-1')}  and not\n{story(which, silence, codes)}")
+report(f"{2 * logs} random logs, {logs} of them with the silence left out (seed {SEED}): {differ} differ", differ == 0)
 sys.exit(failures != 0)

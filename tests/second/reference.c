@@ -1622,7 +1622,7 @@ struct sdsl_stepped ref_start(uint32_t end, uint32_t silence)
         return result;
     }
     if (silence == 0) {
-        silence = 2000;
+        silence = 5000;
     }
     if (silence < 2000 || silence > 60000) {
         result.answer = SDSL_OUT_OF_RANGE;

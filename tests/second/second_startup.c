@@ -85,11 +85,14 @@ static struct sdsl_run try_run(struct sdsl_supervisor state, const uint8_t *octe
     return lib;
 }
 
-/* From a fresh start: also against what the list itself says. */
+/* The silence that a start with 0 has. */
+#define DEFAULT_SILENCE 5000
+
+/* From a fresh start: also against what the list itself says, which is told a silence and never 0. */
 static void try_fresh_run(uint32_t end, uint32_t silence, const uint8_t *octets, size_t len)
 {
-    struct sdsl_run lib = try_run(ref_start(end, silence).state, octets, len);
-    struct by_list list = run_by_list(end, silence, octets, len);
+    struct sdsl_run lib = try_run(sdsl_start(end, silence).state, octets, len);
+    struct by_list list = run_by_list(end, silence == 0 ? DEFAULT_SILENCE : silence, octets, len);
     struct comparison comparison = {NULL};
     want(&comparison, lib.answer == 0, "refused");
     want(&comparison, lib.attempts == list.attempts && lib.opened_at == list.opened_at, "openings differ");
@@ -106,8 +109,8 @@ static const uint32_t ends[] = {0, 1, 2, 3, 255, 256, 257, 65536, 2147483648, 21
 
 static void all_starts(void)
 {
-    static const uint32_t silences[] = {0, 1, 2, 255, 256, 1998, 1999, 2000, 2001, 59999, 60000, 60001, 65535, 65536, 67536, 125536,
-                                        2147483648, 2147485648, 4294967295};
+    static const uint32_t silences[] = {0, 1, 2, 255, 256, 1998, 1999, 2000, 2001, 4999, 5000, 5001, 59999, 60000, 60001, 65535, 65536,
+                                        67536, 70536, 125536, 2147483648, 2147485648, 2147488648, 4294967295};
     for (size_t e = 0; e < ITEMS(ends); e++) {
         for (size_t s = 0; s < ITEMS(silences); s++) {
             try_start(ends[e], silences[s]);
@@ -320,6 +323,18 @@ static void make_list(const struct plan *plan, uint8_t *codes, size_t len)
     }
 }
 
+static void try_list(const struct plan *plan, uint8_t *codes)
+{
+    make_list(plan, codes, LIST_CODES);
+    try_fresh_run(plan->end, plan->silence, codes, LIST_CODES);
+    for (unsigned part = 0; part < 4; part++) {
+        try_fresh_run(plan->end, plan->silence, codes, (size_t)below(LIST_CODES));
+    }
+    /* The end of the list from any state. */
+    size_t from = (size_t)below(LIST_CODES);
+    try_run(any_state(), codes + from, LIST_CODES - from);
+}
+
 static void long_lists(void)
 {
     uint8_t *codes = malloc(LIST_CODES);
@@ -328,14 +343,12 @@ static void long_lists(void)
     }
     for (size_t i = 0; i < scaled(56); i++) {
         struct plan plan = make_plan(i);
-        make_list(&plan, codes, LIST_CODES);
-        try_fresh_run(plan.end, plan.silence, codes, LIST_CODES);
-        for (unsigned part = 0; part < 4; part++) {
-            try_fresh_run(plan.end, plan.silence, codes, (size_t)below(LIST_CODES));
-        }
-        /* The end of the list from any state. */
-        size_t from = (size_t)below(LIST_CODES);
-        try_run(any_state(), codes + from, LIST_CODES - from);
+        try_list(&plan, codes);
+    }
+    for (size_t i = 0; i < scaled(28); i++) { /* by the default silence, in every phase of either end */
+        struct plan plan = make_plan(i);
+        plan.silence = 0;
+        try_list(&plan, codes);
     }
     free(codes);
 }
@@ -371,7 +384,7 @@ static void name(bool good, const char *what, const struct side *side)
 
 /* A list in the making. */
 struct script {
-    uint8_t codes[70000];
+    uint8_t codes[76000];
     size_t len;
 };
 
@@ -545,7 +558,7 @@ static void ltu_cases(const struct side *side)
     }
 }
 
-/* Code 9 in mid-attempt; the ends of the silence; a state handed in amid an attempt. */
+/* Code 9 in mid-attempt; a state handed in amid an attempt. */
 static void other_cases(const struct side *side)
 {
     static struct script s;
@@ -572,18 +585,69 @@ static void other_cases(const struct side *side)
         name(run.answer == 0 && run.attempts == 0 && run.outcome == SDSL_NONE_OPENED && run.ended_at == 0 &&
              run.state.phase == SDSL_EXCEPTION, "an attempt that opened before the list", side);
 
-        name(side->start(end, 0).answer == 0 && side->start(end, 0).state.silence == 2000, "silence 0", side);
-        name(side->start(end, 1999).answer == 4 && side->start(end, 1999).state.silence == 0, "silence 1,999", side);
-        name(side->start(end, 2000).answer == 0 && side->start(end, 2000).state.silence == 2000, "silence 2,000", side);
-        name(side->start(end, 60000).answer == 0 && side->start(end, 60000).state.silence == 60000, "silence 60,000", side);
-        name(side->start(end, 60001).answer == 4, "silence 60,001", side);
+    }
+}
 
-        s.len = 0;
-        say(&s, 8);
-        wait(&s, 59999);
-        name(played(side, end, 60000, &s).phase == SDSL_EXCEPTION, "the longest silence at 59,999", side);
-        wait(&s, 1);
-        name(played(side, end, 60000, &s).phase == SDSL_READY, "the longest silence at 60,000", side);
+/* The silence from the code 8, or the 15,000th tick, with which the script ends: silent one tick before its end, and then ready. */
+static void rests(const struct side *side, uint32_t end, uint32_t silence, struct script *script, uint32_t ticks, const char *what)
+{
+    size_t begins = script->len;
+    struct sdsl_stepped at = played(side, end, silence, script);
+    name(at.phase == SDSL_EXCEPTION && at.state.silence == ticks, what, side);
+    wait(script, ticks - 1);
+    name(played(side, end, silence, script).phase == SDSL_EXCEPTION, what, side);
+    wait(script, 1);
+    name(played(side, end, silence, script).phase == SDSL_READY, what, side);
+    /* A report 1 behind the last tick but one is not heard; with it the card would not be ready then. */
+    script->len = begins;
+    wait(script, ticks - 1);
+    say(script, 1);
+    wait(script, 1);
+    name(played(side, end, silence, script).phase == SDSL_READY, what, side);
+    script->len = begins;
+}
+
+/* What a start makes of its silence: what 0 stands for, what is taken and kept, and how long it lasts. */
+static void silence_cases(const struct side *side)
+{
+    static const struct {
+        uint32_t asked, answer, kept;
+        const char *what;
+    } starts_with[] = {
+        {0, 0, 5000, "silence 0"},          {1, 4, 0, "silence 1"},           {1999, 4, 0, "silence 1,999"},
+        {2000, 0, 2000, "silence 2,000"},   {2001, 0, 2001, "silence 2,001"}, {4999, 0, 4999, "silence 4,999"},
+        {5000, 0, 5000, "silence 5,000"},   {5001, 0, 5001, "silence 5,001"}, {59999, 0, 59999, "silence 59,999"},
+        {60000, 0, 60000, "silence 60,000"}, {60001, 4, 0, "silence 60,001"},
+    };
+    static const struct {
+        uint32_t asked, ticks;
+        const char *after_8, *after_an_attempt;
+    } lasts[] = {
+        {0, 5000, "the default silence after an 8", "the default silence after tick 15,000"},
+        {2000, 2000, "2,000 asked for, after an 8", "2,000 asked for, after tick 15,000"},
+        {5000, 5000, "5,000 asked for, after an 8", "5,000 asked for, after tick 15,000"},
+        {60000, 60000, "the longest silence after an 8", "the longest silence after tick 15,000"},
+    };
+    static struct script s;
+    for (uint32_t end = 0; end < 2; end++) {
+        for (size_t i = 0; i < ITEMS(starts_with); i++) {
+            struct sdsl_stepped at = side->start(end, starts_with[i].asked);
+            name(at.answer == starts_with[i].answer && at.state.silence == starts_with[i].kept, starts_with[i].what, side);
+        }
+        for (size_t i = 0; i < ITEMS(lasts); i++) {
+            s.len = 0;
+            say(&s, 8);
+            rests(side, end, lasts[i].asked, &s, lasts[i].ticks, lasts[i].after_8);
+            s.len = 0;
+            say(&s, 1);
+            if (end == SDSL_LTU) {
+                say(&s, 2);
+            } else {
+                wait(&s, 300);
+            }
+            wait(&s, 15000);
+            rests(side, end, lasts[i].asked, &s, lasts[i].ticks, lasts[i].after_an_attempt);
+        }
     }
 }
 
@@ -619,6 +683,7 @@ void second_startup(void)
         ntu_cases(both[i]);
         ltu_cases(both[i]);
         other_cases(both[i]);
+        silence_cases(both[i]);
     }
     all_starts();
     steps_at_edges();

@@ -338,7 +338,7 @@ def told(name, words, starts):
 
 for words in (["--help"], ["nothing", "--help"], ["--help", "--bogus"]):
     told(f"{words} tells how it is called", words, USAGE + b"Sorts ")
-told("--version", ["--version"], b"sdsl-sorter 0.6.0\n")
+told("--version", ["--version"], b"sdsl-sorter 0.6.1\n")
 
 # ---- arguments in any place
 with tempfile.TemporaryDirectory() as folder:

@@ -10,14 +10,14 @@ use lib.ListN.{length}
 use Rattle.supervisor.specs.Names.{Hearing, Exception}
 use Rattle.supervisor.specs.Phases.{inAttempt}
 use Rattle.startup.specs.Reports.{count, need, shown}
-use Rattle.startup.specs.Attempts.{ltuNeeds, ntuNeeds, InTime, StillOpen, EndsInData, fresh, counted, OpensAt, opens}
-use Rattle.startup.specs.Scan.{Attempt, attempt, Listed}
+use Rattle.startup.specs.Attempts.{ltuNeeds, ntuNeeds, meant, InTime, StillOpen, EndsInData, fresh, counted, OpensAt, opens}
+use Rattle.startup.specs.Scan.{Attempt, attempt, attempts, Listed}
 use Rattle.startup.specs.Make.{Make, Ran, phaseAt, replyTo, FirstShows, ranOver}
 use Rattle.startup.proofs.Counts.{in-order-le}
 use Rattle.startup.proofs.Fate.{open-now}
 use Rattle.startup.proofs.Simulates.{sound}
 use Rattle.startup.proofs.Stands.{open-says}
-use Rattle.startup.proofs.Cases.{quiet, settles}
+use Rattle.startup.proofs.Cases.{quiet}
 use Rattle.startup.proofs.Agreement.{scan-agrees}
 use Rattle.demands.specs.Three.{Follows, Three}
 use Rattle.demands.specs.WrongSupervisors.{MovesOnce, NeverOpens, CallsException, SameTicks, CountsCodes, GivesUp, EndsTooLate, RejectedByThree}
@@ -27,22 +27,22 @@ use Rattle.demands.specs.WrongSupervisors.{MovesOnce, NeverOpens, CallsE
 abbrev pub told-and-heard : List ℕ → List ℕ
 told-and-heard rest = 1 ∷ 2 ∷ rest
 
-pub opened : (rest : List ℕ) → OpensAt (ltuNeeds 2000) (told-and-heard rest) 2
+pub opened : (rest : List ℕ) → OpensAt (ltuNeeds (meant 0)) (told-and-heard rest) 2
 opened rest = opens {p = 1} (counted {p = 0} fresh (lit≤ tt) refl refl refl) (record { since = lit≤ tt; lacking = refl; shows = refl }) refl
 
 -- it is open, and a code that is neither a 3 nor an 8 leaves it open
-now-open : (rest : List ℕ) → StillOpen (ltuNeeds 2000) (told-and-heard rest) 2 2
-now-open rest = open-now (ltuNeeds 2000) (sound false 2000 (lit≤ tt)) (told-and-heard rest) 2
+now-open : (rest : List ℕ) → StillOpen (ltuNeeds (meant 0)) (told-and-heard rest) 2 2
+now-open rest = open-now (ltuNeeds (meant 0)) (sound false (meant 0) (lit≤ tt)) (told-and-heard rest) 2
 
 pub still-open : (c : ℕ) → shown (need Hearing 0 (3 ∷ [])) (told-and-heard (c ∷ [])) 2 3 ≡ false → InTime (told-and-heard (c ∷ [])) 2 3
-    → StillOpen (ltuNeeds 2000) (told-and-heard (c ∷ [])) 2 3
+    → StillOpen (ltuNeeds (meant 0)) (told-and-heard (c ∷ [])) 2 3
 still-open c f u =
     let l = told-and-heard (c ∷ []) in
     record {
       since = lit≤ tt;
       in-time = u;
       unshown = λ q h i.
-          let e : i .0 ≡ 2 = omega (arith, i .1 .since, in-order-le (ltuNeeds 2000 .others) l (suc (i .0)) q (i .2), h) in
+          let e : i .0 ≡ 2 = omega (arith, i .1 .since, in-order-le (ltuNeeds (meant 0) .others) l (suc (i .0)) q (i .2), h) in
           true≢false (sym (subst (λ (p : ℕ). shown (need Hearing 0 (3 ∷ [])) l 2 (suc p) ≡ true) e (i .1 .shows)) ∙ f);
     }
 
@@ -51,16 +51,19 @@ still-open c f u =
 abbrev good : List ℕ
 good = quiet ++ (5 ∷ 7 ∷ 9 ∷ 4 ∷ 7 ∷ [])
 
-good-ends : OpensAt (ntuNeeds 2000) good 301 × EndsInData (ntuNeeds 2000) good 301 2806
+settles : attempts (ntuNeeds (meant 0)) good ≡ attempt 300 2 2806 ∷ []
+settles = refl
+
+good-ends : OpensAt (ntuNeeds (meant 0)) good 301 × EndsInData (ntuNeeds (meant 0)) good 301 2806
 good-ends =
-    let w = subst (Listed (ntuNeeds 2000) good (length good)) settles (scan-agrees 1 0 (lit≤ tt) (inl refl) good) .0 in
+    let w = subst (Listed (ntuNeeds (meant 0)) good (length good)) settles (scan-agrees 1 0 (lit≤ tt) (inl refl) good) .0 in
     (w .opens, ⊎-elim (λ z. absurd (omega (arith, z .0))) (⊎-elim (λ z. z .2) (λ z. absurd (omega (arith, z .0)))) (w .fate))
 
 module _ {S : Type 0} (make : Make S) (demand : Three make) where
   abbrev s₀ : S
   s₀ = make .start 0 0 .state
 
-  follows : (l : List ℕ) → Follows make s₀ (ltuNeeds 2000) Hearing l
+  follows : (l : List ℕ) → Follows make s₀ (ltuNeeds (meant 0)) Hearing l
   follows l = demand 0 0 (lit≤ tt) (inl refl) .1 l
 
   -- at the place 1 the answer shows Hearing, and before it did not
@@ -92,16 +95,16 @@ module _ {S : Type 0} (make : Make S) (demand : Three make) where
       let l = told-and-heard rest in
       open-says 0 0 (lit≤ tt) (inl refl) l 2 2 _ _ (opened rest) (now-open rest) (follows l .stands 1 (lit≤ tt)) .1
 
-  then : (c : ℕ) → c ≤ 8 → StillOpen (ltuNeeds 2000) (told-and-heard (c ∷ [])) 2 3
+  then : (c : ℕ) → c ≤ 8 → StillOpen (ltuNeeds (meant 0)) (told-and-heard (c ∷ [])) 2 3
       → (inAttempt (replyTo make s₀ (told-and-heard (c ∷ [])) 2 .phase) ≡ true)
       × (replyTo make s₀ (told-and-heard (c ∷ [])) 2 .attempt ≡ count 0 (told-and-heard (c ∷ [])) 2 3)
   then c h o = let l = told-and-heard (c ∷ []) in
       open-says 0 0 (lit≤ tt) (inl refl) l 2 3 _ _ (opened (c ∷ [])) o (follows l .stands 2 h)
 
-  after-tick : StillOpen (ltuNeeds 2000) (told-and-heard (0 ∷ [])) 2 3
+  after-tick : StillOpen (ltuNeeds (meant 0)) (told-and-heard (0 ∷ [])) 2 3
   after-tick = still-open 0 refl (record { calm = refl; early = lit≤ tt })
 
-  after-4 : StillOpen (ltuNeeds 2000) (told-and-heard (4 ∷ [])) 2 3
+  after-4 : StillOpen (ltuNeeds (meant 0)) (told-and-heard (4 ∷ [])) 2 3
   after-4 = still-open 4 refl (record { calm = refl; early = lit≤ tt })
 
   same-ticks-refuted : SameTicks make → ⊥

@@ -19,6 +19,7 @@ use Rattle.supervisor.specs.Phases.{inAttempt}
 use Rattle.supervisor.specs.Rules.{changed, entered, counted, moved}
 use Rattle.supervisor.proofs.Laws.{by-cases}
 use Rattle.startup.specs.Reports.{at, upto}
+use Rattle.startup.specs.Attempts.{meant}
 use Rattle.startup.specs.Make.{Make, stepsBy, phaseAt, replyTo, Taken}
 use Rattle.host.specs.declared.supervising.Supervisor.{Supervisor}
 use Rattle.host.specs.Supervising.{stateIn, stateOf}
@@ -244,7 +245,7 @@ abbrev late : State → ℕ → State
 late s c = cond (eqb c 0 && (inAttempt (s .phase) && leb attemptTicks (s .attempt + 1))) (counted s mostAttempt) (moved s c)
 
 abbrev hearing : ℕ → ℕ → Supervisor
-hearing t a = record { end = 0; phase = Hearing; ticks = t; attempt = a; silence = 2000; converged = 0; seen = 0 }
+hearing t a = record { end = 0; phase = Hearing; ticks = t; attempt = a; silence = meant 0; converged = 0; seen = 0 }
 
 -- the LTU in Hearing, legal
 abbrev InHearing : Supervisor → Type 0

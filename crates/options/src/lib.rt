@@ -21,7 +21,7 @@ pub const END: u32 = 6;
 pub const UNKNOWN: u32 = 7;
 
 // The version that the programs tell, as the Makefile has it.
-pub const RELEASE: [u8; 5] = *b"0.6.0";
+pub const RELEASE: [u8; 5] = *b"0.6.1";
 
 // The number of a name where an argument is this name, and else another.
 pub fn number(word: &[u8], name: &[u8], own: u32, other: u32) -> u32

@@ -413,7 +413,7 @@ fn help() -> u8 {
     done(print(
         b"usage: replay [--status] ltu|ntu [SILENCE] < LOG\n\
               Tells the story of an SDSL start-up log: one code a line, 0 to 8; 0*300 is 300 ticks.\n\
-              The last line is the verdict. SILENCE is 2000 to 60000 ticks, and 2000 where it is not given.\n\
+              The last line is the verdict. SILENCE is 2000 to 60000 ticks, and 5000 where it is not given.\n\
               \x20 --status   writes a digit to descriptor 3: 0 the card is in data mode, 1 it is not,\n\
               \x20            2 wrong use, or a log that is refused or cannot be read or told\n\
               \x20 --version  prints the version\n\

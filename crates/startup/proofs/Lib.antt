@@ -6,6 +6,7 @@ pub mod Simulates
 pub mod Fate
 pub mod Three
 pub mod Stands
+pub mod Silence
 pub mod Scanned
 pub mod Logged
 pub mod Turns

@@ -42,7 +42,7 @@ ltuNeeds silence = record {
 abbrev pub needsOf : ℕ → ℕ → Needs
 needsOf end silence = cond (eqb end 1) (ntuNeeds silence) (ltuNeeds silence)
 
--- the silence of a start: "0 stands for the default, 2,000 ticks"
+-- the silence of a start: "0 stands for the default, 5,000 ticks"
 abbrev pub meant : ℕ → ℕ
 meant silence = cond (eqb silence 0) defaultSilence silence
 

@@ -39,7 +39,7 @@ mostTicks = 59999
 
 -- the silence that 0 stands for
 abbrev pub defaultSilence : ℕ
-defaultSilence = 2000
+defaultSilence = 5000
 
 -- the shortest silence that is taken
 abbrev pub shortestSilence : ℕ

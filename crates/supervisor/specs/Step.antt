@@ -45,7 +45,7 @@ stepOf s c = answered (answer (stepRefusals s c)) s (moved s c)
 abbrev pub none : Supervisor
 none = record { end = 0; phase = 0; ticks = 0; attempt = 0; silence = 0; converged = 0; seen = 0 }
 
--- "0 stands for the default, 2,000 ticks"
+-- "0 stands for the default, 5,000 ticks"
 abbrev pub silenceOf : ℕ → ℕ
 silenceOf silence = cond (eqb silence 0) defaultSilence silence
 

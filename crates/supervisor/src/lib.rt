@@ -63,7 +63,7 @@ impl Supervisor {
     // Phase ticks stay here once there.
     pub const MOST_TICKS: u32 = 59999;
     // The silence that 0 stands for.
-    pub const DEFAULT_SILENCE: u32 = 2000;
+    pub const DEFAULT_SILENCE: u32 = 5000;
     // The shortest silence that is taken.
     pub const SHORTEST_SILENCE: u32 = 2000;
     // The longest.
