@@ -97,35 +97,35 @@ ltu = needsOf 0 (meant 0)
 abbrev ntu : Needs
 ntu = needsOf 1 (meant 0)
 
--- a 1 and a 2, or 300 ticks, open the attempt of either end; here a tick comes between two such attempts to open one
-abbrev ltu-twice : List ℕ
-ltu-twice = 1 ∷ 2 ∷ 0 ∷ 1 ∷ 2 ∷ []
+-- a 1 too early, the 5,000th tick, and a 1 that counts; the LTU's attempt opens with the 2 behind it, the NTU's 300 ticks later
+abbrev ltu-last : List ℕ
+ltu-last = 1 ∷ 2 ∷ 0 ∷ 1 ∷ 2 ∷ []
 
-abbrev ntu-twice : List ℕ
-ntu-twice = 1 ∷ 0 ∷ 1 ∷ replicate 300 0
+abbrev ntu-last : List ℕ
+ntu-last = 1 ∷ 0 ∷ 1 ∷ replicate 300 0
 
 -- LTU, after an 8, and after the 15,000th tick of an attempt that hears no 3
-pub ltu-after-8 : attempts ltu (1 ∷ 2 ∷ 8 ∷ replicate 4999 0 ++ ltu-twice) ≡ attempt 5006 1 0 ∷ attempt 1 3 2 ∷ []
-ltu-after-8 = ticks ltu resting (at-rest ltu) (attempt 1 3 2 ∷ []) ltu-twice 4999 3 5000 (omega arith)
+pub ltu-after-8 : attempts ltu (1 ∷ 2 ∷ 8 ∷ replicate 4999 0 ++ ltu-last) ≡ attempt 5006 1 0 ∷ attempt 1 3 2 ∷ []
+ltu-after-8 = ticks ltu resting (at-rest ltu) (attempt 1 3 2 ∷ []) ltu-last 4999 3 5000 (omega arith)
 
-pub ltu-after-15000 : attempts ltu (1 ∷ 2 ∷ replicate 14999 0 ++ (0 ∷ replicate 4999 0 ++ ltu-twice)) ≡ attempt 20005 1 0 ∷ attempt 1 3 15001 ∷ []
+pub ltu-after-15000 : attempts ltu (1 ∷ 2 ∷ replicate 14999 0 ++ (0 ∷ replicate 4999 0 ++ ltu-last)) ≡ attempt 20005 1 0 ∷ attempt 1 3 15001 ∷ []
 ltu-after-15000 =
     ticks ltu (trying (ltu .first) (ltu .others)) (in-vain ltu (ltu .first) (ltu .others) refl refl) (attempt 1 1 0 ∷ [])
-    (0 ∷ replicate 4999 0 ++ ltu-twice) 14999 2 15000 (omega arith)
-    ∙ time-is-up ltu (ltu .first) (ltu .others) 1 15001 (replicate 4999 0 ++ ltu-twice)
-    ∙ ticks ltu resting (at-rest ltu) (attempt 1 3 15001 ∷ []) ltu-twice 4999 15002 5000 (omega arith)
+    (0 ∷ replicate 4999 0 ++ ltu-last) 14999 2 15000 (omega arith)
+    ∙ time-is-up ltu (ltu .first) (ltu .others) 1 15001 (replicate 4999 0 ++ ltu-last)
+    ∙ ticks ltu resting (at-rest ltu) (attempt 1 3 15001 ∷ []) ltu-last 4999 15002 5000 (omega arith)
 
 -- NTU, after an 8, and after the 15,000th tick of an attempt that hears neither 4 nor 5
 abbrev converging : Need
 converging = need Sr 0 (4 ∷ 5 ∷ [])
 
-pub ntu-after-8 : attempts ntu (1 ∷ replicate 300 0 ++ (8 ∷ replicate 4999 0 ++ ntu-twice)) ≡ attempt 5603 1 0 ∷ attempt 300 3 301 ∷ []
-ntu-after-8 = ticks ntu resting (at-rest ntu) (attempt 300 3 301 ∷ []) ntu-twice 4999 302 5000 (omega arith)
+pub ntu-after-8 : attempts ntu (1 ∷ replicate 300 0 ++ (8 ∷ replicate 4999 0 ++ ntu-last)) ≡ attempt 5603 1 0 ∷ attempt 300 3 301 ∷ []
+ntu-after-8 = ticks ntu resting (at-rest ntu) (attempt 300 3 301 ∷ []) ntu-last 4999 302 5000 (omega arith)
 
-pub ntu-after-15000 : attempts ntu (1 ∷ replicate 2800 0 ++ (replicate 12499 0 ++ (0 ∷ replicate 4999 0 ++ ntu-twice)))
+pub ntu-after-15000 : attempts ntu (1 ∷ replicate 2800 0 ++ (replicate 12499 0 ++ (0 ∷ replicate 4999 0 ++ ntu-last)))
     ≡ attempt 20602 1 0 ∷ attempt 300 3 15300 ∷ []
 ntu-after-15000 =
     ticks ntu (trying converging (until-7 ∷ [])) (in-vain ntu converging (until-7 ∷ []) refl refl) (attempt 300 1 0 ∷ [])
-    (0 ∷ replicate 4999 0 ++ ntu-twice) 12499 2801 12500 (omega arith)
-    ∙ time-is-up ntu converging (until-7 ∷ []) 300 15300 (replicate 4999 0 ++ ntu-twice)
-    ∙ ticks ntu resting (at-rest ntu) (attempt 300 3 15300 ∷ []) ntu-twice 4999 15301 5000 (omega arith)
+    (0 ∷ replicate 4999 0 ++ ntu-last) 12499 2801 12500 (omega arith)
+    ∙ time-is-up ntu converging (until-7 ∷ []) 300 15300 (replicate 4999 0 ++ ntu-last)
+    ∙ ticks ntu resting (at-rest ntu) (attempt 300 3 15300 ∷ []) ntu-last 4999 15301 5000 (omega arith)

@@ -1,3 +1,3 @@
 pub mod Laws
 pub mod One
-pub mod Starts
+pub mod Silence

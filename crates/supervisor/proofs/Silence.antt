@@ -1,0 +1,47 @@
+-- What becomes of a silence: at a start 0 is 5,000 and what is asked for is kept, and no step changes it. Assumes nothing.
+use Prim.Native.Nat.{ℕ, zero, suc, _+_, _≤_}
+use native.Mathlib.Omega.{arith}
+use mathlib.Core.Path.{_≡_, refl}
+use mathlib.Core.Bool.{Bool, true, false, cond}
+use borrow.Author.Tests.{le-ltb, ne-eqb}
+use lib.Dec.{eqb}
+use Rattle.answer.specs.Answer.{answer, held}
+use Rattle.supervisor.specs.declared.Supervisor.{Supervisor}
+use Rattle.supervisor.specs.Names.{Ready, Exception}
+use Rattle.supervisor.specs.Phases.{Row, counts}
+use Rattle.supervisor.specs.Rules.{latest, over, among, acted, here, moved}
+use Rattle.supervisor.specs.Step.{stepRefusals, stepOf, fresh, startOf}
+
+-- a start with 0 is a start with 5,000, at every end: the same answer and the same state
+pub start-default : (end : ℕ) → startOf end 0 ≡ startOf end 5000
+start-default end = refl
+
+-- a silence from 2,000 to 60,000 is taken and kept
+pub start-kept : (end silence : ℕ) → end ≤ 1 → 2000 ≤ silence → silence ≤ 60000
+    → startOf end silence ≡ record { answer = 0; phase = Ready; attempt = 0; state = fresh end silence }
+start-kept end silence h lo hi =
+    rw (ne-eqb silence 0 (λ q. omega arith)) (simp (le-ltb 1 end h, le-ltb silence 2000 lo, le-ltb 60000 silence hi))
+
+-- so a start with 2,000 keeps 2,000
+pub start-2000 : (end : ℕ) → end ≤ 1 → startOf end 2000 ≡ record { answer = 0; phase = Ready; attempt = 0; state = fresh end 2000 }
+start-2000 end h = start-kept end 2000 h (omega arith) (omega arith)
+
+-- whichever of two states it is
+either : (b : Bool) (x y : Supervisor) (n : ℕ) → x .silence ≡ n → y .silence ≡ n → cond b x y .silence ≡ n
+either true x y n p q = p
+either false x y n p q = q
+
+acted-keeps : (r : Row) (s : Supervisor) (c : ℕ) → acted r s c .silence ≡ s .silence
+acted-keeps r s c =
+    either (eqb c 0) _ _ _
+    (either (counts (r .phase)) _ _ _ (either (latest r s) _ _ _ refl (either (over r s (s .ticks + 1) 0) _ _ _ refl refl)) refl)
+    (either (eqb c 8) _ _ _ (either (eqb (r .phase) Exception) _ _ _ refl refl)
+    (either (among c (r .awaits)) _ _ _ (either (over r s (s .ticks) c) _ _ _ refl refl) refl))
+
+-- a step keeps it, in every state and with every code, taken or refused
+pub step-keeps : (s : Supervisor) (c : ℕ) → stepOf s c .state .silence ≡ s .silence
+step-keeps s c = go (answer (stepRefusals s c))
+  where
+    go : (n : ℕ) → held n s (moved s c) .silence ≡ s .silence
+    go zero = acted-keeps (here s) s c
+    go (suc n) = refl
