@@ -12,6 +12,7 @@ pub mod Interwork
 pub mod Three
 pub mod Ours
 pub mod Refuted
+pub mod Silence
 pub mod Rejected
 pub mod DataRejected
 pub mod EocRejected

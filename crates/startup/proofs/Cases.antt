@@ -8,9 +8,9 @@ use mathlib.Core.Bool.{Bool, false, cond}
 use mathlib.Core.List.{List, [], _∷_, _++_}
 use borrow.Author.Tests.{ne-eqb}
 use lib.ListN.{replicate}
-use Rattle.supervisor.specs.Names.{Hearing, Sr, Tr, Exception}
+use Rattle.supervisor.specs.Names.{Sr, Tr, Exception}
 use Rattle.startup.specs.Reports.{Need, need}
-use Rattle.startup.specs.Attempts.{Needs, needsOf, ltuNeeds, meant}
+use Rattle.startup.specs.Attempts.{Needs, needsOf, meant}
 use Rattle.startup.specs.Scan.{Attempt, attempt, less, nothing, Stand, trying, silent, onward, scanned, event, logged, scan, attempts}
 
 -- NTU: a 1 and 300 ticks, so that the attempt opens at the place 300; then to the end of Quiet, with a 4 too early
