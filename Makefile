@@ -10,7 +10,7 @@
 # make help                 prints this
 # A program in build/ is run as './run NAME ARGS..', on any processor.
 .PHONY: all test first pair bench house install uninstall clean help
-.NOTPARALLEL: # two runs of rt at a time would prove the same crate twice; rt itself uses every processor
+.NOTPARALLEL: # two runs of rt at a time can take each other's crates for refused; rt itself uses every processor
 
 VERSION = 0.6.1
 PROGRAMS = lister messages replay sorter

@@ -949,7 +949,7 @@ static inline const char *sdsl_phase_text(uint32_t phase)
 #define SDSL_SC_TICKS 5000
 #define SDSL_SETTLING_TICKS 1000
 #define SDSL_ATTEMPT_TICKS 15000     /* an attempt still open at its 15,000th tick ends in Exception */
-#define SDSL_SILENCE_DEFAULT 0       /* for sdsl_start: stands for 5,000 ticks, the next number */
+#define SDSL_SILENCE_DEFAULT 0       /* for sdsl_start: stands for SDSL_SILENCE_DEFAULT_TICKS */
 #define SDSL_SILENCE_DEFAULT_TICKS 5000
 #define SDSL_SILENCE_MIN 2000        /* taken, and kept, where it is asked for */
 #define SDSL_SILENCE_MAX 60000

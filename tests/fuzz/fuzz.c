@@ -1118,7 +1118,8 @@ static uint32_t try_start(void)
     want(r.answer == SDSL_DONE ? is_state(r.state) && r.state.end == end : same_state(r.state, zeros), "gives a wrong state");
     want(r.answer != SDSL_DONE || r.state.silence == (silence == SDSL_SILENCE_DEFAULT ? SDSL_SILENCE_DEFAULT_TICKS : silence),
          "gives another silence");
-    want(silence != SDSL_SILENCE_DEFAULT || end > SDSL_NTU || r.answer == SDSL_DONE, "refuses the default silence");
+    bool taken = silence == SDSL_SILENCE_DEFAULT || (silence >= SDSL_SILENCE_MIN && silence <= SDSL_SILENCE_MAX);
+    want(end > SDSL_NTU || taken == (r.answer == SDSL_DONE), "refuses a silence that it has to take, or takes another");
     return r.answer;
 }
 

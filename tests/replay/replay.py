@@ -293,12 +293,14 @@ usage = "usage: replay [--status] ltu|ntu [SILENCE] < LOG\n"
 for arguments in ("", "2000", "LTU", "lt", "ltux", "xtu", "nto", "--"):
     case(f"no end: arguments '{arguments}'", arguments, "1\n", "", "replay: the end is ltu or ntu\n" + usage)
 for silence in ("1", "1999", "60001", "0", "x", "2000x", "4294969296", "20000000000000000000"):
-    case(f"no silence: {silence}", "ltu " + silence, "1\n", "", "replay: the silence is 2000 to 60000 ticks\n" + usage)
+    for which in ("ltu", "ntu"):
+        case(f"no silence: {which} {silence}", f"{which} {silence}", "1\n", "", "replay: the silence is 2000 to 60000 ticks\n" + usage)
 for arguments in ("--foo", "ltu -2000", "ltu --like", "ltu 2000 --csv", "ntu 2000 2000", "ntu 2000 log"):
     case(f"wrong: '{arguments}'", arguments, "1\n", "", f"replay: wrong argument: {arguments.split()[-1]}\n" + usage)
 for silence in (2000, 2001, 4999, 5000, 5001, 59999, 60000):
-    case(f"silence {silence}", f"ltu {silence}", "8\n", ready + told(f"tick 0: code 8: Exception {silence}")
-         + end(0, f"still silent in Exception, 0.000 s so far, {seconds(silence)} left"))
+    for which in ("ltu", "ntu"):
+        case(f"silence {which} {silence}", f"{which} {silence}", "8\n", ready + told(f"tick 0: code 8: Exception {silence}")
+             + end(0, f"still silent in Exception, 0.000 s so far, {seconds(silence)} left"))
 case("ltu behind --", "-- ltu", "", empty)
 makefile = pathlib.Path("Makefile").read_text()
 release = next(line.split(" = ")[1] for line in makefile.splitlines() if line.startswith("VERSION = "))

@@ -345,7 +345,7 @@ static void long_lists(void)
         struct plan plan = make_plan(i);
         try_list(&plan, codes);
     }
-    for (size_t i = 0; i < scaled(28); i++) { /* by the default silence, in every phase of either end */
+    for (size_t i = 0; i < scaled(28); i++) { /* started with 0; an 8 comes soon in each phase of each end */
         struct plan plan = make_plan(i);
         plan.silence = 0;
         try_list(&plan, codes);
@@ -415,10 +415,16 @@ static struct sdsl_stepped played(const struct side *side, uint32_t end, uint32_
 #define SILENCE 2000
 
 /* After the script the phase is this, and the attempt has these ticks. */
+static void expect_with(const struct side *side, uint32_t end, uint32_t silence, const struct script *script, uint32_t phase,
+                        uint32_t attempt, const char *what)
+{
+    struct sdsl_stepped at = played(side, end, silence, script);
+    name(at.answer == 0 && at.phase == phase && at.attempt == attempt && at.state.phase == phase, what, side);
+}
+
 static void expect(const struct side *side, uint32_t end, const struct script *script, uint32_t phase, uint32_t attempt, const char *what)
 {
-    struct sdsl_stepped at = played(side, end, SILENCE, script);
-    name(at.answer == 0 && at.phase == phase && at.attempt == attempt && at.state.phase == phase, what, side);
+    expect_with(side, end, SILENCE, script, phase, attempt, what);
 }
 
 static void expect_run(const struct side *side, uint32_t end, const struct script *script, uint64_t opened_at, uint32_t outcome,
@@ -584,7 +590,6 @@ static void other_cases(const struct side *side)
         struct sdsl_run run = side->run(before.state, (const uint8_t *)"\10", 1);
         name(run.answer == 0 && run.attempts == 0 && run.outcome == SDSL_NONE_OPENED && run.ended_at == 0 &&
              run.state.phase == SDSL_EXCEPTION, "an attempt that opened before the list", side);
-
     }
 }
 
@@ -592,18 +597,17 @@ static void other_cases(const struct side *side)
 static void rests(const struct side *side, uint32_t end, uint32_t silence, struct script *script, uint32_t ticks, const char *what)
 {
     size_t begins = script->len;
-    struct sdsl_stepped at = played(side, end, silence, script);
-    name(at.phase == SDSL_EXCEPTION && at.state.silence == ticks, what, side);
+    expect_with(side, end, silence, script, SDSL_EXCEPTION, 0, what);
     wait(script, ticks - 1);
-    name(played(side, end, silence, script).phase == SDSL_EXCEPTION, what, side);
+    expect_with(side, end, silence, script, SDSL_EXCEPTION, 0, what);
     wait(script, 1);
-    name(played(side, end, silence, script).phase == SDSL_READY, what, side);
+    expect_with(side, end, silence, script, SDSL_READY, 0, what);
     /* A report 1 behind the last tick but one is not heard; with it the card would not be ready then. */
     script->len = begins;
     wait(script, ticks - 1);
     say(script, 1);
     wait(script, 1);
-    name(played(side, end, silence, script).phase == SDSL_READY, what, side);
+    expect_with(side, end, silence, script, SDSL_READY, 0, what);
     script->len = begins;
 }
 

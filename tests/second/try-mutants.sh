@@ -662,7 +662,7 @@ mutant "the default still 2,000 at the LTU" -e '/^struct sdsl_stepped ref_start/
 mutant "the least silence 5,000 at a start" -e '/^struct sdsl_stepped ref_start/,/^}/s/silence < 2000/silence < 5000/'
 mutant "the least silence 5,000 in a state" -e '/^static uint32_t judge_state/,/^}/s/s.silence < 2000/s.silence < 5000/'
 mutant "a 2,000 that is asked for taken as 0" -e '/^struct sdsl_stepped ref_start/,/^}/s/if (silence == 0)/if (silence == 0 || silence == 2000)/'
-mutant "every silence up to 5,000 taken as 0" -e '/^struct sdsl_stepped ref_start/,/^}/s/if (silence == 0)/if (silence == 0 || (silence >= 2000 \&\& silence < 5000))/'
+mutant "every silence from 2,000 to 4,999 taken as 0" -e '/^struct sdsl_stepped ref_start/,/^}/s/if (silence == 0)/if (silence == 0 || (silence >= 2000 \&\& silence < 5000))/'
 mutant "a silence of 1 taken as 0" -e '/^struct sdsl_stepped ref_start/,/^}/s/if (silence == 0)/if (silence <= 1)/'
 mutant "a 0 refused" -e '/^struct sdsl_stepped ref_start/,/^}/s/        silence = 5000;/        ;/'
 mutant "the default put into the state only when Exception is entered (three lines)" -e '/^static uint32_t judge_state/,/^}/s/s.silence < 2000/(s.silence < 2000 \&\& s.silence != 0)/' -e '/^static struct sdsl_supervisor enter(/,/^}/s/^    s.converged = 0;/&  s.silence = s.silence == 0 \&\& phase == SDSL_EXCEPTION ? 5000 : s.silence;/' -e '/^struct sdsl_stepped ref_start/,/^}/{s/^    if (silence == 0) {/    bool lazy = silence == 0;\n&/;s/result.state.silence = silence;/result.state.silence = lazy ? 0 : silence;/}'

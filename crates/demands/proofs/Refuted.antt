@@ -11,13 +11,13 @@ use Rattle.supervisor.specs.Names.{Hearing, Exception}
 use Rattle.supervisor.specs.Phases.{inAttempt}
 use Rattle.startup.specs.Reports.{count, need, shown}
 use Rattle.startup.specs.Attempts.{ltuNeeds, ntuNeeds, meant, InTime, StillOpen, EndsInData, fresh, counted, OpensAt, opens}
-use Rattle.startup.specs.Scan.{Attempt, attempt, attempts, Listed}
+use Rattle.startup.specs.Scan.{Attempt, attempt, Listed}
 use Rattle.startup.specs.Make.{Make, Ran, phaseAt, replyTo, FirstShows, ranOver}
 use Rattle.startup.proofs.Counts.{in-order-le}
 use Rattle.startup.proofs.Fate.{open-now}
 use Rattle.startup.proofs.Simulates.{sound}
 use Rattle.startup.proofs.Stands.{open-says}
-use Rattle.startup.proofs.Cases.{quiet}
+use Rattle.startup.proofs.Cases.{quiet, settles}
 use Rattle.startup.proofs.Agreement.{scan-agrees}
 use Rattle.demands.specs.Three.{Follows, Three}
 use Rattle.demands.specs.WrongSupervisors.{MovesOnce, NeverOpens, CallsException, SameTicks, CountsCodes, GivesUp, EndsTooLate, RejectedByThree}
@@ -51,12 +51,9 @@ still-open c f u =
 abbrev good : List ℕ
 good = quiet ++ (5 ∷ 7 ∷ 9 ∷ 4 ∷ 7 ∷ [])
 
-settles : attempts (ntuNeeds (meant 0)) good ≡ attempt 300 2 2806 ∷ []
-settles = refl
-
 good-ends : OpensAt (ntuNeeds (meant 0)) good 301 × EndsInData (ntuNeeds (meant 0)) good 301 2806
 good-ends =
-    let w = subst (Listed (ntuNeeds (meant 0)) good (length good)) settles (scan-agrees 1 0 (lit≤ tt) (inl refl) good) .0 in
+    let w = subst (Listed (ntuNeeds (meant 0)) good (length good)) (settles (meant 0)) (scan-agrees 1 0 (lit≤ tt) (inl refl) good) .0 in
     (w .opens, ⊎-elim (λ z. absurd (omega (arith, z .0))) (⊎-elim (λ z. z .2) (λ z. absurd (omega (arith, z .0)))) (w .fate))
 
 module _ {S : Type 0} (make : Make S) (demand : Three make) where

@@ -1,5 +1,5 @@
--- A supervisor of any make that meets demand 3, as that of every library with our contracts does (`three`), is silent for 5,000 ticks after a start with 0.
--- Assumes nothing.
+-- A supervisor of any make that meets demand 3 and was started with 0 is silent for 5,000 ticks after an exception. That of every library with our contracts
+-- meets it (`three`). Assumes nothing.
 use Prim.Native.Nat.{ℕ, suc, _≤_}
 use native.Mathlib.Omega.{arith}
 use mathlib.Core.Path.{_≡_, refl}
@@ -17,6 +17,7 @@ use Rattle.demands.specs.Three.{Three}
 -- a silence has begun, with an 8 or the 15,000th tick of an attempt, and no 8 has come since; the code at the place p is a tick
 module _ {S : Type 0} (make : Make S) (demand : Three make) (end : ℕ) (known : end ≤ 1) (l : List ℕ) (e p : ℕ)
     (begins : SilenceBegins (needsOf end (meant 0)) l e) (h : e ≤ p) (calm : count 8 l e (suc p) ≡ 0) (tick : at l p ≡ 0) where
+  -- it shows what the list says
   shows : (ph t : ℕ) → Stands (needsOf end (meant 0)) l (suc p) ph t → replyTo make (make .start end 0 .state) l p .phase ≡ ph
   shows ph t x = stands-once end 0 known (inl refl) l (suc p) _ _ ph t (demand end 0 known (inl refl) .1 l .stands p (rw tick (omega arith))) x .0
 

@@ -17,14 +17,14 @@ use Rattle.startup.specs.Scan.{Attempt, attempt, less, nothing, Stand, t
 abbrev pub quiet : List ℕ
 quiet = 1 ∷ replicate 300 0 ++ (4 ∷ replicate 2500 0)
 
--- that 4 does not count: 4, 5 and then 7 are lacking, and 12,500 ticks are left
-after-quiet : (l : List ℕ) → attempts (needsOf 1 2000) (quiet ++ l) ≡ scan (needsOf 1 2000) 2802
+-- that 4 does not count: 4, 5 and then 7 are lacking, and 12,500 ticks are left, whatever the silence
+after-quiet : (silence : ℕ) (l : List ℕ) → attempts (needsOf 1 silence) (quiet ++ l) ≡ scan (needsOf 1 silence) 2802
     (trying (need Sr 0 (4 ∷ 5 ∷ [])) (need Tr 0 (7 ∷ []) ∷ []) 12500) (attempt 300 1 0 ∷ []) l
-after-quiet l = refl
+after-quiet silence l = refl
 
 -- 5, 4 and 7 after it end the attempt in data mode; a 7 too early and a 9 do nothing
-pub settles : attempts (needsOf 1 2000) (quiet ++ (5 ∷ 7 ∷ 9 ∷ 4 ∷ 7 ∷ [])) ≡ attempt 300 2 2806 ∷ []
-settles = after-quiet (5 ∷ 7 ∷ 9 ∷ 4 ∷ 7 ∷ [])
+pub settles : (silence : ℕ) → attempts (needsOf 1 silence) (quiet ++ (5 ∷ 7 ∷ 9 ∷ 4 ∷ 7 ∷ [])) ≡ attempt 300 2 2806 ∷ []
+settles silence = after-quiet silence (5 ∷ 7 ∷ 9 ∷ 4 ∷ 7 ∷ [])
 
 -- ---- many ticks
 
@@ -46,7 +46,7 @@ module _ (k : Needs) (w : ℕ → Stand) (down : CountsDown k w) (log : List Att
       let r : pred left - n ≡ left - suc n = omega arith in
       one-tick p left (replicate n 0 ++ l) (omega arith) ∙ rw (← q, ← r) (ticks n (suc p) (pred left) (omega arith))
 
--- they are counted down to an attempt's 15,000th, while a report is lacking and no tick is
+-- an attempt's ticks are counted down to its 15,000th while a report is lacking and its phase needs no more ticks
 module _ (k : Needs) (d : Need) (ds : List Need) (same : less 0 d ≡ d) (lacks : nothing d ≡ false) where
   in-vain : CountsDown k (trying d ds)
   in-vain left h = (
@@ -56,12 +56,12 @@ module _ (k : Needs) (d : Need) (ds : List Need) (same : less 0 d ≡ d) (lacks 
     refl,
   )
 
--- with which it ends
+-- the 15,000th ends it
 time-is-up : (k : Needs) (d : Need) (ds : List Need) (o p : ℕ) (l : List ℕ)
     → scan k p (trying d ds 1) (attempt o 1 0 ∷ []) (0 ∷ l) ≡ scan k (suc p) (silent (k .silence)) (attempt o 3 p ∷ []) l
 time-is-up k d ds o p l = refl
 
--- and to the last one of a silence
+-- a silence's are counted down to its last
 abbrev resting : ℕ → Stand
 resting left = silent (need Exception left [])
 
@@ -70,18 +70,18 @@ at-rest k left h = (rw (ne-eqb (pred left) 0 (λ q. omega arith)) refl, refl)
 
 -- ---- the 15,000th tick
 
--- report 7 after tick 14,999, and after one tick more
 abbrev until-7 : Need
 until-7 = need Tr 0 (7 ∷ [])
 
+-- report 7 after tick 14,999, and after one tick more
 in-time : attempts (needsOf 1 2000) (quiet ++ (4 ∷ 5 ∷ replicate 12499 0) ++ (7 ∷ [])) ≡ attempt 300 2 15303 ∷ []
 in-time =
-    after-quiet (4 ∷ 5 ∷ replicate 12499 0 ++ (7 ∷ []))
+    after-quiet 2000 (4 ∷ 5 ∷ replicate 12499 0 ++ (7 ∷ []))
     ∙ ticks (needsOf 1 2000) (trying until-7 []) (in-vain (needsOf 1 2000) until-7 [] refl refl) (attempt 300 1 0 ∷ []) (7 ∷ []) 12499 2804 12500 (omega arith)
 
 too-late : attempts (needsOf 1 2000) (quiet ++ (4 ∷ 5 ∷ replicate 12499 0) ++ (0 ∷ 7 ∷ [])) ≡ attempt 300 3 15303 ∷ []
 too-late =
-    after-quiet (4 ∷ 5 ∷ replicate 12499 0 ++ (0 ∷ 7 ∷ []))
+    after-quiet 2000 (4 ∷ 5 ∷ replicate 12499 0 ++ (0 ∷ 7 ∷ []))
     ∙ ticks (needsOf 1 2000) (trying until-7 []) (in-vain (needsOf 1 2000) until-7 [] refl refl) (attempt 300 1 0 ∷ []) (0 ∷ 7 ∷ []) 12499 2804 12500 (omega arith)
 
 -- ---- a silence

@@ -1,4 +1,4 @@
--- How long a silence lasts, by the list: for every list and every silence, and at last for the silence that 0 stands for. Assumes nothing.
+-- How long a silence lasts, by the list: for every list and every silence, then for the silence that 0 stands for. Assumes nothing.
 use Prim.Native.Nat.{ℕ, suc, _+_, _≤_, _<_}
 use native.Mathlib.Nat.{le-refl}
 use native.Mathlib.Omega.{arith}
@@ -14,6 +14,7 @@ use Rattle.startup.specs.Stands.{Stands, ready, silent}
 use Rattle.startup.proofs.Counts.{count-self, count-step}
 
 module _ (k : Needs) (silence : ℕ) (q : k .silence ≡ need Exception silence []) (l : List ℕ) (e : ℕ) (begins : SilenceBegins k l e) where
+  -- with so many ticks it has passed, with fewer it has not
   passed : (n : ℕ) → silence ≤ count 0 l e n → shown (k .silence) l e n ≡ true
   passed n t = rw q (simp (le-leb silence (count 0 l e n) t))
 
@@ -24,7 +25,7 @@ module _ (k : Needs) (silence : ℕ) (q : k .silence ≡ need Exception silence 
   silent-while : (n : ℕ) → e ≤ n → count 8 l e n ≡ 0 → count 0 l e n < silence → Stands k l n Exception 0
   silent-while n h z t = subst (λ (p : ℕ). Stands k l n p 0) (ap (λ (d : Need). d .phase) q) (silent begins h z (lasts n t))
 
-  -- ready with the tick that makes them so many
+  -- ready with the code that completes it
   ready-with : (p : ℕ) → e ≤ p → count 8 l e (suc p) ≡ 0 → count 0 l e p < silence → silence ≤ count 0 l e (suc p) → Stands k l (suc p) Ready 0
   ready-with p h z t u =
       ready (rested begins (record { since = h; lacking = lasts p t; shows = passed (suc p) u }) z) (le-refl _) (count-self 1 l (suc p)) (count-self 8 l (suc p))
@@ -47,7 +48,8 @@ module _ (end silence : ℕ) (l : List ℕ) (e p : ℕ) (begins : SilenceBegins 
       let z : count 0 l e (suc p) ≡ count 0 l e p + 1 = count-step 0 l e p h ∙ ap (λ (b : Bool). count 0 l e p + one b) (eq-eqb _ _ c) in
       ready-with (needsOf end (meant silence)) (meant silence) (silence-is end (meant silence)) l e begins p h calm (omega arith) (omega arith)
 
--- A CARD STARTED WITH 0 is silent at the 4,999th tick and ready at the 5,000th, at either end: after an 8, or after the 15,000th tick of an attempt
+-- A CARD STARTED WITH 0 is silent at the 4,999th tick and ready at the 5,000th, at either end: after an 8, or after the 15,000th tick of an attempt, if no 8
+-- comes between
 module _ (end : ℕ) (l : List ℕ) (e p : ℕ) (begins : SilenceBegins (needsOf end (meant 0)) l e) (h : e ≤ p) (calm : count 8 l e (suc p) ≡ 0) where
   pub default-silent : count 0 l e (suc p) ≡ 4999 → Stands (needsOf end (meant 0)) l (suc p) Exception 0
   default-silent t = still-silent end 0 l e p begins h calm (rw t (omega arith))

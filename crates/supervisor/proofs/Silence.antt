@@ -24,13 +24,14 @@ start-kept end silence h lo hi =
 
 -- so a start with 2,000 keeps 2,000
 pub start-2000 : (end : ℕ) → end ≤ 1 → startOf end 2000 ≡ record { answer = 0; phase = Ready; attempt = 0; state = fresh end 2000 }
-start-2000 end h = start-kept end 2000 h (omega arith) (omega arith)
+start-2000 end h = rw (le-ltb 1 end h) refl
 
--- whichever of two states it is
+-- where two states have the silence n, so has whichever is chosen
 either : (b : Bool) (x y : Supervisor) (n : ℕ) → x .silence ≡ n → y .silence ≡ n → cond b x y .silence ≡ n
 either true x y n p q = p
 either false x y n p q = q
 
+-- what a code does in a phase keeps it
 acted-keeps : (r : Row) (s : Supervisor) (c : ℕ) → acted r s c .silence ≡ s .silence
 acted-keeps r s c =
     either (eqb c 0) _ _ _
