@@ -564,18 +564,24 @@ static void ltu_cases(const struct side *side)
     }
 }
 
+/* A script that opens an attempt. */
+static void open_attempt(struct script *script, uint32_t end)
+{
+    script->len = 0;
+    say(script, 1);
+    if (end == SDSL_LTU) {
+        say(script, 2);
+    } else {
+        wait(script, 300);
+    }
+}
+
 /* Code 9 in mid-attempt; a state handed in amid an attempt. */
 static void other_cases(const struct side *side)
 {
     static struct script s;
     for (uint32_t end = 0; end < 2; end++) {
-        s.len = 0;
-        say(&s, 1);
-        if (end == SDSL_LTU) {
-            say(&s, 2);
-        } else {
-            wait(&s, 300);
-        }
+        open_attempt(&s, end);
         size_t opened_at = s.len - 1;
         wait(&s, 100);
         struct sdsl_stepped before = played(side, end, SILENCE, &s);
@@ -642,13 +648,7 @@ static void silence_cases(const struct side *side)
             s.len = 0;
             say(&s, 8);
             rests(side, end, lasts[i].asked, &s, lasts[i].ticks, lasts[i].after_8);
-            s.len = 0;
-            say(&s, 1);
-            if (end == SDSL_LTU) {
-                say(&s, 2);
-            } else {
-                wait(&s, 300);
-            }
+            open_attempt(&s, end);
             wait(&s, 15000);
             rests(side, end, lasts[i].asked, &s, lasts[i].ticks, lasts[i].after_an_attempt);
         }
