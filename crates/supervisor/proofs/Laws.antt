@@ -231,7 +231,7 @@ module _ (s : Supervisor) (c : ℕ) where
 
 -- a start is refused as its fresh state is
 fresh-refusal : (end silence : ℕ) → answer (stateRefusals (fresh end (silenceOf silence))) ≡ answer (startRefusals end silence)
-fresh-refusal end silence = rw (ready (eqb end 1) (silenceOf silence))
+fresh-refusal end silence = rw (ready (eqb end 1) (silenceOf silence)) refl
   where
     ready : (b : Bool) (silence : ℕ) → isOf Ready (cond b (ntuPhases silence) (ltuPhases silence)) ≡ true
     ready true silence = refl
