@@ -30,7 +30,7 @@ endif
 CFLAGS = -O2
 STRICT = -std=c11 -Wall -Wextra -Werror
 
-SOURCES = crates.txt tools/build $(shell find crates -name '*.rt' -o -name '*.antt')
+SOURCES = crates.txt tools/build tools/turns $(shell find crates -name '*.rt' -o -name '*.antt')
 BUILT = build/libsdsl.a $(PROGRAMS:%=build/%)
 
 all: $(BUILT)
@@ -53,7 +53,7 @@ build/pair: $(wildcard $(PAIR)/*.c $(PAIR)/*.h) include/sdsl.h build/libsdsl.a
 # Crate checktrial, for tests and the benchmark: check bits and check sequence alone, which sdsl.h does not have.
 build/libchecktrial.a: $(SOURCES)
 	@mkdir -p build
-	@rt staticlib checktrial > build/checktrial.log 2>&1 || { cat build/checktrial.log >&2; exit 1; }
+	@sh tools/turns rt staticlib checktrial > build/checktrial.log 2>&1 || { cat build/checktrial.log >&2; exit 1; }
 	@cp target/staticlib/libchecktrial.a $@
 
 bench: build/bench

@@ -159,7 +159,10 @@ bool make_message_inputs(void); /* false where a message was refused */
 
 /* One message through an operation: what is found goes to place i of `results`. */
 typedef void message_operation(const struct library *library, const struct message_set *set, const struct message *one, size_t i);
-message_operation write_message, read_message, hand_up_message, sequence_of_message;
+message_operation write_message, read_message, hand_up_message;
+
+/* The check sequences of BATCH messages, one call each and nothing between the calls: one of two octets takes less than two nanoseconds. */
+void sequences_of(const struct library *library, size_t size, const struct message *messages);
 
 /* Streams of bits for the receiver: of chance, of frames one behind the other, and the dear ones. */
 enum { CHANCE_STREAM, FRAMES_STREAM, WORST_STREAM, NEARLY_STREAM, ONES_STREAM, STREAMS };
@@ -182,7 +185,7 @@ uint32_t sequence_by_bit(const uint8_t *octets, size_t count);
 #else
 #define WITH_OSMOCORE(pass) (0 ? (pass) : NULL)
 #endif
-uint32_t our_sequence(const uint8_t *octets, size_t count); /* by crate checktrial */
+uint32_t trial_sequence(const uint8_t *octets, size_t count); /* ours, by crate checktrial */
 
 extern const struct other check_others[], six_24_others[], six_289_others[];
 extern const struct other send_training_ltu_others[], send_training_ntu_others[], send_final_ltu_others[], send_final_ntu_others[];
@@ -231,10 +234,12 @@ __typeof__(sdsl_unprecode) narrow_unprecode;
     PASS(read_75, read_message, ORDINARY_75) \
     PASS(read_75_flags, read_message, FLAGS_75) \
     PASS(hand_up_20, hand_up_message, ORDINARY_20)
+
+/* And of check sequences: PASS(name, set). */
 #define SEQUENCE_PASSES(PASS) \
-    PASS(sequence_2, sequence_of_message, ORDINARY_2) \
-    PASS(sequence_20, sequence_of_message, ORDINARY_20) \
-    PASS(sequence_75, sequence_of_message, ORDINARY_75)
+    PASS(sequence_2, ORDINARY_2) \
+    PASS(sequence_20, ORDINARY_20) \
+    PASS(sequence_75, ORDINARY_75)
 
 /* And of the receiver: PASS(name, stream, bits in a pass, bits in a lump). */
 #define RECEIVE_PASSES(PASS) \

@@ -294,7 +294,14 @@ static void message_name(size_t which, char *text, size_t room)
     static void name(const struct library *library, size_t which) { message_batch(library, operation, &message_sets[set], which); }
 
 MESSAGE_PASSES(MESSAGE_PASS)
-SEQUENCE_PASSES(MESSAGE_PASS)
+
+#define SEQUENCE_PASS(name, set) \
+    static void name(const struct library *library, size_t which) \
+    { \
+        sequences_of(library, message_sets[set].size, message_sets[set].dear[which]); \
+    }
+
+SEQUENCE_PASSES(SEQUENCE_PASS)
 
 /* ---- The receiver: each row's lumps, of the dear streams ---- */
 

@@ -119,15 +119,12 @@ void hand_up_message(const struct library *library, const struct message_set *se
     results.numbers[2 * i + 1] = (uint32_t)up.units;
 }
 
-void sequence_of_message(const struct library *library, const struct message_set *set, const struct message *one, size_t i)
-{
-    results.numbers[i] = library->sequence(one->octets, set->size);
-}
+/* ---- Check sequences ---- */
 
-/* Crate checktrial hands fcs::sequence on: the check sequence of the first `count` octets. */
-uint32_t trial_sequence(const uint8_t *octets, size_t len, uint32_t count);
-
-uint32_t our_sequence(const uint8_t *octets, size_t count)
+void sequences_of(const struct library *library, size_t size, const struct message *messages)
 {
-    return trial_sequence(octets, count, (uint32_t)count);
+    uint32_t (*sequence)(const uint8_t *octets, size_t count) = library->sequence;
+    for (size_t i = 0; i < BATCH; i++) {
+        results.numbers[i] = sequence(messages[i].octets, size);
+    }
 }

@@ -11,7 +11,7 @@ const struct library ours = {
     sdsl_frame_send, sdsl_frame_check, sdsl_frame_read, sdsl_descramble_frame,
     sdsl_encode, sdsl_encode_run, sdsl_precode, sdsl_unprecode, sdsl_start, sdsl_step, sdsl_run_codes,
     sdsl_data_write, sdsl_data_crc, sdsl_data_read, sdsl_data_check,
-    sdsl_eoc_write, sdsl_eoc_read, sdsl_eoc_hand_up, sdsl_receive_start, sdsl_receive, our_sequence,
+    sdsl_eoc_write, sdsl_eoc_read, sdsl_eoc_hand_up, sdsl_receive_start, sdsl_receive, trial_sequence,
 };
 const struct library plain = {
     "plain C",
@@ -306,8 +306,8 @@ static void messages(const struct library *library, message_operation *operation
 
 MESSAGE_PASSES(MESSAGE_PASS)
 
-#define SEQUENCE_PASS(name, operation, set) \
-    static void name(const struct library *library) { messages(library, operation, &message_sets[set]); } \
+#define SEQUENCE_PASS(name, set) \
+    static void name(const struct library *library) { sequences_of(library, message_sets[set].size, message_sets[set].usual); } \
     static void name##_table(void) { name(&one_pass_table); } \
     static const struct other name##_others[] = {{"osmo_crc16_ccitt", WITH_OSMOCORE(name##_table)}, {NULL, NULL}};
 

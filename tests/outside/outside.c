@@ -11,7 +11,7 @@
 uint32_t trial_check_bits(const uint8_t *octets, size_t len, size_t at, uint32_t bits);
 uint32_t trial_from_start(uint32_t generator, uint32_t degree, uint32_t start, const uint8_t *octets, size_t len, size_t at,
                           uint32_t bits);
-uint32_t trial_sequence(const uint8_t *octets, size_t len, uint32_t count);
+uint32_t trial_sequence(const uint8_t *octets, size_t len);
 
 static char line[1 << 16];
 static uint8_t octets[sizeof line / 2];
@@ -31,7 +31,7 @@ int main(void)
         unsigned bits, generator, degree, start;
         int numbers = sscanf(rest, "%llu %u %u %u %u", &at, &bits, &generator, &degree, &start);
         if (numbers == 1)
-            printf("%u\n", (unsigned)trial_sequence(octets, len, (uint32_t)at));
+            printf("%u\n", (unsigned)trial_sequence(octets, at));
         else if (numbers == 5)
             printf("%u\n", (unsigned)trial_from_start(generator, degree, start, octets, len, at, bits));
         else

@@ -58,10 +58,10 @@ got = ask([(high_first(m), 0, 8 * len(m), GENERATOR, 16, start) for m, start in 
 wrong = sum(g != binascii.crc_hqx(m, start) for g, m, start in zip(got, messages, starts))
 report(f"the same behind random starts: {wrong} differ", wrong == 0)
 
-counts = [rng.randrange(len(m) + 3) for m in messages]
+counts = [rng.randrange(len(m) + 1) for m in messages]
 got = ask([(m, count) for m, count in zip(messages, counts)])
 wrong = sum(g != turned(binascii.crc_hqx(high_first(m[:count]), 0xFFFF), 16) ^ 0xFFFF for g, m, count in zip(got, messages, counts))
-report(f"the check sequence of their first octets, or of all where fewer are there: {wrong} differ", wrong == 0)
+report(f"the check sequence of their first octets: {wrong} differ", wrong == 0)
 
 # a range that starts and ends inside octets: as the same bits laid from place 0 on, where the bits before are zero
 cuts = []

@@ -1,5 +1,6 @@
 // For tests and the benchmark only: what is compared with numbers from outside and no card's host calls.
 ghost use Prim.Native.Nat.{_%_};
+ghost use lib.ListN.{length};
 ghost use Rattle.answer.specs.Answer.{answer};
 ghost use Rattle.fcs.specs.Promises.{Sequenced};
 ghost use Rattle.remainder.specs.Promises.{CheckBits, startRefusals, FromStart};
@@ -29,10 +30,10 @@ pub extern "C" fn trial_from_start(
     left.remainder
 }
 
-// The check sequence of a message's first n octets, n up to 65,535.
+// The check sequence of octets, up to 65,535 of them.
 #[no_mangle]
-pub extern "C" fn trial_sequence(s: &[u8], n: u32) -> u32
-    ensures { λ r. ⌜ Sequenced (now (s .entry)) (n % 65536) r ⌝ }
+pub extern "C" fn trial_sequence(s: &[u8]) -> u32
+    ensures { λ r. ⌜ Sequenced (now (s .entry)) (length (now (s .entry)) % 65536) r ⌝ }
 {
-    fcs::sequence(s, (n % 65536) as u16)
+    fcs::sequence(s, (s.len() % 65536) as u16)
 }

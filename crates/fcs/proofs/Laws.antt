@@ -1,12 +1,14 @@
 -- Laws of the check sequence: it has two octets, it is there for all octets, and it is the only one. Assumes nothing.
 use mathlib.Core.Path.{_≡_, refl, sym, ap, ap₂, _∙_, subst}
+use mathlib.Core.Bool.{Bool, true, false, not, _&&_, _||_, false≢true}
 use mathlib.Core.List.{List, [], _∷_}
 use Prim.Native.Nat.{ℕ, _+_, _-_, _*_, _/_, _%_, _^_, _≤_, _<_}
 use native.Mathlib.Nat.{mod-eq-of-lt}
 use native.Mathlib.Decide.{decLe}
 use native.Mathlib.Omega.{arith}
 use lib.Bits.{bitXor, bitAnd, and-mask, xor-add-and, xor-comm, and-comm}
-use lib.Dec.{lit≤}
+use lib.Dec.{lit≤, eqb, ltb}
+use borrow.Author.Tests.{ltb-false, eqb-true}
 use lib.ListN.{length, take, drop}
 use lib.Seq.{take-all}
 use Rattle.octets.specs.Bits.{digitsOf, valueOf, bitsOf, octetsOf, part}
@@ -119,6 +121,23 @@ short-is s n w r h k l e p =
     ∙ ap (λ (o : ℕ). registerOf 16 generator 0 (digitsOf (8 * n) (bitXor w o))) ones-turned
     ∙ sym (start-in 16 generator (lit≤ tt) generator-degree (8 * n) ones w (omega arith) (lit≤ tt))
     ∙ ap (registerOf 16 generator ones) (word-front s 0 (8 * n) w (omega arith) (omega arith) e ∙ bits-first s n))
+
+-- ---- which way is taken
+
+pub both-there : (l n : ℕ) → (not (ltb l n) && eqb n 2) ≡ true → (n ≤ l) × (n ≡ 2)
+both-there l n e = pick (ltb l n) refl e
+  where
+    pick : (a : Bool) → ltb l n ≡ a → (not a && eqb n 2) ≡ true → (n ≤ l) × (n ≡ 2)
+    pick false f e = (ltb-false l n f, eqb-true n 2 e)
+    pick true f e = absurd (false≢true e)
+
+pub in-word : (l n : ℕ) → (ltb l n || ltb n 2 || ltb 8 n) ≡ false → (2 ≤ n) × (n ≤ 8) × (n ≤ l)
+in-word l n e = pick (ltb l n) (ltb n 2) refl refl e
+  where
+    pick : (a b : Bool) → ltb l n ≡ a → ltb n 2 ≡ b → (a || b || ltb 8 n) ≡ false → (2 ≤ n) × (n ≤ 8) × (n ≤ l)
+    pick false false f g e = (ltb-false n 2 g, ltb-false 8 n e, ltb-false l n f)
+    pick false true f g e = absurd (false≢true (sym e))
+    pick true b f g e = absurd (false≢true (sym e))
 
 -- turned over it is the check sequence, as a number
 pub sequenced : (s : List ℕ) (n t : ℕ) → t ≡ turnOf 16 (register (take n s)) → Sequenced s n (ones - t)

@@ -26,6 +26,15 @@ fn short(s: &[u8], n: u16) -> u32
     remainder::word_left(x << (remainder::WORD - 8 * (n as u32)))
 }
 
+// The register after the first two octets, turned round: all that a request without contents has. The compiler makes one load of them and a
+// few shifts.
+fn bare(s: &[u8]) -> u32
+    requires { ⌜ 2 ≤ length (now s) ⌝ }
+    ensures { λ r. ⌜ r ≡ valueOf (reverse (digitsOf 16 (register (take 2 (now (s .entry)))))) ⌝ }
+{
+    short(&s[0..2], BARE)
+}
+
 // The register after n octets, turned round. Nothing past the end counts.
 fn long(s: &[u8], n: u16) -> u32
     ensures { λ r. ⌜ r ≡ valueOf (reverse (digitsOf 16 (register (take n (now (s .entry)))))) ⌝ }
@@ -41,21 +50,15 @@ fn long(s: &[u8], n: u16) -> u32
     bitfields::turned(remainder::DEGREE, left.remainder)
 }
 
-// The register after n octets, turned round, the shortest way. Most requests have no contents: of their two octets the compiler makes one load
-// and a few shifts.
+// The register after n octets, turned round, the shortest way.
 fn behind_ones(s: &[u8], n: u16) -> u32
     ensures { λ r. ⌜ r ≡ valueOf (reverse (digitsOf 16 (register (take n (now (s .entry)))))) ⌝ }
 {
-    if s.len() < (n as usize) {
-        return long(s, n);
+    let few = s.len() < (n as usize);
+    if !few & (n == BARE) {
+        return bare(s);
     }
-    if n == BARE {
-        return short(&s[0..2], BARE);
-    }
-    if n < BARE {
-        return long(s, n);
-    }
-    if WORD_OCTETS < n {
+    if few | (n < BARE) | (WORD_OCTETS < n) {
         return long(s, n);
     }
     short(s, n)

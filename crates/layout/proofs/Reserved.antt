@@ -96,6 +96,14 @@ module _ (f : List ℕ) (l : length f ≡ 529) where
 
 -- ---- as they are taken: 64 and 3 of them, and zeros behind them to the room's end
 
+-- read at their places, as a word and as three bits
+pub first-read : (f : List ℕ) {i r : ℕ} → WordRead f i r → i ≡ 518 → r ≡ valueOf (part 4144 64 (bitsOf f))
+first-read f e ei = e ∙ ap (λ (x : ℕ). valueOf (part (8 * x) 64 (bitsOf f))) ei
+
+pub last-read : (f : List ℕ) {at k n r : ℕ} → BitsRead f at k n r → at ≡ 4144 → k ≡ 64 → n ≡ 3 → r ≡ valueOf (part 4208 3 (bitsOf f))
+last-read f {k = k} e ea ek en =
+    e ∙ ap₂ (λ (x y : ℕ). valueOf (part (x + k) (min y 56) (bitsOf f))) ea en ∙ ap (λ (x : ℕ). valueOf (part (4144 + x) 3 (bitsOf f))) ek
+
 module _ (f : List ℕ) (l : length f ≡ 529) where
   abbrev first : List ℕ
   first = part 4144 64 (bitsOf f)
@@ -119,13 +127,11 @@ module _ (f : List ℕ) (l : length f ≡ 529) where
   last-length : length last ≡ 3
   last-length = length-take-le 3 (drop 4208 (bitsOf f)) (omega (arith, length-drop 4208 (bitsOf f), bits-length f))
 
-  pub reserved-taken : (s t u : List ℕ) {i at k n j p q lo hi : ℕ} → length s ≡ 9 → WordRead f i lo → BitsRead f at k n hi → WordPut s j lo t
-      → FrontPut t p q hi u → i ≡ 518 → at ≡ 4144 → k ≡ 64 → n ≡ 3 → j ≡ 0 → p ≡ 8 → q ≡ 8 → u ≡ nine (bitsOf f)
-  reserved-taken s t u {k = k} {q = q} ls a b c d ei ea ek en ej ep eq =
+  pub reserved-taken : (s t u : List ℕ) {j p q lo hi : ℕ} → length s ≡ 9 → lo ≡ valueOf first → hi ≡ valueOf last → WordPut s j lo t → FrontPut t p q hi u
+      → j ≡ 0 → p ≡ 8 → q ≡ 8 → u ≡ nine (bitsOf f)
+  reserved-taken s t u {q = q} ls low high c d ej ep eq =
       let B = bitsOf f in
       let z : List ℕ = replicate 5 0 in
-      let low = a ∙ ap (λ (x : ℕ). valueOf (part (8 * x) 64 B)) ei in
-      let high = b ∙ ap₂ (λ (x y : ℕ). valueOf (part (x + k) (min y 56) B)) ea en ∙ ap (λ (x : ℕ). valueOf (part (4144 + x) 3 B)) ek in
       let put : t ≡ laid s 0 first = c ∙ ap₂ (λ (x y : ℕ). laid s (8 * x) (digitsOf 64 y)) ej low ∙ ap (laid s 0) first-digits in
       let put-last : u ≡ laid t 64 (last ++ z) = d ∙ ap₂ (λ (x y : ℕ). laid t (8 * x) (digitsOf (min q 64) y)) ep high
       ∙ ap (λ (x : ℕ). laid t 64 (digitsOf (min x 64) (valueOf last))) eq ∙ ap (laid t 64) last-digits in

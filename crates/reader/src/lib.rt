@@ -2,10 +2,11 @@
 ghost use mathlib.Core.Path.{_≡_};
 ghost use mathlib.Core.Bool.{_&&_};
 ghost use lib.Dec.{eqb};
+ghost use Prim.Native.Nat.{_+_};
 ghost use lib.ListN.{length};
-ghost use Rattle.octets.specs.Bits.{valueOf, bitsOf};
+ghost use Rattle.octets.specs.Bits.{valueOf, bitsOf, part};
 ghost use Rattle.ranges.specs.Ranges.{coefficientCount};
-ghost use Rattle.layout.specs.Places.{frameLength, vendorLength, reservedLength, placeOf, aField, bField};
+ghost use Rattle.layout.specs.Places.{frameLength, vendorLength, reservedLength, placeOf, aField, bField, reservedField};
 ghost use Rattle.layout.specs.Frame.{fieldOf};
 ghost use Rattle.reader.specs.Promises.{vendorOctets, reservedOctets, Read};
 
@@ -61,13 +62,27 @@ const RESERVED_OCTET: usize = layout::RESERVED_AT / 8;
 
 const BEHIND_64: u32 = layout::RESERVED_BITS - 64;
 
+// The first 64 of the reserved bits.
+fn first_reserved(frame: &[u8]) -> u64
+    ensures { λ r. ⌜ r ≡ valueOf (part (placeOf reservedField) 64 (bitsOf (now (frame .entry)))) ⌝ }
+{
+    octets::word(frame, RESERVED_OCTET)
+}
+
+// The three behind them.
+fn last_reserved(frame: &[u8]) -> u64
+    ensures { λ r. ⌜ r ≡ valueOf (part (placeOf reservedField + 64) 3 (bitsOf (now (frame .entry)))) ⌝ }
+{
+    octets::bits(frame, layout::RESERVED_AT, 64, BEHIND_64)
+}
+
 // The reserved bits of a frame: 64 of them, and the others as a whole octet, so that its top bits become zero, whatever stood in the room.
 fn put_reserved(frame: &[u8], reserved: &mut [u8])
     requires { ⌜ (length (now frame) ≡ frameLength) × (length (now reserved) ≡ reservedLength) ⌝ }
     ensures { λ r. ⌜ now (reserved .exit) ≡ reservedOctets (bitsOf (now (frame .entry))) ⌝ }
 {
-    let first = octets::word(frame, RESERVED_OCTET);
-    let last = octets::bits(frame, layout::RESERVED_AT, 64, BEHIND_64);
+    let first = first_reserved(frame);
+    let last = last_reserved(frame);
     octets::put_word(reserved, 0, first);
     octets::put_front(reserved, 8, 8, last);
 }

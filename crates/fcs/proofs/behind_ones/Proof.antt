@@ -1,72 +1,37 @@
 -- `fcs::behind_ones` meets its contract.
 use borrow.Author.Needs.{needs}
-use mathlib.Core.Path.{sym, ap, _∙_}
-use mathlib.Core.List.{List}
-use Prim.Native.Nat.{ℕ}
-use lib.Dec.{lit≤}
-use lib.ListN.{take}
-use lib.Seq.{take-take}
+use mathlib.Core.Path.{sym, ap, subst, _∙_}
+use Prim.Native.Nat.{ℕ, _≤_}
+use lib.ListN.{length, take}
 use Rattle.octets.proofs.Turn.{turnOf}
 use Rattle.fcs.specs.Sequence.{register}
+use Rattle.fcs.proofs.Laws.{both-there, in-word}
 use Rattle.fcs.proofs.behind_ones.Statement.{statement}
 use Rattle.fcs.proofs.behind_ones.Tie as tie
+
+bare-requires : tie.Need-bare-requires
+bare-requires c κs =
+    let a = c .before .before .args in
+    let h = both-there (length (a .s .now)) (a .n) (c .if1 .taken) in
+    subst (λ (k : ℕ). k ≤ length (a .s .now)) (h .1) (h .0)
+
+returns : tie.Need-returns
+returns c =
+    let a = c .before .before .before .args in
+    let s = a .s .now in
+    c .bare .ensures ∙ ap (λ (k : ℕ). turnOf 16 (register (take k s))) (sym (both-there (length s) (a .n) (c .before .if1 .taken) .1))
 
 long-requires : tie.Need-long-requires
 long-requires c κs = search needs
 
-returns : tie.Need-returns
-returns c = search needs
-
-sub-short : tie.Need-sub-short
-sub-short c = search needs
-
-part-short-start : tie.Need-part-short-start
-part-short-start c = search needs
-
-part-short-end : tie.Need-part-short-end
-part-short-end c = search needs
+returns-2 : tie.Need-returns-2
+returns-2 c = search needs
 
 short-requires : tie.Need-short-requires
-short-requires c κs = search needs
-
-returns-2 : tie.Need-returns-2
-returns-2 c =
-    let a = c .before .before .before .before .before .args in
-    c .short .ensures
-    ∙ ap (λ (l : List ℕ). turnOf 16 (register l)) (take-take 2 2 (a .s .now) (lit≤ tt) ∙ ap (λ (k : ℕ). take k (a .s .now)) (sym (c .before .before .if2 .taken)))
-
-long-requires-2 : tie.Need-long-requires-2
-long-requires-2 c κs = search needs
+short-requires c κs = let a = c .before .before .before .args in in-word (length (a .s .now)) (a .n) (c .if2 .left)
 
 returns-3 : tie.Need-returns-3
 returns-3 c = search needs
 
-long-requires-3 : tie.Need-long-requires-3
-long-requires-3 c κs = search needs
-
-returns-4 : tie.Need-returns-4
-returns-4 c = search needs
-
-short-requires-2 : tie.Need-short-requires-2
-short-requires-2 c κs = search needs
-
-returns-5 : tie.Need-returns-5
-returns-5 c = search needs
-
 pub behind-ones-spec : {M : Type 1} → statement M
-behind-ones-spec =
-    tie.close
-    (tie.spec
-    long-requires
-    returns
-    sub-short
-    part-short-start
-    part-short-end
-    short-requires
-    returns-2
-    long-requires-2
-    returns-3
-    long-requires-3
-    returns-4
-    short-requires-2
-    returns-5)
+behind-ones-spec = tie.close (tie.spec bare-requires returns long-requires returns-2 short-requires returns-3)

@@ -5,11 +5,11 @@ use Rattle.layout.proofs.Reserved.{reserved-taken}
 use Rattle.reader.proofs.put_reserved.Statement.{statement}
 use Rattle.reader.proofs.put_reserved.Tie as tie
 
-word-requires : tie.Need-word-requires
-word-requires c κs = search needs
+first-reserved-requires : tie.Need-first-reserved-requires
+first-reserved-requires c κs = search needs
 
-bits-requires : tie.Need-bits-requires
-bits-requires c κs = search needs
+last-reserved-requires : tie.Need-last-reserved-requires
+last-reserved-requires c κs = search needs
 
 put-word-requires : tie.Need-put-word-requires
 put-word-requires c κs = search needs
@@ -26,8 +26,8 @@ returns c =
     let x = c .before .before .before .before .before .before .put-word in
     let b = c .before .before .before .before .before .before .before .before in
     let a = b .before .before .before .before in
-    reserved-taken (a .args .frame .now) (a .pre .0) (a .args .reserved .now) (x .last .0) (y .last .0) (a .pre .1) (b .before .word .ensures) (b .bits .ensures)
-    (x .ensures) (y .ensures) refl refl refl refl refl refl refl
+    reserved-taken (a .args .frame .now) (a .pre .0) (a .args .reserved .now) (x .last .0) (y .last .0) (a .pre .1) (b .before .first-reserved .ensures) (b .last-reserved .ensures)
+    (x .ensures) (y .ensures) refl refl refl
 
 pub put-reserved-spec : {M : Type 1} → statement M
-put-reserved-spec = tie.close (tie.spec word-requires bits-requires put-word-requires put-front-requires same-length returns)
+put-reserved-spec = tie.close (tie.spec first-reserved-requires last-reserved-requires put-word-requires put-front-requires same-length returns)
