@@ -1,4 +1,4 @@
--- What becomes of a silence: at a start 0 is 5,000 and what is asked for is kept, and no step changes it. Assumes nothing.
+-- What becomes of a silence: what is asked for at a start is kept, and no step changes it. Default.antt has what 0 stands for. Assumes nothing.
 use Prim.Native.Nat.{ℕ, zero, suc, _+_, _≤_}
 use native.Mathlib.Omega.{arith}
 use mathlib.Core.Path.{_≡_, refl}
@@ -11,10 +11,6 @@ use Rattle.supervisor.specs.Names.{Ready, Exception}
 use Rattle.supervisor.specs.Phases.{Row, counts}
 use Rattle.supervisor.specs.Rules.{latest, over, among, acted, here, moved}
 use Rattle.supervisor.specs.Step.{stepRefusals, stepOf, fresh, startOf}
-
--- a start with 0 is a start with 5,000, at every end: the same answer and the same state
-pub start-default : (end : ℕ) → startOf end 0 ≡ startOf end 5000
-start-default end = refl
 
 -- a silence from 2,000 to 60,000 is taken and kept
 pub start-kept : (end silence : ℕ) → end ≤ 1 → 2000 ≤ silence → silence ≤ 60000
