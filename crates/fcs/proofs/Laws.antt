@@ -124,8 +124,8 @@ short-is s n w r h k l e p =
 
 -- ---- which way is taken
 
-pub both-there : (l n : ℕ) → (not (ltb l n) && eqb n 2) ≡ true → (n ≤ l) × (n ≡ 2)
-both-there l n e = pick (ltb l n) refl e
+pub two-there : (l n : ℕ) → (not (ltb l n) && eqb n 2) ≡ true → (n ≤ l) × (n ≡ 2)
+two-there l n e = pick (ltb l n) refl e
   where
     pick : (a : Bool) → ltb l n ≡ a → (not a && eqb n 2) ≡ true → (n ≤ l) × (n ≡ 2)
     pick false f e = (ltb-false l n f, eqb-true n 2 e)

@@ -5,21 +5,21 @@ use Prim.Native.Nat.{ℕ, _≤_}
 use lib.ListN.{length, take}
 use Rattle.octets.proofs.Turn.{turnOf}
 use Rattle.fcs.specs.Sequence.{register}
-use Rattle.fcs.proofs.Laws.{both-there, in-word}
+use Rattle.fcs.proofs.Laws.{two-there, in-word}
 use Rattle.fcs.proofs.behind_ones.Statement.{statement}
 use Rattle.fcs.proofs.behind_ones.Tie as tie
 
 bare-requires : tie.Need-bare-requires
 bare-requires c κs =
     let a = c .before .before .args in
-    let h = both-there (length (a .s .now)) (a .n) (c .if1 .taken) in
+    let h = two-there (length (a .s .now)) (a .n) (c .if1 .taken) in
     subst (λ (k : ℕ). k ≤ length (a .s .now)) (h .1) (h .0)
 
 returns : tie.Need-returns
 returns c =
     let a = c .before .before .before .args in
     let s = a .s .now in
-    c .bare .ensures ∙ ap (λ (k : ℕ). turnOf 16 (register (take k s))) (sym (both-there (length s) (a .n) (c .before .if1 .taken) .1))
+    c .bare .ensures ∙ ap (λ (k : ℕ). turnOf 16 (register (take k s))) (sym (two-there (length s) (a .n) (c .before .if1 .taken) .1))
 
 long-requires : tie.Need-long-requires
 long-requires c κs = search needs
