@@ -34,6 +34,10 @@ edits = sorted(ROOT.glob("crates/*/must-fail/*.edit"))
 for edit in edits:
     crate = edit.parts[-3]
     programs = re.findall(r"^# (\w+) \(([\w:/]+)\)", edit.read_text(), re.M)
+    twice = len({function for _, function in programs}) != len(programs)  # then an error would not say which of the two it is of
+    if twice:
+        failed += 1
+        print(f"FAIL: {crate}/{edit.stem}: two wrong programs of one function or module")
     log = ROOT / "target" / "must-fail" / crate / edit.stem / ".log"
     text = log.read_text() if log.exists() else ""
     nameless = re.search(NAMELESS, text, re.M)

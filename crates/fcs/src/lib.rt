@@ -50,8 +50,8 @@ fn long(s: &[u8], n: u16) -> u32
     bitfields::turned(remainder::DEGREE, left.remainder)
 }
 
-// The register after n octets, turned round, the shortest way. All that takes the long way goes there by one branch: then two octets need no
-// room on the stack.
+// The register after n octets, turned round, the shortest way. Everything else takes the long way through one branch, so that two octets
+// need no stack frame.
 fn behind_ones(s: &[u8], n: u16) -> u32
     ensures { λ r. ⌜ r ≡ valueOf (reverse (digitsOf 16 (register (take n (now (s .entry)))))) ⌝ }
 {
