@@ -8,7 +8,7 @@ use borrow.Author.Tests.{eqb-true, not-false, eq-eqb, ne_eqb}
 use lib.Dec.{eqb}
 use lib.ListN.{length, take, drop, length-drop, drop_of_length-le}
 use lib.Seq.{drop-drop}
-use Rattle.log.specs.Lines.{line_of, up_to_end, end_of}
+use Rattle.startlog.specs.Lines.{line_of, up_to_end, end_of}
 use Rattle.story.specs.declared.Story.{Story}
 use Rattle.story.specs.declared.Event.{Event}
 use Rattle.story.specs.Events.{event_of}

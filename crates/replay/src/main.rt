@@ -6,7 +6,7 @@ ghost use Rattle.std.specs.Prelude.{◌≡◌, true, ◌+◌, ◌≤◌, length}
 ghost use Rattle.replay.specs.Replay.{most_octets, followed, lines_of, ending_from};
 
 use libc::{STDERR_FILENO, STDIN_FILENO, STDOUT_FILENO};
-use log::Line;
+use startlog::Line;
 use story::{Event, Story, kind};
 use supervisor::Supervisor;
 
@@ -122,7 +122,7 @@ fn replay(log: &[u8], begun: Story) -> Ending
     let mut line: u32 = 1;
     let mut at = 0;
     while at < log.len() {
-        let end = log::line_end(log, at);
+        let end = startlog::line_end(log, at);
         let followed = follow(story, Line::read(&log[at..end]));
         let event = followed.event;
         story = event.story;
@@ -150,10 +150,10 @@ fn last_line(log: &[u8]) -> u32
     requires { length log.now ≤ most_octets + 1 }
 {
     let mut line: u32 = 1;
-    let mut at = log::line_end(log, 0) + 1;
+    let mut at = startlog::line_end(log, 0) + 1;
     while at < log.len() {
         line += 1;
-        at = log::line_end(log, at) + 1;
+        at = startlog::line_end(log, at) + 1;
     }
     line
 }

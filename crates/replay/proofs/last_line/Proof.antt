@@ -3,7 +3,7 @@ use borrow.Author.Rules.{rules}
 use Prim.Native.Nat.{◌+◌, ◌-◌, ◌≤◌}
 use native.Mathlib.Omega.{arith}
 use lib.ListN.{length}
-use Rattle.log.proofs.Laws.{end-within}
+use Rattle.startlog.proofs.Laws.{end-within}
 use Rattle.replay.proofs.last_line.Statement.{statement}
 use Rattle.replay.proofs.last_line.Tie as tie
 

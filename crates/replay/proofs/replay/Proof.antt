@@ -5,8 +5,8 @@ use Prim.Native.Nat.{ℕ, ◌+◌, ◌-◌, ◌≤◌}
 use native.Mathlib.Numerals.{add-one}
 use native.Mathlib.Omega.{arith}
 use lib.ListN.{length, take, drop}
-use Rattle.log.specs.Lines.{line_of}
-use Rattle.log.proofs.Laws.{end-within}
+use Rattle.startlog.specs.Lines.{line_of}
+use Rattle.startlog.proofs.Laws.{end-within}
 use Rattle.replay.specs.Replay.{followed, lines_of, ending_from}
 use Rattle.replay.proofs.Laws.{stopped, went_on, as_written, lines_next, lines-last, ending-stop, ending-more}
 use Rattle.replay.proofs.replay.Statement.{statement}

@@ -12,8 +12,8 @@ use lib.ListN.{length, get_or, take, drop, length-drop, drop_of_length-le}
 use lib.Seq.{take-suc, take_all, drop-cons}
 use Rattle.ascii.specs.Text.{digit_of, reading}
 use Rattle.ascii.proofs.Reading.{reading-more}
-use Rattle.log.specs.declared.Line.{Line}
-use Rattle.log.specs.Lines.{most_ticks, line, is_digit, digits, counted, said, line_of, up_to_end, end_of}
+use Rattle.startlog.specs.declared.Line.{Line}
+use Rattle.startlog.specs.Lines.{most_ticks, line, is_digit, digits, counted, said, line_of, up_to_end, end_of}
 
 -- ---- where a line ends
 

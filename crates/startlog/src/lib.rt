@@ -1,7 +1,7 @@
 // A start-up log as text, one code a line: where a line ends, and what it says. The rules are specs/Lines.antt.
 ghost use Rattle.std.specs.Prelude.{◌≡◌, cond, ◌+◌, ◌-◌, ◌*◌, ◌≤◌, leb};
-ghost use Rattle.log.specs.Lines.{most_ticks, counted, one_code, said, line_of, end_of};
-ghost use Rattle.log.specs.Lines.{line as lineWith};
+ghost use Rattle.startlog.specs.Lines.{most_ticks, counted, one_code, said, line_of, end_of};
+ghost use Rattle.startlog.specs.Lines.{line as lineWith};
 
 // What a line says. With any answer but 0 the other numbers are 0.
 #[derive(Drop)]

@@ -2,7 +2,7 @@
 -- with a newline, in front of which a carriage return may stand.
 use Rattle.std.specs.Prelude.{Bool, true, cond, ◌&&◌, ◌||◌, List, [], ◌∷◌, ℕ, suc, ◌+◌, ◌-◌, leb, eqb, length, get_or, take, drop}
 use Rattle.ascii.specs.Text.{reading}
-use Rattle.log.specs.declared.Line.{Line}
+use Rattle.startlog.specs.declared.Line.{Line}
 
 -- an answer, a code, and how often it comes
 abbrev pub line : ℕ → ℕ → ℕ → Line

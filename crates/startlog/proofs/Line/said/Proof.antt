@@ -5,10 +5,10 @@ use mathlib.Core.Path.{ap, ◌∙◌}
 use Prim.Native.Nat.{◌-◌}
 use lib.ListN.{length, get_or, drop, length-drop}
 use lib.Seq.{take_all}
-use Rattle.log.specs.Lines.{said, counted}
+use Rattle.startlog.specs.Lines.{said, counted}
 use borrow.Author.Rules.{rules}
-use Rattle.log.proofs.Line.said.Statement.{statement}
-use Rattle.log.proofs.Line.said.Tie as tie
+use Rattle.startlog.proofs.Line.said.Statement.{statement}
+use Rattle.startlog.proofs.Line.said.Tie as tie
 
 with-requires : tie.Need-with-requires
 with-requires c κs = search rules

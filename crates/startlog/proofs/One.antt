@@ -2,8 +2,8 @@
 use mathlib.Core.Path.{◌≡◌, sym, ◌∙◌}
 use mathlib.Core.List.{List}
 use Prim.Native.Nat.{ℕ}
-use Rattle.log.specs.declared.Line.{Line}
-use Rattle.log.specs.Lines.{counted, line_of, end_of}
+use Rattle.startlog.specs.declared.Line.{Line}
+use Rattle.startlog.specs.Lines.{counted, line_of, end_of}
 
 pub read_one : (l : List ℕ) (r r' : Line) → r ≡ line_of l → r' ≡ line_of l → r ≡ r'
 read_one l r r' p q = p ∙ sym q

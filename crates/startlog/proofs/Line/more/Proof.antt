@@ -1,8 +1,8 @@
 -- `Line::more` meets its contract.
 use borrow.Author.Tests.{le-leb, lt-leb}
 use borrow.Author.Rules.{rules}
-use Rattle.log.proofs.Line.more.Statement.{statement}
-use Rattle.log.proofs.Line.more.Tie as tie
+use Rattle.startlog.proofs.Line.more.Statement.{statement}
+use Rattle.startlog.proofs.Line.more.Tie as tie
 
 cast-if1 : tie.Need-overflow-cast-if1
 cast-if1 c = search rules

@@ -4,11 +4,11 @@ use mathlib.Core.Path.{sym}
 use native.Mathlib.Omega.{arith}
 use lib.ListN.{length, get_or}
 use lib.Seq.{length-take-le}
-use Rattle.log.proofs.Laws.{said-none}
+use Rattle.startlog.proofs.Laws.{said-none}
 use borrow.Author.Rules.{rules}
 use Prim.Native.Nat.{◌-◌}
-use Rattle.log.proofs.Line.read.Statement.{statement}
-use Rattle.log.proofs.Line.read.Tie as tie
+use Rattle.startlog.proofs.Line.read.Statement.{statement}
+use Rattle.startlog.proofs.Line.read.Tie as tie
 
 with-requires : tie.Need-with-requires
 with-requires c κs = search rules

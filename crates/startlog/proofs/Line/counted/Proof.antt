@@ -4,9 +4,9 @@ use mathlib.Core.Path.{◌∙◌}
 use Prim.Native.Nat.{◌-◌}
 use native.Mathlib.Omega.{arith}
 use lib.ListN.{length}
-use Rattle.log.proofs.Laws.{below, above, Read, read_none, read_more, none-counted, many-counted, some-counted}
-use Rattle.log.proofs.Line.counted.Statement.{statement}
-use Rattle.log.proofs.Line.counted.Tie as tie
+use Rattle.startlog.proofs.Laws.{below, above, Read, read_none, read_more, none-counted, many-counted, some-counted}
+use Rattle.startlog.proofs.Line.counted.Statement.{statement}
+use Rattle.startlog.proofs.Line.counted.Tie as tie
 
 abbrev invariant-loop : tie.invariant-loop
 invariant-loop digits ticks₀ k₀ ticks k = Read digits ticks k

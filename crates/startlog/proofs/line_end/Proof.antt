@@ -1,12 +1,12 @@
--- `log::line_end` meets its contract. No newline stands from the first place to the place k.
+-- `startlog::line_end` meets its contract. No newline stands from the first place to the place k.
 use mathlib.Core.Path.{◌≡◌, refl, sym, ◌∙◌}
 use Prim.Native.Nat.{◌-◌}
 use native.Mathlib.Omega.{arith}
 use lib.ListN.{length}
-use Rattle.log.specs.Lines.{end_of}
-use Rattle.log.proofs.Laws.{end-here, end-next, end-last}
-use Rattle.log.proofs.line_end.Statement.{statement}
-use Rattle.log.proofs.line_end.Tie as tie
+use Rattle.startlog.specs.Lines.{end_of}
+use Rattle.startlog.proofs.Laws.{end-here, end-next, end-last}
+use Rattle.startlog.proofs.line_end.Statement.{statement}
+use Rattle.startlog.proofs.line_end.Tie as tie
 
 abbrev invariant-loop : tie.invariant-loop
 invariant-loop log at k₀ k = end_of log k ≡ end_of log at

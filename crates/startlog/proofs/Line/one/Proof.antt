@@ -1,8 +1,8 @@
 -- `Line::one` meets its contract.
 use borrow.Author.Tests.{le-leb, lt-leb}
 use borrow.Author.Rules.{rules}
-use Rattle.log.proofs.Line.one.Statement.{statement}
-use Rattle.log.proofs.Line.one.Tie as tie
+use Rattle.startlog.proofs.Line.one.Statement.{statement}
+use Rattle.startlog.proofs.Line.one.Tie as tie
 
 with-requires : tie.Need-with-requires
 with-requires c κs = search rules
