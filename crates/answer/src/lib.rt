@@ -1,4 +1,5 @@
 // What comes back: SCOPE's numbers by name. The rule for choosing one is specs/Answer.antt.
+#![tactic(auto)]
 
 // Done.
 pub const DONE: u32 = 0;

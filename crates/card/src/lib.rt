@@ -1,11 +1,12 @@
 // A card's verdict: what its frame is found to be (crate verdict finds it), as numbers, and the words for each (specs/).
+#![tactic(auto)]
 ghost use Rattle.std.specs.Prelude.{◌≡◌};
 ghost use Rattle.ascii.specs.Promises.{Put};
 ghost use Rattle.card.specs.Words.{row_of_rank, refusal};
 ghost use Rattle.card.specs.Promises.{NamePut, TodoPut};
 
 // What a card's frame is found to be: rank is the verdict.
-#[derive(Drop)]
+#[derive(Clone, Copy)]
 pub struct Verdict {
     pub rank: u32,
     pub octets: u32,

@@ -1,4 +1,5 @@
 // The data-mode frame's measures (002, clauses 7.1.2 to 7.1.5). What they mean is in specs/: one table gives every place.
+#![tactic(auto)]
 
 // The two forms.
 pub const SYNCHRONOUS: u32 = 0;
@@ -39,7 +40,7 @@ pub const STUFFING: u32 = 4;
 pub const ONES: u32 = 15;
 
 // What a frame carries beside its payload and its sync word. Of each field the first bit in time weighs least, but crc1 weighs most.
-#[derive(Drop)]
+#[derive(Clone, Copy)]
 pub struct Overhead {
     // losd 1, sega 2, ps 4, segd 8.
     pub indicators: u32,

@@ -1,1 +1,2 @@
 // What the crates below promise together. No code: specs/ says it, proofs/ proves it.
+#![tactic(auto)]

@@ -1,4 +1,5 @@
 // The measures of operations channel messages (002, clauses 10.5.5.1 to 10.5.5.6). What they mean is in specs/.
+#![tactic(auto)]
 
 // A flag at either end of a message, and nowhere in it.
 pub const FLAG: u8 = 0x7e;

@@ -1,5 +1,6 @@
 // The activation frame's measures (SCOPE, "The activation frame"). What they mean is in specs/; a field's place follows from the
 // widths before it.
+#![tactic(auto)]
 
 // The coefficients, and the bits of one.
 pub const COEFFICIENTS: usize = ranges::COEFFICIENTS;

@@ -1,5 +1,6 @@
 // The frame lister (SCOPE, "The bench listing"): `lister [--status] [FILE]`. The listing and the words beside it are those of crate listing;
 // here a file is only read, and they are written.
+#![tactic(auto)]
 ghost use Rattle.std.specs.Prelude.{◌≤◌, ◌≡◌, length};
 
 use libc::{STDERR_FILENO, STDIN_FILENO, STDOUT_FILENO};

@@ -1,5 +1,6 @@
 // The messages of an operations channel, listed: `messages [--status] [--for UNIT] < OCTETS`. What a message is found to be and its line are
 // crate eoclisting's; here octets are only read, parted at their flags, and lines written.
+#![tactic(auto)]
 ghost use Rattle.std.specs.Prelude.{◌≡◌, true, cond, ◌+◌, ◌≤◌, ◌<◌, length};
 ghost use Rattle.eoc.specs.Channel.{pieces};
 ghost use Rattle.messages.specs.Messages.{most_octets, flag_from, is_good, is_taken, count_good, count_taken};

@@ -1,5 +1,6 @@
 // The receiver (SCOPE, "Bits off the line"): lumps of bits as the line chip gives them, of any size up to 4,096, and the activation frames that lie in
 // them, each in the call that brings its last bit.
+#![tactic(auto)]
 ghost use Rattle.std.specs.Prelude.{◌≡◌, true, cond, ◌++◌, ℕ, ◌+◌, ◌-◌, ◌*◌, ◌/◌, ◌%◌, ◌^◌, ◌≤◌, ◌<◌, min, max, ltb, length, replicate};
 ghost use Rattle.answer.specs.Answer.{answer};
 ghost use Rattle.octets.specs.Bits.{bits_of};
@@ -40,7 +41,7 @@ const WORD: u32 = 56;
 const IN_WORD: usize = 43;
 
 // A receiver: the end whose bits are heard, the bits so far, and the place to go on from.
-#[derive(Drop)]
+#[derive(Clone, Copy)]
 pub struct Receiver {
     pub end: u32,
     pub heard: u32,

@@ -2,6 +2,7 @@
 // and its text crate storytext's; here they are only read, looped over and written.
 //
 //     replay [--status] ltu|ntu [SILENCE] < LOG
+#![tactic(auto)]
 ghost use Rattle.std.specs.Prelude.{◌≡◌, true, ◌+◌, ◌≤◌, length};
 ghost use Rattle.replay.specs.Replay.{most_octets, followed, lines_of, ending_from};
 

@@ -1,4 +1,5 @@
 // The scrambler (SCOPE, "Scrambler"; 002, clause 7.1.6): an end's tap and state; a bit at a time and runs of bits; and back, whole frames too.
+#![tactic(auto)]
 ghost use Rattle.std.specs.Prelude.{◌≡◌};
 ghost use Rattle.answer.specs.Answer.{answer};
 ghost use Rattle.recurrence.specs.Run.{scramble, descramble, way_of};
@@ -9,7 +10,7 @@ ghost use Rattle.scrambler.specs.Promises.{StartPromise, StepPromise, run_refusa
 const CLOCKED: usize = layout::PAYLOAD_BITS as usize;
 
 // An end's scrambler: the end, and the last 23 scrambled bits, the newest at weight 1.
-#[derive(Drop)]
+#[derive(Clone, Copy)]
 pub struct Scrambler {
     pub end: u32,
     pub state: u32,

@@ -1,5 +1,6 @@
 // The sorter: `sorter [--like FILE] [--csv] [--status] [--] FILE...`. A line for each card's frame, then the totals. What a frame is found to be
 // is crate verdict's, the texts are those of cardline and totals; here files are only read and texts written. proofs/ has that they fit.
+#![tactic(auto)]
 ghost use Rattle.std.specs.Prelude.{◌≤◌, ◌<◌, ◌≡◌, length};
 
 use libc::{STDERR_FILENO, STDOUT_FILENO};

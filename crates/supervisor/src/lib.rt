@@ -1,4 +1,5 @@
 // The start-up supervisor (000, clauses 4.1.2 and 4.1.8): a state by value, and one step for each code.
+#![tactic(auto)]
 ghost use Rattle.std.specs.Prelude.{ℕ, ◌≡◌, ◌||◌, ltb};
 ghost use Rattle.answer.specs.Answer.{answer};
 ghost use Rattle.supervisor.specs.Limits.{most_attempt, most_ticks, shortest_silence, longest_silence};
@@ -10,7 +11,7 @@ pub mod phase;
 mod rules;
 
 // A supervisor's state. A mark is heard where it is not 0.
-#[derive(Drop)]
+#[derive(Clone, Copy)]
 pub struct Supervisor {
     // LTU 0, NTU 1.
     pub end: u32,

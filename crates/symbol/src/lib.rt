@@ -1,4 +1,5 @@
 // Symbols: levels in sixteenths, and the data encoder (000, clauses 4.1.6 and 4.3.3).
+#![tactic(auto)]
 ghost use Rattle.std.specs.Prelude.{◌≡◌, true, ◌+◌, ◌*◌, ◌^◌, ◌≤◌, ◌<◌, pos, ◌-ℤ◌, length};
 ghost use Rattle.octets.specs.Bits.{digits_of};
 ghost use Rattle.symbol.specs.Levels.{ActivationLevel, DataLevel, LevelCode};
@@ -106,7 +107,7 @@ pub fn level_code(sixteenths: i32) -> Code
 }
 
 // The encoder's state: words A and B (a0 and b0 weigh 1), and the last twenty X1, newest at weight 1.
-#[derive(Drop)]
+#[derive(Clone, Copy)]
 pub struct Encoder {
     pub a: u32,
     pub b: u32,

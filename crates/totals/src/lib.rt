@@ -1,4 +1,5 @@
 // The totals of sorted cards: their text, of a list with each card's verdict (specs/Totals.antt).
+#![tactic(auto)]
 ghost use Rattle.std.specs.Prelude.{◌≡◌, cond, ◌++◌, eqb};
 ghost use Rattle.ascii.specs.Text.{decimal};
 ghost use Rattle.forms.specs.Forms.{row_of};

@@ -1,4 +1,5 @@
 // Fields one behind the other, taken with the field reader (SCOPE, "The activation frame"). Like the reader, they are thin and proved by hand.
+#![tactic(auto)]
 ghost use Rattle.walk.specs.Promises.{PairTaken, SignedFilled};
 
 // Two fields, one behind the other, and the place behind them.
