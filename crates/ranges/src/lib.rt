@@ -1,5 +1,6 @@
 // Measures and ranges that the frame and the symbols share (SCOPE): of a coefficient, of A and B; and whether numbers lie in a range.
 #![tactic(auto)]
+
 ghost use Rattle.std.specs.Prelude.{◌≡◌};
 ghost use Rattle.ranges.specs.Ranges.{between, every};
 
