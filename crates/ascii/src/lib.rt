@@ -1,6 +1,7 @@
 // Text in ASCII, put into a lent room from a place on: words, numbers in decimal, octets in hex. Every function takes every input: what
 // would lie past the room's end is left out, and the place behind the text comes back.
 #![tactic(auto)]
+
 ghost use Rattle.std.specs.Prelude.{◌≡◌, ◌∷◌, [], ◌<◌, drop};
 ghost use Rattle.ascii.specs.Text.{decimal, signed, hex, hexes};
 ghost use Rattle.ascii.specs.Text.{digit as digit_of};

@@ -1,6 +1,7 @@
 // Fields of bits in octets, read and put by the word (SCOPE, "The activation frame"): the first bit lowest. Every function takes
 // every input: what lies past the end reads 0 and is not written, and a field's width over 32 counts as 32.
 #![tactic(auto)]
+
 ghost use Rattle.std.specs.Prelude.{◌≡◌, ◌*◌, ◌/◌, ◌%◌, ◌^◌, ◌<◌, ◌≤◌, min, pos, get_or};
 ghost use Rattle.octets.specs.Bits.{value_of, bits_of, part};
 ghost use Rattle.bitfields.specs.Fields.{Pushed};

@@ -1,6 +1,7 @@
 // Signed numbers as the card's host lends them: four octets each, low octet first, in two's complement (SCOPE, "The activation
 // frame").
 #![tactic(auto)]
+
 ghost use Rattle.std.specs.Prelude.{◌≡◌, ◌<◌};
 ghost use Rattle.numbers.specs.Promises.{NumberRead, NumberPut, NumbersRead, NumbersPut};
 

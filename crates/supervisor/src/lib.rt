@@ -1,5 +1,6 @@
 // The start-up supervisor (000, clauses 4.1.2 and 4.1.8): a state by value, and one step for each code.
 #![tactic(auto)]
+
 ghost use Rattle.std.specs.Prelude.{ℕ, ◌≡◌, ◌||◌, ltb};
 ghost use Rattle.answer.specs.Answer.{answer};
 ghost use Rattle.supervisor.specs.Limits.{most_attempt, most_ticks, shortest_silence, longest_silence};
