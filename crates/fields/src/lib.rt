@@ -2,6 +2,7 @@
 // The borrow checker covers no function over such a struct, so those here are proved by hand and are thin: the work is
 // done by the slice-and-place functions of bitfields.
 #![tactic(auto)]
+
 ghost use Rattle.fields.specs.Promises.{Made, FieldTaken, SignedTaken};
 
 // The lent frame, and the place of the next field.

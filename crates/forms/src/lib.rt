@@ -1,6 +1,7 @@
 // Text by forms and tables, put into a lent room (crate ascii): a form has a # for each number, a table is rows of words. What would lie
 // past the room's end is left out, and the place behind the text comes back.
 #![tactic(auto)]
+
 ghost use Rattle.ascii.specs.Promises.{Put};
 ghost use Rattle.forms.specs.Forms.{formed, row_of};
 

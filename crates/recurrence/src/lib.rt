@@ -1,6 +1,7 @@
 // The bits on the line (SCOPE, "Scrambler"; 002, clause 7.1.6): s(n) = f(n) xor s(n-tap) xor s(n-23), for any tap from 1 to 23. A bit, and
 // runs of them by the word; and back.
 #![tactic(auto)]
+
 ghost use Rattle.std.specs.Prelude.{◌≡◌, ◌⊎◌, ℕ, ◌+◌, ◌-◌, ◌*◌, ◌/◌, ◌%◌, ◌^◌, ◌<◌, ◌≤◌, min, length};
 ghost use Rattle.std.specs.Int.Bits.{bit_xor};
 ghost use Rattle.answer.specs.Answer.{answer};

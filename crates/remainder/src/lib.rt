@@ -1,5 +1,6 @@
 // Check bits: the remainder of a polynomial division over GF(2) (SCOPE, "The activation frame"; 000, clause 4.1.3).
 #![tactic(auto)]
+
 ghost use Rattle.std.specs.Prelude.{◌≡◌, ◌++◌, reverse, ℕ, ◌+◌, ◌*◌, ◌%◌, ◌^◌, ◌<◌, ◌≤◌, min, length};
 ghost use Rattle.std.specs.Int.Bits.{bit_xor};
 ghost use Rattle.answer.specs.Answer.{answer};

@@ -1,5 +1,6 @@
 // Numbers of the precoder in steps of 1/131,072 (000, clause 4.3.4): ranges, rounding, folding, the history and the shaper's float.
 #![tactic(auto)]
+
 ghost use Rattle.std.specs.Prelude.{◌≡◌, ◌<◌, ◌^◌, pos, nat_abs, ◌+ℤ◌, ◌*ℤ◌, length, ◌≤ℤ◌, ◌<ℤ◌};
 ghost use Rattle.ranges.specs.Ranges.{coefficient_count};
 ghost use Rattle.samples.specs.Samples.{one, at_start, Rounds, Folds, past_after};

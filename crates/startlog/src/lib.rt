@@ -1,5 +1,6 @@
 // A start-up log as text, one code a line: where a line ends, and what it says. The rules are specs/Lines.antt.
 #![tactic(auto)]
+
 ghost use Rattle.std.specs.Prelude.{◌≡◌, cond, ◌+◌, ◌-◌, ◌*◌, ◌≤◌, leb};
 ghost use Rattle.startlog.specs.Lines.{most_ticks, counted, one_code, said, line_of, end_of};
 ghost use Rattle.startlog.specs.Lines.{line as lineWith};

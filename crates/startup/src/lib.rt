@@ -1,5 +1,6 @@
 // The run over a list of codes: a step of the supervisor for each, and what became of the attempts that opened in it.
 #![tactic(auto)]
+
 ghost use Rattle.std.specs.Prelude.{◌≡◌, ◌-◌, ◌^◌, ◌<◌};
 ghost use Rattle.startup.specs.Run.{event_of, noted, taken_of, run_of};
 

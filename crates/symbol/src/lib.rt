@@ -1,5 +1,6 @@
 // Symbols: levels in sixteenths, and the data encoder (000, clauses 4.1.6 and 4.3.3).
 #![tactic(auto)]
+
 ghost use Rattle.std.specs.Prelude.{◌≡◌, true, ◌+◌, ◌*◌, ◌^◌, ◌≤◌, ◌<◌, pos, ◌-ℤ◌, length};
 ghost use Rattle.octets.specs.Bits.{digits_of};
 ghost use Rattle.symbol.specs.Levels.{ActivationLevel, DataLevel, LevelCode};

@@ -1,0 +1,12 @@
+use Prim.Native.Nat.{◌-◌, ◌*◌, ◌≤◌}
+use Rattle.octets.specs.Bits.{bits_of, part}
+use Rattle.recurrence.specs.Run.{way_of}
+use Rattle.recurrence.specs.Window.{Gone}
+use Rattle.recurrence.proofs.by_words.Given as goal
+
+abbrev pub invariant-loop-k : goal.invariant-loop-k
+invariant-loop-k l =
+    (l.k ≤ l.count) × Gone (way_of l.back) l.tap l.start (part (8 * l.i) (64 * l.k) (bits_of l.input)) l.initial.output (8 * l.i) l.window l.output
+
+abbrev pub decreases-loop-k : goal.decreases-loop-k
+decreases-loop-k l = l.count - l.k

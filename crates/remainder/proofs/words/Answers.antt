@@ -1,0 +1,61 @@
+-- `remainder::words` meets its contract. After k words x stands for them and the start.
+use mathlib.Core.Path.{◌≡◌, sym, ap, ◌∙◌}
+use Prim.Native.Nat.{ℕ, ◌+◌, ◌-◌, ◌*◌, ◌≤◌}
+use native.Mathlib.Omega.{arith}
+use lib.Bits.{bit_xor}
+use lib.Dec.{lit≤}
+use Rattle.octets.specs.Bits.{digits_of, bits_of, part}
+use Rattle.octets.proofs.Words.{field-digits}
+use Rattle.remainder.specs.Division.{generator}
+use Rattle.remainder.specs.Register.{register_of}
+use Rattle.remainder.proofs.Errors.{generator-degree}
+use Rattle.remainder.proofs.Quotient.{start-in, word_more}
+use Rattle.remainder.proofs.words.Goals as goal
+
+pub loop-k-init : goal.loop-k-init
+loop-k-init c =
+    let w = c.word in
+    let a = c.args in
+    let s = a.s.now in (
+      omega arith,
+      c.requires.1,
+      ap (register_of 16 generator a.start) (sym (ap (digits_of 64) w.ensures ∙ field-digits s (8 * a.i) 64 (omega arith)))
+          ∙ start-in 16 generator (lit≤ tt) generator-degree 64 a.start w.result (lit≤ tt) c.requires.0
+          ∙ ap (λ (y : ℕ). register_of 16 generator 0 (digits_of 64 (bit_xor w.result y))) (sym c.turned.ensures),
+    )
+
+pub overflow_mul-k : goal.overflow_mul-k
+overflow_mul-k c = omega arith
+
+pub overflow_add-i : goal.overflow_add-i
+overflow_add-i c = omega arith
+
+pub overflow_add-k : goal.overflow_add-k
+overflow_add-k c = omega arith
+
+pub loop-k-smaller : goal.loop-k-smaller
+loop-k-smaller c = omega arith
+
+pub loop-k-preserved : goal.loop-k-preserved
+loop-k-preserved c =
+    let w = c.word-w in
+    let l = c.loop-k in
+    let a = c.args in
+    let s = a.s.now in
+    let p = 8 * (a.i + 8 * l.k) in
+    let e : 64 * l.k + 64 ≡ 64 * (l.k + 1) = omega arith in
+    let f : p ≡ 8 * a.i + 64 * l.k = omega arith in
+    let d = ap (digits_of 64) w.ensures ∙ field-digits s p 64 (omega arith) ∙ ap (λ (q : ℕ). part q 64 (bits_of s)) f in (
+      omega arith,
+      omega arith,
+      word_more 16 generator (lit≤ tt) generator-degree s (8 * a.i) a.start c.requires.0 (64 * l.k) 64 (64 * (l.k + 1)) (digits_of 64 l.x) (digits_of 64 w.result) e
+          l.invariant.2 d
+          ∙ c.folded.ensures w.result (omega arith),
+    )
+
+pub returns : goal.returns
+returns c =
+    let l = c.loop-k in
+    let a = c.args in
+    let e : 64 * a.count ≡ 64 * l.k = omega arith in
+    ap (λ (n : ℕ). register_of 16 generator a.start (part (8 * a.i) n (bits_of a.s.now))) e ∙ l.invariant.2
