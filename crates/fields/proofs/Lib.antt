@@ -1,5 +1,1 @@
-pub mod Lent
-pub mod Makes
 pub mod One
-pub mod Take
-pub mod Takes
