@@ -40,7 +40,7 @@ returns c =
     let whole : m - 0 ≡ m = omega arith in
     let first : Gone way a.tap W (part a.at m (bits_of s)) a.output.now a.at one.result _ =
     gone-moved way a.tap s m (a.at + 0) a.at W one.result a.output.now _ (inr start)
-    (subst (λ (k : ℕ). Gone way a.tap W (part (a.at + 0) k (bits_of s)) a.output.now (a.at + 0) one.result one.new.1.1.1.1.1.1.1.0) whole one.ensures) in
+    (subst (λ (k : ℕ). Gone way a.tap W (part (a.at + 0) k (bits_of s)) a.output.now (a.at + 0) one.result one.new.output) whole one.ensures) in
     let both : Gone way a.tap W (part a.at (m + n) (bits_of s)) a.output.now a.at two.result _ =
     gone-join way a.tap s a.at m n (m + n) (a.at + m) W one.result two.result a.output.now _ _ refl (omega arith) refl first
     (gone-moved way a.tap s n (8 * i) (a.at + m) one.result two.result _ _ place two.ensures) in

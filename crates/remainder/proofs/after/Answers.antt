@@ -16,19 +16,13 @@ use Rattle.remainder.proofs.Errors.{generator-degree}
 use Rattle.remainder.proofs.Quotient.{so-far-lt}
 use Rattle.remainder.proofs.after.Goals as goal
 
--- behind the bits up to an octet: what is left of them, and all n are there
-begun : (u : goal.After-by_bits-register) → (u.by_bits-register.result < 2 ^ 16)
-    × (u.args.at + u.args.n
-    ≤ 8 * length u.args.s.now)
-begun u =
-    let a = u.args in
-    let m = (8 - a.at % 8) % 8 in
-    let h : m + 16 ≤ a.n = u.if-n-lead.false in
-    let has = u.has in
-    let there : a.at + (a.n - 1) < length (bits_of a.s.now) = ltb-true _ _ (sym has.ensures ∙ not-false _ u.if-not-has.false-raw) in (
-      subst (λ (r : ℕ). r < 2 ^ 16) (sym u.by_bits-register.ensures) (so-far-lt 16 generator (lit≤ tt) generator-degree a.s.now a.at a.start u.requires m),
-      omega (arith, bits-length a.s.now),
-    )
+-- behind the bits up to an octet: what is left of them is below 2 to the 16
+begun : (s : List ℕ) (at start m r : ℕ) → start < 2 ^ 16 → r ≡ register_of 16 generator start (part at m (bits_of s)) → r < 2 ^ 16
+begun s at start m r h e = subst (λ (x : ℕ). x < 2 ^ 16) (sym e) (so-far-lt 16 generator (lit≤ tt) generator-degree s at start h m)
+
+-- all n bits are there, where the last of them is
+there : (s : List ℕ) (at n : ℕ) → 16 ≤ n → at + (n - 1) < length (bits_of s) → at + n ≤ 8 * length s
+there s at n h l = omega (arith, bits-length s)
 
 -- and the register after k bits more, from the octet on
 behind : (s : List ℕ) (at start n k r : ℕ) → (8 - at % 8) % 8 + k ≡ n → r ≡ register_of 16 generator start (part at ((8 - at % 8) % 8) (bits_of s))
@@ -42,8 +36,10 @@ behind s at start n k r e f =
 
 pub short-requires : goal.short-requires
 short-requires c =
-    let h = begun c.before in
-    (h.0, omega arith, omega arith, omega arith)
+    let a = c.args in
+    let m = (8 - a.at % 8) % 8 in
+    let all : a.at + a.n ≤ 8 * length a.s.now = there a.s.now a.at a.n (omega arith) (ltb-true _ _ (sym c.has.ensures ∙ c.if-not-has.false)) in
+    (begun a.s.now a.at a.start m c.by_bits-register.result c.requires c.by_bits-register.ensures, omega arith, omega arith, omega arith)
 
 pub returns-then-rest-le-WORD : goal.returns-then-rest-le-WORD
 returns-then-rest-le-WORD c =
@@ -55,8 +51,13 @@ returns-then-rest-le-WORD c =
 pub by_words-requires : goal.by_words-requires
 by_words-requires c =
     let a = c.args in
-    let h = begun c.before in
-    (h.0, omega arith, omega arith, in_words a.at a.n (8 * length a.s.now) (omega arith) h.1)
+    let m = (8 - a.at % 8) % 8 in
+    let all : a.at + a.n ≤ 8 * length a.s.now = there a.s.now a.at a.n (omega arith) (ltb-true _ _ (sym c.has.ensures ∙ c.if-not-has.false)) in (
+      begun a.s.now a.at a.start m c.by_bits-register.result c.requires c.by_bits-register.ensures,
+      omega arith,
+      omega arith,
+      in_words a.at a.n (8 * length a.s.now) (omega arith) all,
+    )
   where
     in_words : (at n l : ℕ) → (8 - at % 8) % 8 ≤ n → at + n ≤ l
         → 8 * (at / 8 + (at % 8 + 7) / 8) + (64 * ((n - (8 - at % 8) % 8) / 64) + (n - (8 - at % 8) % 8) % 64) ≤ l

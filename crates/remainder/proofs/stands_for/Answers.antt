@@ -23,22 +23,12 @@ loop-seen-init c =
           ∙ ap (λ (x : ℕ). register_of 6 67 0 (digits_of 63 x)) (sym t.ensures),
     )
 
--- what is read: so many bits
-read_is : (c : goal.After-next-m)
-    → c.bits-v.result
-    ≡ value_of (part (c.args.at + c.loop-seen.seen) c.next-m.result
-    (bits_of c.args.s.now))
-read_is c =
-    let a = c.args in
-    let l = c.loop-seen in
-    c.bits-v.ensures ∙ ap (λ (j : ℕ). value_of (part (a.at + l.seen) j (bits_of a.s.now))) (sym c.next-m.ensures)
-
 pub brought_round-x-requires : goal.brought_round-x-requires
 brought_round-x-requires c =
     let a = c.args in
     let l = c.loop-seen in
     let m = c.next-m.result in
-    (omega arith, omega arith, l.invariant.1, subst (λ (v : ℕ). v < 2 ^ m) (sym (read_is c)) (part-lt a.s.now (a.at + l.seen) m))
+    (omega arith, omega arith, l.invariant.1, subst (λ (v : ℕ). v < 2 ^ m) (sym (c.bits-v.ensures ∙ ap (λ (j : ℕ). value_of (part (a.at + l.seen) j (bits_of a.s.now))) (sym c.next-m.ensures))) (part-lt a.s.now (a.at + l.seen) m))
 
 pub overflow_add-seen : goal.overflow_add-seen
 overflow_add-seen c = omega arith
@@ -53,7 +43,7 @@ loop-seen-preserved c =
     let l = c.loop-seen in
     let m = c.next-m.result in
     let v = c.bits-v.result in
-    let d : digits_of m v ≡ part (a.at + l.seen) m (bits_of s) = ap (digits_of m) (read_is c.before) ∙ field-digits s (a.at + l.seen) m (omega arith) in (
+    let d : digits_of m v ≡ part (a.at + l.seen) m (bits_of s) = ap (digits_of m) (c.bits-v.ensures ∙ ap (λ (j : ℕ). value_of (part (a.at + l.seen) j (bits_of s))) (sym c.next-m.ensures)) ∙ field-digits s (a.at + l.seen) m (omega arith) in (
       omega arith,
       c.brought_round-x.ensures.0,
       word_more 6 67 (lit≤ tt) six-degree s a.at a.start c.requires.0 l.seen m (l.seen + m) (digits_of 63 l.x) (digits_of m v) refl l.invariant.2 d
