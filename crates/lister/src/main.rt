@@ -1,16 +1,13 @@
 // The frame lister (SCOPE, "The bench listing"): `lister [--status] [FILE]`. The listing and the words beside it are those of crate listing;
 // here a file is only read, and they are written.
 #![tactic(auto)]
-ghost use Rattle.std.specs.Prelude.{◌≤◌, ◌≡◌, length};
+ghost use Rattle.std.specs.Prelude.{◌≤◌, ◌≡◌, length, IfOk};
 
-use libc::{STDERR_FILENO, STDIN_FILENO, STDOUT_FILENO};
+use std::io;
+use std::io::{IsTerminal, Read};
 
 // One more than a frame's octets, so that more than 529 show.
 const READ: usize = 530;
-// One more than can be read: a read failed.
-const FAILED: usize = 531;
-// Where the status goes that --status asks for.
-const STATUS_FILENO: i32 = 3;
 // The status: a frame that reads, one that is refused, and what was no frame at all.
 const GOOD: u8 = b'0';
 
@@ -89,15 +86,15 @@ impl Asked {
 }
 
 // Which option argument i is. One that is too long to be one is a word.
-fn option_at(i: usize) -> u32 {
-    let mut word = io::buffer();
-    let n = os::arg(i, &mut word);
+fn option_at(rt: &HostRuntime, i: usize) -> u32 {
+    let mut word = outside::buffer();
+    let n = outside::word(rt, i, &mut word);
     options::read(&word[..n])
 }
 
 // What all arguments ask for.
-fn arguments() -> Asked {
-    let count = os::arg_count();
+fn arguments(rt: &HostRuntime) -> Asked {
+    let count = outside::arg_count(rt);
     let mut asked = Asked {
         what: options::WORD,
         at: 0,
@@ -106,117 +103,115 @@ fn arguments() -> Asked {
     };
     let mut i = 1;
     while i < count {
-        asked = asked.with(option_at(i), i);
+        asked = asked.with(option_at(rt, i), i);
         i += 1;
     }
     asked
 }
 
 // Says what failed, and why.
-fn fail(what: &[u8]) {
-    io::write_all(STDERR_FILENO, b"lister: ");
-    os::fail(what);
+fn fail(rt: &HostRuntime, what: &[u8], why: io::Error) {
+    outside::complain(rt, b"lister: ");
+    outside::fail(rt, what, why);
 }
 
 // Writes to standard output, and answers the status given; where that fails, says so.
-fn print(text: &[u8], status: u8) -> u8 {
-    if io::write_all(STDOUT_FILENO, text) {
-        return status;
+fn print(rt: &HostRuntime, text: &[u8], status: u8) -> u8 {
+    match rt.stdout().write_all(text) {
+        Ok(()) => status,
+        Err(why) => {
+            fail(rt, b"standard output", why);
+            WRONG
+        },
     }
-    fail(b"standard output");
-    WRONG
 }
 
-// Reads up to 530 octets of an open file, and answers how many came; 531 where a read fails.
-fn fill(fd: i32, octets: &mut [u8]) -> usize
+// Reads up to 530 octets of what is open, and answers how many came.
+fn fill<R: Read>(input: &mut R, octets: &mut [u8]) -> io::Result<usize>
     requires { length octets.old ≡ 530 }
-    ensures { result ≤ 531 }
+    ensures { IfOk result (λ n. n ≤ 530) }
 {
-    let mut n: usize = 0;
-    while n < READ {
-        let rest = &mut octets[n..];
-        let got = libc::read(fd, rest);
-        if got < 0 {
-            return FAILED;
-        }
-        let m = io::count(got, rest);
-        if m == 0 {
-            return n;
-        }
-        n += m;
-    }
-    n
+    outside::read_full(input, octets)
 }
 
 // Says in words what is found. 256 octets are room for all of it (listing's theorem `words-fit`).
-fn say(octets: &[u8]) {
+fn say(rt: &HostRuntime, octets: &[u8]) {
     let mut room = [0u8; 256];
     let n = listing::words(octets, &mut room);
-    io::write_all(STDERR_FILENO, &room[..n]);
+    outside::complain(rt, &room[..n]);
 }
 
 // Says why a frame is refused; and of a good one vendor data, where somebody is looking.
-fn explain(octets: &[u8]) -> u8 {
+fn explain(rt: &HostRuntime, octets: &[u8]) -> u8 {
     if checker::check(octets) != answer::DONE {
-        say(octets);
+        say(rt, octets);
         return REFUSED;
     }
-    if libc::isatty(STDERR_FILENO) == 1 {
-        say(octets);
+    if rt.stderr().is_terminal() {
+        say(rt, octets);
     }
     GOOD
 }
 
 // Writes the listing. 4,096 octets are room for every one (listing's theorem `fits`).
-fn list(octets: &[u8]) -> u8 {
+fn list(rt: &HostRuntime, octets: &[u8]) -> u8 {
     let mut room = [0u8; 4096];
     let n = listing::list(octets, &mut room);
-    if print(&room[..n], GOOD) != GOOD {
+    if print(rt, &room[..n], GOOD) != GOOD {
         return WRONG;
     }
-    explain(octets)
+    explain(rt, octets)
 }
 
-// Lists what an open file holds.
-fn list_open(fd: i32, name: &[u8]) -> u8 {
+// Lists what is open.
+fn list_open<R: Read>(rt: &HostRuntime, input: &mut R, name: &[u8]) -> u8 {
     let mut octets = [0u8; READ];
-    let n = fill(fd, &mut octets);
-    if READ < n {
-        fail(name);
-        return WRONG;
+    match fill(input, &mut octets) {
+        Ok(n) => list(rt, &octets[..n]),
+        Err(why) => {
+            fail(rt, name, why);
+            WRONG
+        },
     }
-    list(&octets[..n])
+}
+
+// Lists the file of this name.
+fn list_named(rt: &HostRuntime, name: &[u8]) -> u8 {
+    match outside::open(rt, name) {
+        Ok(mut file) => list_open(rt, &mut file, name),
+        Err(why) => {
+            fail(rt, name, why);
+            WRONG
+        },
+    }
 }
 
 // Lists the file that argument i names.
-fn list_file(i: usize) -> u8 {
-    let mut path = io::buffer();
-    let n = os::arg(i, &mut path);
-    if os::errno() != 0 {
-        fail(b"the file's name");
-        return WRONG;
+fn list_file(rt: &HostRuntime, i: usize) -> u8 {
+    let mut path = outside::buffer();
+    match outside::arg(rt, i, &mut path) {
+        Ok(n) => list_named(rt, &path[..n]),
+        Err(why) => {
+            fail(rt, b"the file's name", why);
+            WRONG
+        },
     }
-    let fd = os::open_read(&path[..n]);
-    if fd < 0 {
-        fail(&path[..n]);
-        return WRONG;
-    }
-    list_open(fd, &path[..n])
 }
 
 // Says that argument i is wrong, and how the lister is called.
-fn refuse(i: usize) -> u8 {
-    let mut word = io::buffer();
-    let n = os::arg(i, &mut word);
-    io::write_all(STDERR_FILENO, b"lister: wrong argument: ");
-    io::write_all(STDERR_FILENO, &word[..n]);
-    io::write_all(STDERR_FILENO, b"\nusage: lister [--status] [FILE]\n");
+fn refuse(rt: &HostRuntime, i: usize) -> u8 {
+    let mut word = outside::buffer();
+    let n = outside::word(rt, i, &mut word);
+    outside::complain(rt, b"lister: wrong argument: ");
+    outside::complain(rt, &word[..n]);
+    outside::complain(rt, b"\nusage: lister [--status] [FILE]\n");
     WRONG
 }
 
 // How the lister is called.
-fn help() -> u8 {
+fn help(rt: &HostRuntime) -> u8 {
     print(
+        rt,
         b"usage: lister [--status] [FILE]\n\
           Lists the SDSL activation frame, 529 octets, in FILE or on standard input.\n\
           Standard output has the listing, or 'refused N'; standard error says why in words.\n\
@@ -229,36 +224,36 @@ fn help() -> u8 {
 }
 
 // The version.
-fn version() -> u8 {
-    if print(b"sdsl-lister ", GOOD) != GOOD {
+fn version(rt: &HostRuntime) -> u8 {
+    if print(rt, b"sdsl-lister ", GOOD) != GOOD {
         return WRONG;
     }
-    if print(&options::RELEASE, GOOD) != GOOD {
+    if print(rt, &options::RELEASE, GOOD) != GOOD {
         return WRONG;
     }
-    print(b"\n", GOOD)
+    print(rt, b"\n", GOOD)
 }
 
 // Does what is asked, and answers the status.
-fn run(what: u32, at: usize) -> u8 {
+fn run(rt: &HostRuntime, what: u32, at: usize) -> u8 {
     match what {
-        options::HELP => help(),
-        options::VERSION => version(),
-        options::UNKNOWN => refuse(at),
+        options::HELP => help(rt),
+        options::VERSION => version(rt),
+        options::UNKNOWN => refuse(rt, at),
         _ => {
             if at == 0 {
-                return list_open(STDIN_FILENO, b"standard input");
+                return list_open(rt, &mut rt.stdin(), b"standard input");
             }
-            list_file(at)
+            list_file(rt, at)
         },
     }
 }
 
 // Does as the arguments say.
-fn main() {
-    let asked = arguments();
-    let status = run(asked.what, asked.at);
+fn main(rt: HostRuntime) {
+    let asked = arguments(&rt);
+    let status = run(&rt, asked.what, asked.at);
     if asked.status {
-        io::write_all(STATUS_FILENO, &[status]);
+        outside::tell_status(&rt, status);
     }
 }

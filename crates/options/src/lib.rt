@@ -27,7 +27,7 @@ pub const RELEASE: [u8; 5] = *b"0.6.1";
 pub fn number(word: &[u8], name: &[u8], own: u32, other: u32) -> u32
     ensures { Numbers word.now name.now own other result }
 {
-    if check::same(word, name) { own } else { other }
+    if word == name { own } else { other }
 }
 
 // Whether a text begins as an option does. A lone - does not.

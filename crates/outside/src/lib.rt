@@ -1,0 +1,151 @@
+// What the programs ask of the system, over std: their arguments, a file by its name, octets to its end, words on standard error, and the
+// digit of --status.
+#![tactic(auto)]
+ghost use Rattle.std.specs.Prelude.{◌≡◌, ◌≤◌, length, IfOk};
+
+use std::env::{Env, FillError};
+use std::fmt::Write as _;
+use std::fs::{File, OpenOptions};
+use std::io::{Error, Read, Result, Write};
+use std::{fmt, str};
+
+// The system's numbers of three errors: an argument that there is not, a name that is too long, and one that is no text.
+const EINVAL: i32 = 22;
+
+const ENAMETOOLONG: i32 = 36;
+
+const EILSEQ: i32 = 84;
+
+// Room for an argument that may be a path. Its callers know its length alone, and never count it out.
+pub fn buffer() -> [u8; 4096]
+    ensures { 4096 ≡ length result }
+{
+    [0; 4096]
+}
+
+// Puts argument i at the start of a buffer, and answers its length. Of one that is too long the buffer has the first octets.
+pub fn arg(rt: &HostRuntime, i: usize, buf: &mut [u8]) -> Result<usize>
+    ensures { IfOk result (λ n. n ≤ length buf.new) }
+{
+    match rt.arg(i, buf) {
+        Ok(n) => Ok(n),
+        Err(FillError::TooLong) => Err(Error::from_raw_os_error(ENAMETOOLONG)),
+        Err(FillError::NotPresent) => Err(Error::from_raw_os_error(EINVAL)),
+    }
+}
+
+// The same, where one that is too long counts as one of no octets.
+pub fn word(rt: &HostRuntime, i: usize, buf: &mut [u8]) -> usize
+    ensures { result ≤ length buf.new }
+{
+    match arg(rt, i, buf) {
+        Ok(n) => n,
+        Err(_) => 0,
+    }
+}
+
+// Whether there is an argument i.
+fn is_given(rt: &HostRuntime, i: usize) -> bool {
+    let mut first = [0u8; 1];
+    match rt.arg(i, &mut first) {
+        Err(FillError::NotPresent) => false,
+        _ => true,
+    }
+}
+
+// How many arguments there are, the program's name among them.
+pub fn arg_count(rt: &HostRuntime) -> usize {
+    for i in 0..usize::MAX {
+        if !is_given(rt, i) {
+            return i;
+        }
+    }
+    usize::MAX
+}
+
+// Opens the file of this name. One that is no text in UTF-8 names no file here: std knows no other path.
+pub fn open(rt: &HostRuntime, name: &[u8]) -> Result<File> {
+    match str::from_utf8(name) {
+        Ok(path) => File::open(rt, path),
+        Err(_) => Err(Error::from_raw_os_error(EILSEQ)),
+    }
+}
+
+// Reads until the octets are full or the input ends, and answers how many came.
+pub fn read_full<R: Read>(input: &mut R, octets: &mut [u8]) -> Result<usize>
+    ensures { IfOk result (λ n. n ≤ length octets.new) }
+{
+    let mut n: usize = 0;
+    while n < octets.len() {
+        let m = input.read(&mut octets[n..])?;
+        if m == 0 {
+            return Ok(n);
+        }
+        n += m;
+    }
+    Ok(n)
+}
+
+// Writes to standard error. Where that fails, nobody can be told.
+pub fn complain(rt: &HostRuntime, text: &[u8]) {
+    let _ = rt.stderr().write_all(text);
+}
+
+// A text that is put together.
+#[derive(Drop)]
+struct Words {
+    text: [u8; 256],
+    count: usize,
+    ghost fits: { count ≤ 256 },
+}
+
+impl Words {
+    fn push(&mut self, octet: u8) {
+        let n = self.count;
+        if n < 256 {
+            self.text[n] = octet;
+            self.count = n + 1;
+        }
+    }
+}
+
+impl fmt::Write for Words {
+    fn write_str(&mut self, s: &str) -> fmt::Result {
+        for octet in s.as_bytes() {
+            self.push(*octet);
+        }
+        Ok(())
+    }
+}
+
+// How much of an error's text is the system's own: std puts " (os error N)" behind it.
+fn own_words(text: &[u8]) -> usize
+    ensures { result ≤ length text.now }
+{
+    match text.iter().rposition(|octet| *octet == b'(') {
+        Some(at) => at.saturating_sub(1),
+        None => text.len(),
+    }
+}
+
+// Writes a line to standard error: what failed, a colon and the system's words for it.
+pub fn fail(rt: &HostRuntime, what: &[u8], error: Error) {
+    let mut words = Words {
+        text: [0; 256],
+        count: 0,
+    };
+    let _ = write!(words, "{error}");
+    let said = &words.text[..words.count];
+    complain(rt, what);
+    complain(rt, b": ");
+    complain(rt, &said[..own_words(said)]);
+    complain(rt, b"\n");
+}
+
+// Writes the status that --status asks for to descriptor 3, where that is open for writing.
+pub fn tell_status(rt: &HostRuntime, digit: u8) {
+    let third = OpenOptions::new().append(true).open(rt, "/dev/fd/3");
+    if let Ok(mut file) = third {
+        let _ = file.write_all(&[digit]);
+    }
+}
