@@ -3,11 +3,12 @@
 //
 //     replay [--status] ltu|ntu [SILENCE] < LOG
 #![tactic(auto)]
-ghost use Rattle.std.specs.Prelude.{◌≡◌, true, ◌+◌, ◌≤◌, length};
+ghost use Rattle.std.specs.Prelude.{◌≡◌, true, ◌+◌, ◌≤◌, length, IfOk};
 ghost use Rattle.replay.specs.Replay.{most_octets, followed, lines_of, ending_from};
 
-use libc::{STDERR_FILENO, STDIN_FILENO, STDOUT_FILENO};
 use startlog::Line;
+use std::io;
+use std::io::Read;
 use story::{Event, Story, kind};
 use supervisor::Supervisor;
 
@@ -15,8 +16,6 @@ use supervisor::Supervisor;
 const MOST: usize = 1048576;
 // One more is read, so that a longer log shows.
 const READ: usize = 1048577;
-// One more than can be read: a read failed.
-const FAILED: usize = 1048578;
 // Room for every line (storytext's theorems on what fits).
 const ROOM: usize = 320;
 // What no end and no silence is.
@@ -29,8 +28,6 @@ const AS_OPTION: u32 = 0;
 const AS_END: u32 = 1;
 
 const AS_SILENCE: u32 = 2;
-// Where the status goes that --status asks for.
-const STATUS_FILENO: i32 = 3;
 // The status: in data mode, not so, and what was no log at all.
 const DATA_MODE: u8 = b'0';
 
@@ -39,28 +36,30 @@ const OTHER: u8 = b'1';
 const WRONG: u8 = b'2';
 
 // Says what failed, and why.
-fn fail(what: &[u8]) {
-    io::write_all(STDERR_FILENO, b"replay: ");
-    os::fail(what);
+fn fail(rt: &HostRuntime, what: &[u8], why: io::Error) {
+    outside::complain(rt, b"replay: ");
+    outside::fail(rt, what, why);
 }
 
 // Writes to standard output, and answers whether it could; where not, says so.
-fn print(text: &[u8]) -> bool {
-    if io::write_all(STDOUT_FILENO, text) {
-        return true;
+fn print(rt: &HostRuntime, text: &[u8]) -> bool {
+    match rt.stdout().write_all(text) {
+        Ok(()) => true,
+        Err(why) => {
+            fail(rt, b"standard output", why);
+            false
+        },
     }
-    fail(b"standard output");
-    false
 }
 
 // Writes the line of an event, unless there is nothing to tell, as of one that is refused.
-fn tell(event: Event) -> bool {
+fn tell(rt: &HostRuntime, event: Event) -> bool {
     if event.kind == kind::NOTHING {
         return true;
     }
     let mut room = [0u8; ROOM];
     let n = storytext::put_event(&mut room, event);
-    print(&room[..n])
+    print(rt, &room[..n])
 }
 
 // What became of a line.
@@ -85,7 +84,7 @@ struct Ending {
 }
 
 // Tells the codes of a line, up to the first that is refused, and gives the last event; of a line without codes, one that tells nothing.
-fn follow(story: Story, said: Line) -> Followed
+fn follow(rt: &HostRuntime, story: Story, said: Line) -> Followed
     ensures { result.written ≡ true → result.event ≡ followed story said }
 {
     let code = said.code;
@@ -102,7 +101,7 @@ fn follow(story: Story, said: Line) -> Followed
     while k < times {
         let so_far = event.story;
         event = so_far.step(code);
-        let written = tell(event);
+        let written = tell(rt, event);
         if !written | (event.answer != answer::DONE) {
             return Followed { written, event };
         }
@@ -115,7 +114,7 @@ fn follow(story: Story, said: Line) -> Followed
 }
 
 // Tells a log line by line, to its end, the first line that is refused or the first that cannot be written.
-fn replay(log: &[u8], begun: Story) -> Ending
+fn replay(rt: &HostRuntime, log: &[u8], begun: Story) -> Ending
     requires { length log.now ≤ most_octets }
     ensures { result.written ≡ true → result ≡ ending_from 1 begun (lines_of log.now) }
 {
@@ -124,7 +123,7 @@ fn replay(log: &[u8], begun: Story) -> Ending
     let mut at = 0;
     while at < log.len() {
         let end = startlog::line_end(log, at);
-        let followed = follow(story, Line::read(&log[at..end]));
+        let followed = follow(rt, story, Line::read(&log[at..end]));
         let event = followed.event;
         story = event.story;
         if !followed.written | (event.answer != answer::DONE) {
@@ -180,13 +179,13 @@ fn status(story: Story) -> u8 {
 }
 
 // Tells how a log ended, and answers the status.
-fn tell_ending(ending: Ending) -> u8 {
+fn tell_ending(rt: &HostRuntime, ending: Ending) -> u8 {
     if !ending.written {
         return WRONG;
     }
     let mut room = [0u8; ROOM];
     let n = put_ending(&mut room, ending);
-    if !print(&room[..n]) | (ending.answer != answer::DONE) {
+    if !print(rt, &room[..n]) | (ending.answer != answer::DONE) {
         return WRONG;
     }
     let story = ending.story;
@@ -194,43 +193,33 @@ fn tell_ending(ending: Ending) -> u8 {
 }
 
 // Tells what was read. One octet more than a log may have shows that it is too long.
-fn tell_all(log: &[u8], begun: Event) -> u8
+fn tell_all(rt: &HostRuntime, log: &[u8], begun: Event) -> u8
     requires { length log.now ≤ most_octets + 1 }
 {
     let story = begun.story;
     if MOST < log.len() {
-        return tell_ending(Ending {
-            written: true,
-            answer: answer::LENGTH,
-            line: last_line(log),
-            story,
-        });
+        return tell_ending(
+            rt,
+            Ending {
+                written: true,
+                answer: answer::LENGTH,
+                line: last_line(log),
+                story,
+            },
+        );
     }
-    if !tell(begun) {
+    if !tell(rt, begun) {
         return WRONG;
     }
-    tell_ending(replay(log, story))
+    tell_ending(rt, replay(rt, log, story))
 }
 
-// Reads up to 1,048,577 octets of standard input, and answers how many came; one more where a read fails.
-fn fill(octets: &mut [u8]) -> usize
+// Reads up to 1,048,577 octets of standard input, and answers how many came.
+fn fill<R: Read>(input: &mut R, octets: &mut [u8]) -> io::Result<usize>
     requires { length octets.old ≡ most_octets + 1 }
-    ensures { result ≤ most_octets + 2 }
+    ensures { IfOk result (λ n. n ≤ most_octets + 1) }
 {
-    let mut n: usize = 0;
-    while n < READ {
-        let rest = &mut octets[n..];
-        let got = libc::read(STDIN_FILENO, rest);
-        if got < 0 {
-            return FAILED;
-        }
-        let m = io::count(got, rest);
-        if m == 0 {
-            return n;
-        }
-        n += m;
-    }
-    n
+    outside::read_full(input, octets)
 }
 
 // Room for a log and one octet more. The proofs of its callers know its length alone, and never count it out.
@@ -241,14 +230,15 @@ fn room() -> [u8; READ]
 }
 
 // Tells the log on standard input.
-fn tell_input(begun: Event) -> u8 {
+fn tell_input(rt: &HostRuntime, begun: Event) -> u8 {
     let mut log = room();
-    let n = fill(&mut log);
-    if READ < n {
-        fail(b"standard input");
-        return WRONG;
+    match fill(&mut rt.stdin(), &mut log) {
+        Ok(n) => tell_all(rt, &log[..n], begun),
+        Err(why) => {
+            fail(rt, b"standard input", why);
+            WRONG
+        },
     }
-    tell_all(&log[..n], begun)
 }
 
 // What the arguments ask for.
@@ -336,18 +326,18 @@ fn said(word: &[u8], how: u32) -> u32 {
 }
 
 // What argument i says so; 0 is none. One that is too long to be an option is a word.
-fn said_at(i: usize, how: u32, none: u32) -> u32 {
+fn said_at(rt: &HostRuntime, i: usize, how: u32, none: u32) -> u32 {
     if i == 0 {
         return none;
     }
-    let mut word = io::buffer();
-    let n = os::arg(i, &mut word);
+    let mut word = outside::buffer();
+    let n = outside::word(rt, i, &mut word);
     said(&word[..n], how)
 }
 
 // What all arguments ask for.
-fn arguments() -> Asked {
-    let count = os::arg_count();
+fn arguments(rt: &HostRuntime) -> Asked {
+    let count = outside::arg_count(rt);
     let mut asked = Asked {
         what: options::WORD,
         at: 0,
@@ -358,47 +348,44 @@ fn arguments() -> Asked {
     };
     let mut i = 1;
     while i < count {
-        asked = asked.with(said_at(i, AS_OPTION, options::WORD), i);
+        asked = asked.with(said_at(rt, i, AS_OPTION, options::WORD), i);
         i += 1;
     }
     asked
 }
 
 // Says how the replayer is called, behind what is wrong.
-fn usage() -> u8 {
-    io::write_all(
-        STDERR_FILENO,
-        b"\nusage: replay [--status] ltu|ntu [SILENCE] < LOG\n",
-    );
+fn usage(rt: &HostRuntime) -> u8 {
+    outside::complain(rt, b"\nusage: replay [--status] ltu|ntu [SILENCE] < LOG\n");
     WRONG
 }
 
 // Says that argument i is wrong.
-fn refuse(i: usize) -> u8 {
-    let mut word = io::buffer();
-    let n = os::arg(i, &mut word);
-    io::write_all(STDERR_FILENO, b"replay: wrong argument: ");
-    io::write_all(STDERR_FILENO, &word[..n]);
-    usage()
+fn refuse(rt: &HostRuntime, i: usize) -> u8 {
+    let mut word = outside::buffer();
+    let n = outside::word(rt, i, &mut word);
+    outside::complain(rt, b"replay: wrong argument: ");
+    outside::complain(rt, &word[..n]);
+    usage(rt)
 }
 
 // Says why no card starts so.
-fn refuse_start(answer: u32) -> u8 {
+fn refuse_start(rt: &HostRuntime, answer: u32) -> u8 {
     if answer == answer::UNKNOWN {
-        io::write_all(STDERR_FILENO, b"replay: the end is ltu or ntu");
+        outside::complain(rt, b"replay: the end is ltu or ntu");
     } else {
-        io::write_all(STDERR_FILENO, b"replay: the silence is 2000 to 60000 ticks");
+        outside::complain(rt, b"replay: the silence is 2000 to 60000 ticks");
     }
-    usage()
+    usage(rt)
 }
 
 // Tells the log of a card with this end and silence.
-fn tell_card(end: u32, silence: u32) -> u8 {
+fn tell_card(rt: &HostRuntime, end: u32, silence: u32) -> u8 {
     let begun = Story::start(end, silence);
     if begun.answer != answer::DONE {
-        return refuse_start(begun.answer);
+        return refuse_start(rt, begun.answer);
     }
-    tell_input(begun)
+    tell_input(rt, begun)
 }
 
 // The status of what had to be written and nothing else.
@@ -407,8 +394,9 @@ fn done(written: bool) -> u8 {
 }
 
 // How the replayer is called.
-fn help() -> u8 {
+fn help(rt: &HostRuntime) -> u8 {
     done(print(
+        rt,
         b"usage: replay [--status] ltu|ntu [SILENCE] < LOG\n\
               Tells the story of an SDSL start-up log: one code a line, 0 to 8; 0*300 is 300 ticks.\n\
               The last line is the verdict. SILENCE is 2000 to 60000 ticks, and 5000 where it is not given.\n\
@@ -420,35 +408,36 @@ fn help() -> u8 {
 }
 
 // The version.
-fn version() -> u8 {
-    if !print(b"sdsl-replay ") {
+fn version(rt: &HostRuntime) -> u8 {
+    if !print(rt, b"sdsl-replay ") {
         return WRONG;
     }
-    if !print(&options::RELEASE) {
+    if !print(rt, &options::RELEASE) {
         return WRONG;
     }
-    done(print(b"\n"))
+    done(print(rt, b"\n"))
 }
 
 // Does what is asked, and answers the status.
-fn run(asked: Asked) -> u8 {
+fn run(rt: &HostRuntime, asked: Asked) -> u8 {
     let what = asked.what;
     match what {
-        options::HELP => help(),
-        options::VERSION => version(),
-        options::UNKNOWN => refuse(asked.at),
+        options::HELP => help(rt),
+        options::VERSION => version(rt),
+        options::UNKNOWN => refuse(rt, asked.at),
         _ => tell_card(
-            said_at(asked.end, AS_END, NO_END),
-            said_at(asked.silence, AS_SILENCE, 0),
+            rt,
+            said_at(rt, asked.end, AS_END, NO_END),
+            said_at(rt, asked.silence, AS_SILENCE, 0),
         ),
     }
 }
 
 // Does as the arguments say.
-fn main() {
-    let asked = arguments();
-    let status = run(asked);
+fn main(rt: HostRuntime) {
+    let asked = arguments(&rt);
+    let status = run(&rt, asked);
     if asked.status {
-        io::write_all(STATUS_FILENO, &[status]);
+        outside::tell_status(&rt, status);
     }
 }
