@@ -1,8 +1,9 @@
-// The start-up replayer: tells the story of a log on standard input. What a line says is crate log's, what happened crate story's,
+// The start-up replayer: tells the story of a log on standard input. What a line says is crate startlog's, what happened crate story's,
 // and its text crate storytext's; here they are only read, looped over and written.
 //
 //     replay [--status] ltu|ntu [SILENCE] < LOG
 #![tactic(auto)]
+
 ghost use Rattle.std.specs.Prelude.{◌≡◌, true, ◌+◌, ◌≤◌, length, IfOk};
 ghost use Rattle.replay.specs.Replay.{most_octets, followed, lines_of, ending_from};
 
@@ -71,7 +72,7 @@ struct Followed {
 }
 
 // How a log ended.
-#[derive(Drop)]
+#[derive(Clone, Copy)]
 struct Ending {
     // Whether all of its story could be written.
     written: bool,
@@ -242,7 +243,7 @@ fn tell_input(rt: &HostRuntime, begun: Event) -> u8 {
 }
 
 // What the arguments ask for.
-#[derive(Drop)]
+#[derive(Clone, Copy)]
 struct Asked {
     // options::WORD to tell a log, HELP or VERSION, or UNKNOWN for an argument that is wrong: the first of them counts.
     what: u32,
