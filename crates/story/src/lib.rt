@@ -11,7 +11,7 @@ use supervisor::{Supervisor, code};
 pub mod kind;
 
 // How an attempt ended.
-#[derive(Drop)]
+#[derive(Clone, Copy)]
 pub struct Outcome {
     // In data mode or in the exception state (startup's Run::DATA and EXCEPTION), and NONE where none has ended.
     pub how: u32,
@@ -38,7 +38,7 @@ pub struct Story {
 }
 
 // What a code did. With any answer but 0 the other numbers are 0 and the story is the one handed in.
-#[derive(Drop)]
+#[derive(Clone, Copy)]
 pub struct Event {
     pub answer: u32,
     // What there is to tell, by number (src/kind.rt).

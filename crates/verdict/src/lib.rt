@@ -8,7 +8,7 @@ ghost use Rattle.verdict.specs.Promises.{Judged, Unread, IsCustomer, IsNobody};
 use card::Verdict;
 
 // The customer's words A and B, where a reference frame is given.
-#[derive(Drop)]
+#[derive(Clone, Copy)]
 pub struct Customer {
     pub given: bool,
     pub a: u32,
