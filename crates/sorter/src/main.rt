@@ -1,9 +1,11 @@
 // The sorter: `sorter [--like FILE] [--csv] [--status] [--] FILE...`. A line for each card's frame, then the totals. What a frame is found to be
 // is crate verdict's, the texts are those of cardline and totals; here files are only read and texts written. proofs/ has that they fit.
 #![tactic(auto)]
-ghost use Rattle.std.specs.Prelude.{◌≤◌, ◌<◌, ◌≡◌, length};
 
-use libc::{STDERR_FILENO, STDOUT_FILENO};
+ghost use Rattle.std.specs.Prelude.{◌≤◌, ◌<◌, ◌≡◌, length, IfOk};
+
+use std::io;
+use std::io::{IsTerminal, Read};
 
 // The most cards of one run.
 const MOST: usize = 65536;
@@ -11,10 +13,6 @@ const MOST: usize = 65536;
 const SHORT: usize = 20;
 // One more than a frame's octets, so that more than 529 show.
 const READ: usize = verdict::MOST_OCTETS;
-// One more than can be read: a read failed.
-const FAILED: usize = READ + 1;
-// Where the status goes that --status asks for.
-const STATUS_FILENO: i32 = 3;
 // The status where the sorter is called wrongly, the reference does not serve, or standard output cannot be written. Else it is that of totals.
 const WRONG: u32 = totals::NOT_READ;
 
@@ -36,7 +34,7 @@ const TOO_MANY: u32 = 6;
 const NO_CARDS: u32 = 7;
 
 // What the arguments ask for.
-#[derive(Drop)]
+#[derive(Clone, Copy)]
 struct Asked {
     what: u32,
     // The place of the argument that is wrong.
@@ -137,14 +135,14 @@ fn with(mut asked: Asked, option: u32, at: usize, files: &mut [usize]) -> Asked
 }
 
 // Which option argument i is. One that is too long to be one is a word.
-fn option_at(i: usize) -> u32 {
-    let mut word = io::buffer();
-    let n = os::arg(i, &mut word);
+fn option_at(rt: &HostRuntime, i: usize) -> u32 {
+    let mut word = outside::buffer();
+    let n = outside::word(rt, i, &mut word);
     options::read(&word[..n])
 }
 
 // What all arguments ask for; the places of the cards' names are put into files.
-fn arguments(count: usize, files: &mut [usize]) -> Asked
+fn arguments(rt: &HostRuntime, count: usize, files: &mut [usize]) -> Asked
     requires { length files.old ≡ 65536 }
     ensures { result.cards ≤ 65536 }
 {
@@ -160,7 +158,7 @@ fn arguments(count: usize, files: &mut [usize]) -> Asked
     };
     let mut i = 1;
     while i < count {
-        asked = with(asked, option_at(i), i, files);
+        asked = with(asked, option_at(rt, i), i, files);
         i += 1;
     }
     asked
@@ -196,111 +194,91 @@ fn no_octets() -> [u8; READ]
 }
 
 // Writes text to standard output, or says that it cannot.
-fn say(text: &[u8]) -> bool {
-    if io::write_all(STDOUT_FILENO, text) {
-        return true;
+fn say(rt: &HostRuntime, text: &[u8]) -> bool {
+    match rt.stdout().write_all(text) {
+        Ok(()) => true,
+        Err(why) => {
+            outside::fail(rt, b"sorter: standard output", why);
+            false
+        },
     }
-    os::fail(b"sorter: standard output");
-    false
 }
 
 // Writes a line of cells to standard output, in comma-separated form where that is asked for.
-fn say_cells(line: &[u8], csv: bool) -> bool {
+fn say_cells(rt: &HostRuntime, line: &[u8], csv: bool) -> bool {
     if !csv {
-        return say(line);
+        return say(rt, line);
     }
     let mut room = room();
     let n = cardline::csv(line, &mut room);
-    say(&room[..n])
+    say(rt, &room[..n])
 }
 
 // Writes the line above the cards' lines.
-fn head(given: bool, csv: bool) -> bool {
+fn head(rt: &HostRuntime, given: bool, csv: bool) -> bool {
     let mut room = room();
     let n = cardline::header(given, &mut room);
-    say_cells(&room[..n], csv)
+    say_cells(rt, &room[..n], csv)
 }
 
 // Writes a card's line.
-fn tell(name: &[u8], v: card::Verdict, csv: bool) -> bool {
+fn tell(rt: &HostRuntime, name: &[u8], v: card::Verdict, csv: bool) -> bool {
     let mut room = room();
     let n = cardline::line(name, v, &mut room);
-    say_cells(&room[..n], csv)
+    say_cells(rt, &room[..n], csv)
 }
 
-// Reads up to 530 octets of an open file, and answers how many came; 531 where a read fails.
-fn fill(fd: i32, octets: &mut [u8]) -> usize
+// Reads up to 530 octets of what is open, and answers how many came.
+fn fill<R: Read>(input: &mut R, octets: &mut [u8]) -> io::Result<usize>
     requires { length octets.old ≡ 530 }
-    ensures { result ≤ 531 }
+    ensures { IfOk result (λ n. n ≤ 530) }
 {
-    let mut n: usize = 0;
-    while n < READ {
-        let rest = &mut octets[n..];
-        let got = libc::read(fd, rest);
-        if got < 0 {
-            return FAILED;
-        }
-        let m = io::count(got, rest);
-        if m == 0 {
-            return n;
-        }
-        n += m;
-    }
-    n
+    outside::read_full(input, octets)
 }
 
-// Reads up to 530 octets of the file of this name, and answers how many came; 531 where it cannot be opened or read.
-fn read_file(name: &[u8], octets: &mut [u8]) -> usize
+// Reads up to 530 octets of the file of this name, and answers how many came.
+fn read_file(rt: &HostRuntime, name: &[u8], octets: &mut [u8]) -> io::Result<usize>
     requires { length octets.old ≡ 530 }
-    ensures { result ≤ 531 }
+    ensures { IfOk result (λ n. n ≤ 530) }
 {
-    let fd = os::open_read(name);
-    if fd < 0 {
-        return FAILED;
-    }
-    let n = fill(fd, octets);
-    libc::close(fd);
-    n
+    let mut file = outside::open(rt, name)?;
+    fill(&mut file, octets)
 }
 
 // What the card whose frame stands in the file of this name is found to be.
-fn look(name: &[u8], customer: verdict::Customer) -> card::Verdict {
+fn look(rt: &HostRuntime, name: &[u8], customer: verdict::Customer) -> card::Verdict {
     let mut octets = no_octets();
-    let n = read_file(name, &mut octets);
-    if READ < n {
-        return verdict::unread(customer);
+    match read_file(rt, name, &mut octets) {
+        Ok(n) => verdict::judge(&octets[..n], customer),
+        Err(_) => verdict::unread(customer),
     }
-    verdict::judge(&octets[..n], customer)
 }
 
 // Shows which card is being looked at.
-fn show(number: usize, cards: usize) {
-    io::write_all(STDERR_FILENO, b"\r\x1b[Ksorter: card ");
-    io::print_decimal(STDERR_FILENO, number as u64);
-    io::write_all(STDERR_FILENO, b" of ");
-    io::print_decimal(STDERR_FILENO, cards as u64);
+fn show(rt: &HostRuntime, number: usize, cards: usize) {
+    let _ = eprint!(rt; "\r\x1b[Ksorter: card {number} of {cards}");
 }
 
 // Takes that away again.
-fn hide(shown: bool) {
+fn hide(rt: &HostRuntime, shown: bool) {
     if shown {
-        io::write_all(STDERR_FILENO, b"\r\x1b[K");
+        outside::complain(rt, b"\r\x1b[K");
     }
 }
 
 // The same before a line that goes to a terminal too.
-fn clear(shown: bool) {
-    if libc::isatty(STDOUT_FILENO) == 1 {
-        hide(shown);
+fn clear(rt: &HostRuntime, shown: bool) {
+    if rt.stdout().is_terminal() {
+        hide(rt, shown);
     }
 }
 
 // Whether a list of so many cards shows how far it has come: a long one does, where standard error is a terminal.
-fn is_shown(cards: usize) -> bool {
+fn is_shown(rt: &HostRuntime, cards: usize) -> bool {
     if cards <= SHORT {
         return false;
     }
-    libc::isatty(STDERR_FILENO) == 1
+    rt.stderr().is_terminal()
 }
 
 // A card's verdict, and whether its line is written.
@@ -311,142 +289,150 @@ struct Line {
 }
 
 // Writes the line of a card that is found to be this.
-fn done(name: &[u8], v: card::Verdict, shown: bool, csv: bool) -> Line {
-    clear(shown);
+fn done(rt: &HostRuntime, name: &[u8], v: card::Verdict, shown: bool, csv: bool) -> Line {
+    clear(rt, shown);
     Line {
         rank: v.rank,
-        written: tell(name, v, csv),
+        written: tell(rt, name, v, csv),
     }
 }
 
 // Looks at the card whose file argument i names, and writes its line. A name that is too long for a path is cut, and its file unread.
-fn card(i: usize, shown: bool, csv: bool, customer: verdict::Customer) -> Line {
-    let mut path = io::buffer();
-    let n = os::arg(i, &mut path);
-    if os::errno() != 0 {
-        return done(&path, verdict::unread(customer), shown, csv);
+fn card(rt: &HostRuntime, i: usize, shown: bool, csv: bool, customer: verdict::Customer) -> Line {
+    let mut path = outside::buffer();
+    match outside::arg(rt, i, &mut path) {
+        Ok(n) => {
+            let v = look(rt, &path[..n], customer);
+            done(rt, &path[..n], v, shown, csv)
+        },
+        Err(_) => done(rt, &path, verdict::unread(customer), shown, csv),
     }
-    let v = look(&path[..n], customer);
-    done(&path[..n], v, shown, csv)
 }
 
 // Shows a card's number where that is asked for.
-fn number(shown: bool, k: usize, cards: usize)
+fn number(rt: &HostRuntime, shown: bool, k: usize, cards: usize)
     requires { k < 65536 }
 {
     if shown {
-        show(k + 1, cards);
+        show(rt, k + 1, cards);
     }
 }
 
 // Looks at the cards whose names stand at these places, and puts their verdicts into ranks. Answers whether all lines are written.
-fn look_at(files: &[usize], csv: bool, customer: verdict::Customer, ranks: &mut [u32]) -> bool
+fn look_at(
+    rt: &HostRuntime,
+    files: &[usize],
+    csv: bool,
+    customer: verdict::Customer,
+    ranks: &mut [u32],
+) -> bool
     requires { (length files.now ≤ 65536) × (length ranks.old ≡ length files.now) }
 {
-    let shown = is_shown(files.len());
+    let shown = is_shown(rt, files.len());
     let mut k = 0;
     while k < files.len() {
-        number(shown, k, files.len());
-        let found = card(files[k], shown, csv, customer);
+        number(rt, shown, k, files.len());
+        let found = card(rt, files[k], shown, csv, customer);
         if !found.written {
-            hide(shown);
+            hide(rt, shown);
             return false;
         }
         ranks[k] = found.rank;
         k += 1;
     }
-    hide(shown);
+    hide(rt, shown);
     true
 }
 
 // Writes the totals. With comma-separated cards they go to standard error.
-fn total(given: bool, csv: bool, ranks: &[u32]) -> bool {
+fn total(rt: &HostRuntime, given: bool, csv: bool, ranks: &[u32]) -> bool {
     let mut room = room();
     let n = totals::totals(given, ranks, &mut room);
     if !csv {
-        return say(&room[..n]);
+        return say(rt, &room[..n]);
     }
-    io::write_all(STDERR_FILENO, &room[..n]);
+    outside::complain(rt, &room[..n]);
     true
 }
 
 // Sorts the cards whose names stand at these places, and answers the status.
-fn sort(files: &[usize], csv: bool, customer: verdict::Customer) -> u32
+fn sort(rt: &HostRuntime, files: &[usize], csv: bool, customer: verdict::Customer) -> u32
     requires { length files.now ≤ 65536 }
 {
     let mut room = no_ranks();
     let ranks = &mut room[..files.len()];
-    if !head(customer.given, csv) {
+    if !head(rt, customer.given, csv) {
         return WRONG;
     }
-    if !look_at(files, csv, customer, ranks) {
+    if !look_at(rt, files, csv, customer, ranks) {
         return WRONG;
     }
-    if !total(customer.given, csv, ranks) {
+    if !total(rt, customer.given, csv, ranks) {
         return WRONG;
     }
     totals::status(customer.given, ranks)
 }
 
 // Says what a reference that does not serve is found to be.
-fn refer(name: &[u8], v: card::Verdict) -> u32 {
+fn refer(rt: &HostRuntime, name: &[u8], v: card::Verdict) -> u32 {
     let mut room = room();
     let n = cardline::reference(name, v, &mut room);
-    io::write_all(STDERR_FILENO, &room[..n]);
+    outside::complain(rt, &room[..n]);
     WRONG
 }
 
 // Sorts beside the customer whose reference frame argument i names.
-fn sort_like(i: usize, files: &[usize], csv: bool) -> u32
+fn sort_like(rt: &HostRuntime, i: usize, files: &[usize], csv: bool) -> u32
     requires { length files.now ≤ 65536 }
 {
-    let mut path = io::buffer();
-    let n = os::arg(i, &mut path);
-    let v = look(&path[..n], verdict::nobody());
+    let mut path = outside::buffer();
+    let n = outside::word(rt, i, &mut path);
+    let v = look(rt, &path[..n], verdict::nobody());
     let customer = verdict::reference(v);
     if !customer.given {
-        return refer(&path[..n], v);
+        return refer(rt, &path[..n], v);
     }
-    sort(files, csv, customer)
+    sort(rt, files, csv, customer)
 }
 
 // Says how the sorter is called.
-fn usage() -> u32 {
-    io::write_all(
-        STDERR_FILENO,
+fn usage(rt: &HostRuntime) -> u32 {
+    outside::complain(
+        rt,
         b"\nusage: sorter [--like FILE] [--csv] [--status] [--] FILE...\n",
     );
     WRONG
 }
 
 // Says why it is called wrongly.
-fn refuse(why: &[u8]) -> u32 {
-    io::write_all(STDERR_FILENO, b"sorter: ");
-    io::write_all(STDERR_FILENO, why);
-    usage()
+fn refuse(rt: &HostRuntime, why: &[u8]) -> u32 {
+    outside::complain(rt, b"sorter: ");
+    outside::complain(rt, why);
+    usage(rt)
 }
 
 // Says that argument i is no option of the sorter.
-fn refuse_option(i: usize) -> u32 {
-    let mut word = io::buffer();
-    let n = os::arg(i, &mut word);
-    io::write_all(STDERR_FILENO, b"sorter: ");
-    io::write_all(STDERR_FILENO, &word[..n]);
-    io::write_all(
-        STDERR_FILENO,
+fn refuse_option(rt: &HostRuntime, i: usize) -> u32 {
+    let mut word = outside::buffer();
+    let n = outside::word(rt, i, &mut word);
+    outside::complain(rt, b"sorter: ");
+    outside::complain(rt, &word[..n]);
+    outside::complain(
+        rt,
         b": no such option; a file of that name is given as ./NAME",
     );
-    usage()
+    usage(rt)
 }
 
 // The status of what is written to standard output alone.
-fn printed(text: &[u8]) -> u32 {
-    if say(text) { totals::FINE } else { WRONG }
+fn printed(rt: &HostRuntime, text: &[u8]) -> u32 {
+    if say(rt, text) { totals::FINE } else { WRONG }
 }
 
 // How the sorter is called.
-fn help() -> u32 {
+fn help(rt: &HostRuntime) -> u32 {
     printed(
+        rt,
         b"usage: sorter [--like FILE] [--csv] [--status] [--] FILE...\n\
           Sorts SDSL line cards: each FILE holds a card's captured activation frame, 529 octets.\n\
           Standard output has a line for each card and then the totals.\n\
@@ -460,47 +446,47 @@ fn help() -> u32 {
 }
 
 // The version.
-fn version() -> u32 {
-    if !say(b"sdsl-sorter ") {
+fn version(rt: &HostRuntime) -> u32 {
+    if !say(rt, b"sdsl-sorter ") {
         return WRONG;
     }
-    if !say(&options::RELEASE) {
+    if !say(rt, &options::RELEASE) {
         return WRONG;
     }
-    printed(b"\n")
+    printed(rt, b"\n")
 }
 
 // Says what is wrong with the arguments.
-fn refuse_use(what: u32) -> u32 {
+fn refuse_use(rt: &HostRuntime, what: u32) -> u32 {
     match what {
-        NO_FILE => refuse(b"--like: the reference's FILE is missing"),
-        TWICE => refuse(b"--like stands twice"),
-        TOO_MANY => refuse(b"more than 65536 cards"),
-        _ => refuse(b"no cards"),
+        NO_FILE => refuse(rt, b"--like: the reference's FILE is missing"),
+        TWICE => refuse(rt, b"--like stands twice"),
+        TOO_MANY => refuse(rt, b"more than 65536 cards"),
+        _ => refuse(rt, b"no cards"),
     }
 }
 
 // Does what is asked other than to sort.
-fn tell_use(what: u32, at: usize) -> u32 {
+fn tell_use(rt: &HostRuntime, what: u32, at: usize) -> u32 {
     match what {
-        HELP => help(),
-        VERSION => version(),
-        UNKNOWN => refuse_option(at),
-        _ => refuse_use(what),
+        HELP => help(rt),
+        VERSION => version(rt),
+        UNKNOWN => refuse_option(rt, at),
+        _ => refuse_use(rt, what),
     }
 }
 
 // Does what is asked with the cards at these places, and answers the status.
-fn run(what: u32, at: usize, like: usize, csv: bool, files: &[usize]) -> u32
+fn run(rt: &HostRuntime, what: u32, at: usize, like: usize, csv: bool, files: &[usize]) -> u32
     requires { length files.now ≤ 65536 }
 {
     if what != SORT {
-        return tell_use(what, at);
+        return tell_use(rt, what, at);
     }
     if like == 0 {
-        return sort(files, csv, verdict::nobody());
+        return sort(rt, files, csv, verdict::nobody());
     }
-    sort_like(like, files, csv)
+    sort_like(rt, like, files, csv)
 }
 
 // A status as its digit.
@@ -524,11 +510,12 @@ fn asked_for(asked: Asked) -> u32 {
 }
 
 // Does as the arguments say.
-fn main() {
+fn main(rt: HostRuntime) {
     let mut places = no_places();
-    let asked = arguments(os::arg_count(), &mut places);
+    let asked = arguments(&rt, outside::arg_count(&rt), &mut places);
     let cards = asked.cards;
     let status = run(
+        &rt,
         asked_for(asked),
         asked.at,
         asked.like,
@@ -536,6 +523,6 @@ fn main() {
         &places[..cards],
     );
     if asked.status {
-        io::write_all(STATUS_FILENO, &[digit(status)]);
+        outside::tell_status(&rt, digit(status));
     }
 }
