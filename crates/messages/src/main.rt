@@ -1,27 +1,25 @@
 // The messages of an operations channel, listed: `messages [--status] [--for UNIT] < OCTETS`. What a message is found to be and its line are
 // crate eoclisting's; here octets are only read, parted at their flags, and lines written.
 #![tactic(auto)]
-ghost use Rattle.std.specs.Prelude.{◌≡◌, true, cond, ◌+◌, ◌≤◌, ◌<◌, length};
+
+ghost use Rattle.std.specs.Prelude.{◌≡◌, true, cond, ◌+◌, ◌≤◌, ◌<◌, length, IfOk};
 ghost use Rattle.eoc.specs.Channel.{pieces};
 ghost use Rattle.messages.specs.Messages.{most_octets, flag_from, is_good, is_taken, count_good, count_taken};
 
 use eoclisting::Counts;
-use libc::{STDERR_FILENO, STDIN_FILENO, STDOUT_FILENO};
+use std::io;
+use std::io::Read;
 
 // The most octets that are read.
 const MOST: usize = 1048576;
 // One more is read, so that a longer channel shows.
 const READ: usize = 1048577;
-// One more than can be read: a read failed.
-const FAILED: usize = 1048578;
 // Room for every line (eoclisting's theorems on what fits).
 const ROOM: usize = 4096;
 // An address that no unit has: every message is listed.
 const NO_UNIT: u32 = 16;
 // An option of this program alone.
 const FOR: u32 = 8;
-// Where the status goes that --status asks for.
-const STATUS_FILENO: i32 = 3;
 // The status: all messages are good, not so, and what could not be read or was asked for wrongly.
 const GOOD: u8 = b'0';
 
@@ -30,18 +28,20 @@ const OTHER: u8 = b'1';
 const WRONG: u8 = b'2';
 
 // Says what failed, and why.
-fn fail(what: &[u8]) {
-    io::write_all(STDERR_FILENO, b"messages: ");
-    os::fail(what);
+fn fail(rt: &HostRuntime, what: &[u8], why: io::Error) {
+    outside::complain(rt, b"messages: ");
+    outside::fail(rt, what, why);
 }
 
 // Writes to standard output, and answers whether it could; where not, says so.
-fn print(text: &[u8]) -> bool {
-    if io::write_all(STDOUT_FILENO, text) {
-        return true;
+fn print(rt: &HostRuntime, text: &[u8]) -> bool {
+    match rt.stdout().write_all(text) {
+        Ok(()) => true,
+        Err(why) => {
+            fail(rt, b"standard output", why);
+            false
+        },
     }
-    fail(b"standard output");
-    false
 }
 
 // The place of the first flag from a place on, or the channel's end.
@@ -76,7 +76,7 @@ fn one(yes: bool) -> u32
 }
 
 // Tells one message, its two flags too: one of its own number, where it is asked for.
-fn tell(told: Told, octets: &[u8], own: u32) -> Told
+fn tell(rt: &HostRuntime, told: Told, octets: &[u8], own: u32) -> Told
     requires { (told.messages < 1048577) × (told.good < 1048577) × (told.taken < 1048577) }
     ensures { (result.messages ≡ told.messages + 1) × (result.good ≡ told.good + cond (is_good octets.now) 1 0)
         × (result.taken ≡ told.taken + cond (is_taken own octets.now) 1 0) }
@@ -89,7 +89,7 @@ fn tell(told: Told, octets: &[u8], own: u32) -> Told
     let mut written = true;
     if taken | (own == NO_UNIT) {
         let m = line.length;
-        written = print(&room[..m]);
+        written = print(rt, &room[..m]);
     }
     Told {
         written,
@@ -100,7 +100,7 @@ fn tell(told: Told, octets: &[u8], own: u32) -> Told
 }
 
 // Tells every message of a channel, from its first flag on, up to the first that cannot be written.
-fn tell_from(channel: &[u8], first: usize, own: u32) -> Told
+fn tell_from(rt: &HostRuntime, channel: &[u8], first: usize, own: u32) -> Told
     requires { (length channel.now ≤ most_octets) × (first ≡ flag_from channel.now 0) }
     ensures { result.written ≡ true → (result.messages ≡ length (pieces channel.now)) × (result.good ≡ count_good (pieces channel.now))
         × (result.taken ≡ count_taken own (pieces channel.now)) }
@@ -115,7 +115,7 @@ fn tell_from(channel: &[u8], first: usize, own: u32) -> Told
     while at < channel.len() {
         let end = flag_from(channel, at + 1);
         if (at + 1 < end) & (end < channel.len()) {
-            told = tell(told, &channel[at..end + 1], own);
+            told = tell(rt, told, &channel[at..end + 1], own);
             if !told.written {
                 return told;
             }
@@ -160,7 +160,7 @@ fn status(told: Told) -> u8 {
 }
 
 // Tells the totals, and answers the status.
-fn tell_totals(told: Told, before: u32, behind: u32, own: u32) -> u8 {
+fn tell_totals(rt: &HostRuntime, told: Told, before: u32, behind: u32, own: u32) -> u8 {
     let mut room = [0u8; ROOM];
     let counts = Counts {
         before,
@@ -171,57 +171,44 @@ fn tell_totals(told: Told, before: u32, behind: u32, own: u32) -> u8 {
         taken: told.taken,
     };
     let n = eoclisting::totals(counts, &mut room);
-    if print(&room[..n]) {
+    if print(rt, &room[..n]) {
         return status(told);
     }
     WRONG
 }
 
 // Tells a channel.
-fn tell_channel(channel: &[u8], own: u32) -> u8
+fn tell_channel(rt: &HostRuntime, channel: &[u8], own: u32) -> u8
     requires { length channel.now ≤ most_octets }
 {
     let first = flag_from(channel, 0);
-    let told = tell_from(channel, first, own);
+    let told = tell_from(rt, channel, first, own);
     if !told.written {
         return WRONG;
     }
-    tell_totals(told, first as u32, octets_behind(channel), own)
+    tell_totals(rt, told, first as u32, octets_behind(channel), own)
 }
 
 // Tells what was read. One octet more than a channel may have shows that it is too long.
-fn tell_all(channel: &[u8], own: u32) -> u8
+fn tell_all(rt: &HostRuntime, channel: &[u8], own: u32) -> u8
     requires { length channel.now ≤ most_octets + 1 }
 {
     if MOST < channel.len() {
-        io::write_all(
-            STDERR_FILENO,
+        outside::complain(
+            rt,
             b"messages: more than 1048576 octets: give it fewer at a time\n",
         );
         return WRONG;
     }
-    tell_channel(channel, own)
+    tell_channel(rt, channel, own)
 }
 
-// Reads up to 1,048,577 octets of standard input, and answers how many came; one more where a read fails.
-fn fill(octets: &mut [u8]) -> usize
+// Reads up to 1,048,577 octets of standard input, and answers how many came.
+fn fill<R: Read>(input: &mut R, octets: &mut [u8]) -> io::Result<usize>
     requires { length octets.old ≡ most_octets + 1 }
-    ensures { result ≤ most_octets + 2 }
+    ensures { IfOk result (λ n. n ≤ most_octets + 1) }
 {
-    let mut n: usize = 0;
-    while n < READ {
-        let rest = &mut octets[n..];
-        let got = libc::read(STDIN_FILENO, rest);
-        if got < 0 {
-            return FAILED;
-        }
-        let m = io::count(got, rest);
-        if m == 0 {
-            return n;
-        }
-        n += m;
-    }
-    n
+    outside::read_full(input, octets)
 }
 
 // Room for a channel and one octet more. The proofs of its callers know its length alone, and never count it out.
@@ -232,18 +219,19 @@ fn room() -> [u8; READ]
 }
 
 // Tells the channel on standard input.
-fn tell_input(own: u32) -> u8 {
+fn tell_input(rt: &HostRuntime, own: u32) -> u8 {
     let mut channel = room();
-    let n = fill(&mut channel);
-    if READ < n {
-        fail(b"standard input");
-        return WRONG;
+    match fill(&mut rt.stdin(), &mut channel) {
+        Ok(n) => tell_all(rt, &channel[..n], own),
+        Err(why) => {
+            fail(rt, b"standard input", why);
+            WRONG
+        },
     }
-    tell_all(&channel[..n], own)
 }
 
 // What the arguments ask for.
-#[derive(Drop)]
+#[derive(Clone, Copy)]
 struct Asked {
     // options::WORD to list messages, HELP or VERSION, or UNKNOWN for an argument that is wrong: the first of them counts.
     what: u32,
@@ -303,16 +291,16 @@ impl Asked {
 }
 
 // Which option argument i is. One that is too long to be one is a word.
-fn option_at(i: usize) -> u32 {
-    let mut word = io::buffer();
-    let n = os::arg(i, &mut word);
+fn option_at(rt: &HostRuntime, i: usize) -> u32 {
+    let mut word = outside::buffer();
+    let n = outside::word(rt, i, &mut word);
     let option = options::read(&word[..n]);
     options::number(&word[..n], b"--for", FOR, option)
 }
 
 // What all arguments ask for.
-fn arguments() -> Asked {
-    let count = os::arg_count();
+fn arguments(rt: &HostRuntime) -> Asked {
+    let count = outside::arg_count(rt);
     let mut asked = Asked {
         what: options::WORD,
         at: 0,
@@ -322,7 +310,7 @@ fn arguments() -> Asked {
     };
     let mut i = 1;
     while i < count {
-        asked = asked.with(option_at(i), i);
+        asked = asked.with(option_at(rt, i), i);
         i += 1;
     }
     asked.done(i - 1)
@@ -353,22 +341,19 @@ fn unit_named(word: &[u8]) -> u32 {
 }
 
 // The address of the unit that argument i names.
-fn unit_at(i: usize) -> u32 {
-    let mut word = io::buffer();
-    let n = os::arg(i, &mut word);
+fn unit_at(rt: &HostRuntime, i: usize) -> u32 {
+    let mut word = outside::buffer();
+    let n = outside::word(rt, i, &mut word);
     unit_named(&word[..n])
 }
 
 // Says that argument i is wrong, and how the program is called.
-fn refuse(i: usize) -> u8 {
-    let mut word = io::buffer();
-    let n = os::arg(i, &mut word);
-    io::write_all(STDERR_FILENO, b"messages: wrong argument: ");
-    io::write_all(STDERR_FILENO, &word[..n]);
-    io::write_all(
-        STDERR_FILENO,
-        b"\nusage: messages [--status] [--for UNIT] < OCTETS\n",
-    );
+fn refuse(rt: &HostRuntime, i: usize) -> u8 {
+    let mut word = outside::buffer();
+    let n = outside::word(rt, i, &mut word);
+    outside::complain(rt, b"messages: wrong argument: ");
+    outside::complain(rt, &word[..n]);
+    outside::complain(rt, b"\nusage: messages [--status] [--for UNIT] < OCTETS\n");
     WRONG
 }
 
@@ -378,8 +363,9 @@ fn done(written: bool) -> u8 {
 }
 
 // How the program is called.
-fn help() -> u8 {
+fn help(rt: &HostRuntime) -> u8 {
     done(print(
+        rt,
         b"usage: messages [--status] [--for UNIT] < OCTETS\n\
               Lists the messages of an SDSL operations channel (eoc), octets with their flags as they came.\n\
               \x20 --for UNIT lists only what this unit takes: LTU, NTU, or R1 to R8 for a regenerator\n\
@@ -391,44 +377,44 @@ fn help() -> u8 {
 }
 
 // The version.
-fn version() -> u8 {
-    if !print(b"sdsl-messages ") {
+fn version(rt: &HostRuntime) -> u8 {
+    if !print(rt, b"sdsl-messages ") {
         return WRONG;
     }
-    if !print(&options::RELEASE) {
+    if !print(rt, &options::RELEASE) {
         return WRONG;
     }
-    done(print(b"\n"))
+    done(print(rt, b"\n"))
 }
 
 // Lists the messages of the channel, all of them or those for a unit.
-fn list(unit: usize) -> u8 {
+fn list(rt: &HostRuntime, unit: usize) -> u8 {
     if unit == 0 {
-        return tell_input(NO_UNIT);
+        return tell_input(rt, NO_UNIT);
     }
-    let own = unit_at(unit);
+    let own = unit_at(rt, unit);
     if own == NO_UNIT {
-        return refuse(unit);
+        return refuse(rt, unit);
     }
-    tell_input(own)
+    tell_input(rt, own)
 }
 
 // Does what is asked, and answers the status.
-fn run(asked: Asked) -> u8 {
+fn run(rt: &HostRuntime, asked: Asked) -> u8 {
     let what = asked.what;
     match what {
-        options::HELP => help(),
-        options::VERSION => version(),
-        options::UNKNOWN => refuse(asked.at),
-        _ => list(asked.unit),
+        options::HELP => help(rt),
+        options::VERSION => version(rt),
+        options::UNKNOWN => refuse(rt, asked.at),
+        _ => list(rt, asked.unit),
     }
 }
 
 // Does as the arguments say.
-fn main() {
-    let asked = arguments();
-    let status = run(asked);
+fn main(rt: HostRuntime) {
+    let asked = arguments(&rt);
+    let status = run(&rt, asked);
     if asked.status {
-        io::write_all(STATUS_FILENO, &[status]);
+        outside::tell_status(&rt, status);
     }
 }
