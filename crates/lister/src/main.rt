@@ -254,6 +254,6 @@ fn main(rt: HostRuntime) {
     let asked = arguments(&rt);
     let status = run(&rt, asked.what, asked.at);
     if asked.status {
-        outside::tell_status(&rt, status);
+        outside::tell_status(status);
     }
 }

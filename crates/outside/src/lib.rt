@@ -1,12 +1,13 @@
 // What the programs ask of the system, over std: their arguments, a file by its name, octets to its end, words on standard error, and the
 // digit of --status.
 #![tactic(auto)]
+
 ghost use Rattle.std.specs.Prelude.{◌≡◌, ◌≤◌, length, IfOk};
 
 use std::env::{Env, FillError};
 use std::fmt::Write as _;
-use std::fs::{File, OpenOptions};
-use std::io::{Error, Read, Result, Write};
+use std::fs::File;
+use std::io::{Error, Read, Result};
 use std::{fmt, str};
 
 // The system's numbers of three errors: an argument that there is not, a name that is too long, and one that is no text.
@@ -15,6 +16,8 @@ const EINVAL: i32 = 22;
 const ENAMETOOLONG: i32 = 36;
 
 const EILSEQ: i32 = 84;
+// Where the digit goes that --status asks for.
+const STATUS_FILENO: i32 = 3;
 
 // Room for an argument that may be a path. Its callers know its length alone, and never count it out.
 pub fn buffer() -> [u8; 4096]
@@ -142,10 +145,8 @@ pub fn fail(rt: &HostRuntime, what: &[u8], error: Error) {
     complain(rt, b"\n");
 }
 
-// Writes the status that --status asks for to descriptor 3, where that is open for writing.
-pub fn tell_status(rt: &HostRuntime, digit: u8) {
-    let third = OpenOptions::new().append(true).open(rt, "/dev/fd/3");
-    if let Ok(mut file) = third {
-        let _ = file.write_all(&[digit]);
-    }
+// Writes the digit that --status asks for to descriptor 3, where that is open for writing. std knows no descriptor by its number, and a file
+// opened anew by the name /dev/fd/3 is another one: it is written where descriptor 3 may only be read, and not at the place where that stands.
+pub fn tell_status(digit: u8) {
+    io::write_all(STATUS_FILENO, &[digit]);
 }

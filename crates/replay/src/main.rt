@@ -439,6 +439,6 @@ fn main(rt: HostRuntime) {
     let asked = arguments(&rt);
     let status = run(&rt, asked);
     if asked.status {
-        outside::tell_status(&rt, status);
+        outside::tell_status(status);
     }
 }

@@ -523,6 +523,6 @@ fn main(rt: HostRuntime) {
         &places[..cards],
     );
     if asked.status {
-        outside::tell_status(&rt, digit(status));
+        outside::tell_status(digit(status));
     }
 }
