@@ -1,5 +1,6 @@
 // A card's verdict: what its frame is found to be (crate verdict finds it), as numbers, and the words for each (specs/).
 #![tactic(auto)]
+
 ghost use Rattle.std.specs.Prelude.{◌≡◌};
 ghost use Rattle.ascii.specs.Promises.{Put};
 ghost use Rattle.card.specs.Words.{row_of_rank, refusal};

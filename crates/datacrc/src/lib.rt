@@ -1,6 +1,7 @@
 // The six check bits of a data-mode frame (002, clause 7.1.5): those that stand in it, and those that the next frame has to carry. Places count
 // from 0, and a block has m or n = 12k bits: place m + 20 is bit 12k + 21.
 #![tactic(auto)]
+
 ghost use Rattle.std.specs.Prelude.{◌≡◌, ◌++◌, ◌+◌, ◌*◌, ◌^◌, ◌<◌, ◌≤◌, length};
 ghost use Rattle.octets.specs.Bits.{value_of, bits_of, part};
 ghost use Rattle.remainder.specs.Division.{Remainder, RemainderFrom, polynomial};

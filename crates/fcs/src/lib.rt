@@ -1,5 +1,6 @@
 // The check sequence of an operations channel message (002, clause 10.5.5.4; RFC 1662, FCS-16).
 #![tactic(auto)]
+
 ghost use Rattle.std.specs.Prelude.{◌≡◌, reverse, ◌≤◌, length, take};
 ghost use Rattle.octets.specs.Bits.{digits_of, value_of};
 ghost use Rattle.fcs.specs.Sequence.{register};

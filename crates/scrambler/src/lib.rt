@@ -1,5 +1,6 @@
 // The scrambler (SCOPE, "Scrambler"; 002, clause 7.1.6): an end's tap and state; a bit at a time and runs of bits; and back, whole frames too.
 #![tactic(auto)]
+
 ghost use Rattle.std.specs.Prelude.{◌≡◌};
 ghost use Rattle.answer.specs.Answer.{answer};
 ghost use Rattle.recurrence.specs.Run.{scramble, descramble, way_of};
