@@ -1,5 +1,6 @@
 // Checking an activation frame (SCOPE, "The activation frame").
 #![tactic(auto)]
+
 ghost use Rattle.std.specs.Prelude.{◌≡◌, length, drop, eqb};
 ghost use Rattle.answer.specs.Answer.{answer};
 ghost use Rattle.octets.specs.Bits.{value_of, bits_of};

@@ -1,5 +1,6 @@
 // Reading an operations channel message (002, clauses 10.5.5.2 to 10.5.5.4). Octets 1 to n - 2 stand between the flags, of n; places count from 0.
 #![tactic(auto)]
+
 ghost use Rattle.std.specs.Prelude.{◌≡◌, false, cond, ◌||◌, ◌-◌, ◌<◌, ◌≤◌, min, eqb, length, get_or, take, drop};
 ghost use Rattle.octets.specs.Bits.{part};
 ghost use Rattle.eoc.specs.Message.{flag, escape, flag_mark, escape_mark, contents_most, padded};

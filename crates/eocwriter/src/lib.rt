@@ -1,5 +1,6 @@
 // Writing an operations channel message (002, clauses 10.5.5.2 to 10.5.5.4).
 #![tactic(auto)]
+
 ghost use Rattle.std.specs.Prelude.{◌≡◌, ◌++◌, ◌∷◌, [], ◌+◌, ◌*◌, ◌≤◌, length, take};
 ghost use Rattle.answer.specs.Answer.{answer};
 ghost use Rattle.fcs.specs.Sequence.{sequence_of};

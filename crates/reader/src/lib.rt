@@ -1,5 +1,6 @@
 // Reading an activation frame (SCOPE, "The activation frame").
 #![tactic(auto)]
+
 ghost use Rattle.std.specs.Prelude.{◌≡◌, ◌&&◌, eqb, ◌+◌, length};
 ghost use Rattle.octets.specs.Bits.{value_of, bits_of, part};
 ghost use Rattle.ranges.specs.Ranges.{coefficient_count};

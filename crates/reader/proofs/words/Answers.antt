@@ -1,0 +1,14 @@
+-- `reader::words` meets its contract.
+use mathlib.Core.Path.{refl, ap, ◌∙◌}
+use Rattle.walk.specs.declared.TakenPair.{TakenPair}
+use Rattle.reader.proofs.Laws.{words-read, vendor-read}
+use Rattle.reader.proofs.words.Goals as goal
+
+pub returns : goal.returns
+returns c =
+    let y = c.copy in
+    let w = c.pair-found in
+    let e = words-read c.args.frame.now c.args.at w.result c.requires.1 w.ensures in (
+      vendor-read c.args.frame.now c.args.vendor.now y.new.s c.requires.0 c.requires.2 y.ensures (ap (λ (t : TakenPair). t.next) e) refl,
+      c.training.ensures ∙ ap (λ (t : TakenPair). record { answer = 0; kind = 0; c.before.before.before.before.before.before.before.before = t.first; b = t.second }) e,
+    )
