@@ -1,5 +1,6 @@
 // Checking a data-mode frame (002, clause 7.1.5). Places count from 0, and a block has m = 12k bits: place 2m + 35 is bit 24k + 36.
 #![tactic(auto)]
+
 ghost use Rattle.std.specs.Prelude.{◌≡◌, ◌*◌, ◌≤◌, eqb, length};
 ghost use Rattle.answer.specs.Answer.{answer};
 ghost use Rattle.octets.specs.Bits.{value_of, bits_of, part};

@@ -1,5 +1,6 @@
 // What one argument of a program says: which option it is, or a word such as a file's name (specs/Options.antt).
 #![tactic(auto)]
+
 ghost use Rattle.std.specs.Prelude.{◌≡◌, cond};
 ghost use Rattle.options.specs.Options.{a_word, unknown, dashed, Numbers, Says};
 

@@ -1,6 +1,7 @@
 // The receiver (SCOPE, "Bits off the line"): lumps of bits as the line chip gives them, of any size up to 4,096, and the activation frames that lie in
 // them, each in the call that brings its last bit.
 #![tactic(auto)]
+
 ghost use Rattle.std.specs.Prelude.{◌≡◌, true, cond, ◌++◌, ℕ, ◌+◌, ◌-◌, ◌*◌, ◌/◌, ◌%◌, ◌^◌, ◌≤◌, ◌<◌, min, max, ltb, length, replicate};
 ghost use Rattle.answer.specs.Answer.{answer};
 ghost use Rattle.octets.specs.Bits.{bits_of};

@@ -1,6 +1,7 @@
 // Sending an activation frame: its fields written, and scrambled on the way out (SCOPE, "Sending a frame"). The frame as it is written stands in an
 // array of its own; what is lent only ever gets the scrambled one.
 #![tactic(auto)]
+
 ghost use Rattle.std.specs.Prelude.{◌≡◌, ◌&&◌, ◌++◌, ◌≤◌, eqb, length, replicate};
 ghost use Rattle.answer.specs.Answer.{answer};
 ghost use Rattle.octets.specs.Bits.{digits_of, bits_of, octets_of, laid};

@@ -1,5 +1,6 @@
 // The story of a start-up log: what each code did, as an event (specs/Events.antt). The text of it is crate storytext's.
 #![tactic(auto)]
+
 ghost use Rattle.std.specs.Prelude.{◌≡◌, cond, ◌≤◌, ◌<◌, eqb, ltb};
 ghost use Rattle.startup.specs.Reports.{one};
 ghost use Rattle.story.specs.Events.{most, outcome, beginning, refused_with, kind_of, since_opening, number_of, told};

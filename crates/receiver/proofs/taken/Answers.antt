@@ -1,0 +1,24 @@
+-- `receiver::taken` meets its contract.
+use mathlib.Core.Path.{refl, sym, ap, subst, ◌∙◌}
+use native.Mathlib.Omega.{arith}
+use lib.ListN.{length}
+use Rattle.octets.specs.Bits.{bits_of}
+use Rattle.octets.proofs.Laws.{Octets}
+use Rattle.receiver.proofs.Laws.{not-read, is_read, frame-size, frame-octets, whole-copied}
+use Rattle.receiver.proofs.taken.Goals as goal
+
+pub returns-then-check-ne-DONE : goal.returns-then-check-ne-DONE
+returns-then-check-ne-DONE c =
+    let a = c.args in
+    (not-read a.end (bits_of a.s.now) a.at c.descrambled.ensures c.check.ensures.answered c.if-check-ne-DONE.true, refl)
+
+pub returns : goal.returns
+returns c =
+    let a = c.args in (
+      is_read a.end (bits_of a.s.now) a.at c.descrambled.ensures c.check.ensures.answered c.if-check-ne-DONE.false,
+      c.copy.ensures
+          ∙ whole-copied a.frame.now c.descrambled.new.plain 529
+          (λ i. omega (arith, c.slice_known-1.given i))
+          (subst Octets (sym c.descrambled.ensures) (frame-octets a.end a.s.now a.at)) c.requires.3
+          (ap length c.descrambled.ensures ∙ frame-size a.end (bits_of a.s.now) a.at) ∙ c.descrambled.ensures,
+    )

@@ -1,0 +1,13 @@
+-- `sender::put_final` meets its contract.
+use Rattle.sender.proofs.Laws.{final-put}
+use Rattle.sender.proofs.put_final.Goals as goal
+
+pub returns : goal.returns
+returns c =
+    let a = c.args in
+    let s₁ = c.put_field in
+    let s₂ = c.clear in
+    let t = c.finish in
+    final-put a.frame.now a.vendor.now
+    c.requires.0 s₁.new.s
+    s₂.new.s t.new.frame s₁.ensures s₂.ensures t.ensures
