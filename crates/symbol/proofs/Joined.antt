@@ -6,7 +6,7 @@ use Prim.Native.Nat.{ℕ, ◌+◌}
 use borrow.Author.Tests.{eqb-true, eq-eqb, not-false}
 use lib.Dec.{eqb, leb}
 use lib.ListN.{length, length-append}
-use Rattle.answer.specs.Answer.{refuse, answer}
+use Rattle.answer.specs.Answer.{refuse}
 use Rattle.answer.proofs.Laws.{none, given}
 use Rattle.octets.proofs.Digits.{Bits, nil-bits, digits-bits}
 use Rattle.ranges.proofs.Laws.{both}

@@ -14,24 +14,6 @@ use Rattle.samples.proofs.shift.Goals as goal
 pub loop-k-init : goal.loop-k-init
 loop-k-init c = (omega arith, moved_none _ c.whole.ensures)
 
-pub overflow_sub-from : goal.overflow_sub-from
-overflow_sub-from c = omega arith
-
-pub offset_bounds-history-from : goal.offset_bounds-history-from
-offset_bounds-history-from c = omega arith
-
-pub bounds-history-from : goal.bounds-history-from
-bounds-history-from c = omega arith
-
-pub offset_bounds-history-k : goal.offset_bounds-history-k
-offset_bounds-history-k c = omega arith
-
-pub bounds-history-k : goal.bounds-history-k
-bounds-history-k c = omega arith
-
-pub loop-k-smaller : goal.loop-k-smaller
-loop-k-smaller c = omega arith
-
 pub loop-k-preserved : goal.loop-k-preserved
 loop-k-preserved c =
     let l = c.loop-k in
@@ -39,15 +21,13 @@ loop-k-preserved c =
     let size = c.whole.ensures in
     let moves = c.loop-k-test.true in
     let e : to_z w32 (of_z w32 (get_or l.history (l.k - 1) (pos 0))) ≡ get_or old (l.k - 1) (pos 0) =
-    to_z-of_z (record { sfits = c.history-1.given }) ∙ ap (λ (h : List ℤ). get_or h (l.k - 1) (pos 0)) l.invariant.1
+    to_z-of_z {w = w32} (record { sfits = omega arith }) ∙ ap (λ (h : List ℤ). get_or h (l.k - 1) (pos 0)) l.invariant.1
     ∙ moved-read old size l.k moves l.invariant.0 in
     (omega arith, rw e (ap (λ (h : List ℤ). set h l.k (get_or old (l.k - 1) (pos 0))) l.invariant.1 ∙ moved_more old size l.k moves l.invariant.0))
 
 pub returns : goal.returns
 returns c =
     let l = c.loop-k in
-    let a = c.args in
     let k : l.k ≡ 0 = omega arith in
-    ap (λ (z : ℤ). set l.history 0 z) (to_z-of_z c.ranges.y)
-    ∙ ap (λ (h : List ℤ). set h 0 a.y) (l.invariant.1 ∙ ap (halfway a.history.now) k)
-    ∙ moved_all a.history.now c.whole.ensures a.y
+    rw (to_z-of_z c.ranges.y)
+    (ap (λ (h : List ℤ). set h 0 c.args.y) (l.invariant.1 ∙ ap (halfway c.args.history.now) k) ∙ moved_all c.args.history.now c.whole.ensures c.args.y)

@@ -1,5 +1,5 @@
 use mathlib.Core.Path.{◌≡◌}
-use Prim.Native.Nat.{◌-◌, ◌<◌}
+use Prim.Native.Nat.{◌<◌}
 use Rattle.samples.proofs.Moved.{halfway}
 use Rattle.samples.proofs.shift.Given as goal
 

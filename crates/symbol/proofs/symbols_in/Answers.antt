@@ -1,6 +1,5 @@
 -- `symbol::symbols_in` meets its contract. The invariant: what remains decides. Assumes nothing.
 use mathlib.Core.Path.{refl, sym, ◌∙◌}
-use Prim.Native.Nat.{◌-◌}
 use native.Mathlib.Omega.{arith}
 use Rattle.symbol.proofs.Runs.{symbols-next, symbols-out, symbols-end}
 use Rattle.symbol.proofs.symbols_in.Goals as goal

@@ -1,0 +1,101 @@
+-- `precoder::sum` meets its contract. The invariant: the four sums, put together, are the exact sum over the taps passed, and none is larger
+-- than so many products can be. Assumes nothing.
+use mathlib.Core.Path.{◌≡◌, refl, ap, ap₂, ◌∙◌}
+use mathlib.Core.List.{List}
+use Prim.Native.Nat.{ℕ, ◌+◌, ◌^◌, ◌<◌}
+use native.Mathlib.Numerals.{add-one}
+use native.Mathlib.Omega.{arith}
+use lib.IntN.{ℤ, pos, ◌+ℤ◌, ◌*ℤ◌}
+use lib.ListN.{get_or}
+use mir.Syntax.{w32, w64}
+use mir.Val.{SFits, to_z}
+use mir.Facts.{to_z-of_z}
+use Rattle.ranges.proofs.Laws.{mag-at, mag-range}
+use Rattle.precoder.specs.Precoder.{exact_sum}
+use Rattle.precoder.specs.declared.Parts.{Parts}
+use Rattle.precoder.proofs.Columns.{columns, column-more, column-asks, column-is}
+use Rattle.precoder.proofs.sum.Goals as goal
+
+pub loop-tap-init : goal.loop-tap-init
+unfolding exact_sum
+loop-tap-init c = (omega arith, refl, omega arith, omega arith, omega arith, omega arith)
+
+pub product-p-requires : goal.product-p-requires
+product-p-requires c =
+    let k = c.loop-tap.tap in
+    let x = get_or c.args.coefficients.now k (pos 0) in
+    let y = get_or c.args.history.now k (pos 0) in
+    let f : SFits w32 x = record { sfits = omega arith } in
+    let g : SFits w32 y = record { sfits = omega arith } in
+    rw (to_z-of_z f, to_z-of_z g) (
+      mag-range 2097151 x (mag-at 2097151 c.args.coefficients.now k c.requires.0),
+      mag-range 131071 y (mag-at 131071 c.args.history.now k c.requires.1),
+    )
+
+pub overflow_add-hh : goal.overflow_add-hh
+overflow_add-hh c =
+    let l = c.loop-tap in
+    column-asks l.tap (omega arith) (to_z w32 l.hh-bits) c.product-p.result.hh l.invariant.2 c.product-p.ensures.1
+
+pub overflow_add-hl : goal.overflow_add-hl
+overflow_add-hl c =
+    let l = c.loop-tap in
+    column-asks l.tap (omega arith) (to_z w32 l.hl-bits) c.product-p.result.hl l.invariant.3 c.product-p.ensures.2
+
+pub overflow_add-lh : goal.overflow_add-lh
+overflow_add-lh c =
+    let l = c.loop-tap in
+    column-asks l.tap (omega arith) (to_z w32 l.lh-bits) c.product-p.result.lh l.invariant.4 c.product-p.ensures.3
+
+pub overflow_add-ll : goal.overflow_add-ll
+overflow_add-ll c =
+    let l = c.loop-tap in
+    column-asks l.tap (omega arith) (to_z w32 l.ll-bits) c.product-p.result.ll l.invariant.5 c.product-p.ensures.4
+
+-- the four sums with the products of one tap more, put together, are the exact sum with that tap
+more : (coefficients past : List ℤ) (k : ℕ) (hh hl lh ll : ℤ) (p : Parts) (x y : ℤ)
+    → pos (2 ^ 20) *ℤ hh +ℤ pos (2 ^ 11) *ℤ hl +ℤ pos (2 ^ 9) *ℤ lh +ℤ ll ≡ exact_sum k coefficients past
+    → pos (2 ^ 20) *ℤ p.hh +ℤ pos (2 ^ 11) *ℤ p.hl +ℤ pos (2 ^ 9) *ℤ p.lh +ℤ p.ll ≡ x *ℤ y
+    → x ≡ get_or coefficients k (pos 0) → y ≡ get_or past k (pos 0)
+    → pos (2 ^ 20) *ℤ (hh +ℤ p.hh) +ℤ pos (2 ^ 11) *ℤ (hl +ℤ p.hl) +ℤ pos (2 ^ 9) *ℤ (lh +ℤ p.lh) +ℤ (ll +ℤ p.ll)
+    ≡ exact_sum (k + 1) coefficients past
+unfolding exact_sum
+more coefficients past k hh hl lh ll p x y e f g h =
+    rw (add-one k)
+    (columns (2 ^ 20) (2 ^ 11) (2 ^ 9) hh hl lh ll p.hh p.hl p.lh p.ll ∙ ap₂ (λ (a b : ℤ). a +ℤ b) e (f ∙ ap₂ (λ (a b : ℤ). a *ℤ b) g h))
+
+pub loop-tap-preserved : goal.loop-tap-preserved
+loop-tap-preserved c =
+    let l = c.loop-tap in
+    let i = l.invariant in
+    let p = c.product-p.result in
+    let e = c.product-p.ensures in
+    let cs = c.args.coefficients.now in
+    let ys = c.args.history.now in
+    let less : l.tap < 180 = omega arith in
+    let f : SFits w32 (get_or cs l.tap (pos 0)) = record { sfits = omega arith } in
+    let g : SFits w32 (get_or ys l.tap (pos 0)) = record { sfits = omega arith } in
+    let hh = to_z w32 l.hh-bits in
+    let hl = to_z w32 l.hl-bits in
+    let lh = to_z w32 l.lh-bits in
+    let ll = to_z w32 l.ll-bits in
+    rw (
+      column-is l.tap less hh p.hh i.2 e.1,
+      column-is l.tap less hl p.hl i.3 e.2,
+      column-is l.tap less lh p.lh i.4 e.3,
+      column-is l.tap less ll p.ll i.5 e.4,
+    ) (
+      omega arith,
+      more cs ys l.tap hh hl lh ll p _ _ i.1 e.0 (to_z-of_z f) (to_z-of_z g),
+      column-more l.tap hh p.hh i.2 e.1,
+      column-more l.tap hl p.hl i.3 e.2,
+      column-more l.tap lh p.lh i.4 e.3,
+      column-more l.tap ll p.ll i.5 e.4,
+    )
+
+pub returns : goal.returns
+returns c =
+    let l = c.loop-tap in
+    let k : l.tap ≡ 180 = omega arith in
+    to_z-of_z {w = w64} (record { sfits = c.joined.type_inv }) ∙ c.joined.ensures ∙ l.invariant.1
+    ∙ ap (λ (n : ℕ). exact_sum n c.args.coefficients.now c.args.history.now) k
