@@ -13,8 +13,9 @@ laws no longer hold: there has to be such an error in that module's file.
 An edit of one definition has no such line. There the error has to stand in a proof.
 
 No error may stand in specs/ or src/: then what was edited is no definition or no program, as where it names what its crate does not. And no
-name may be missing, but for the name of a goal: goals are named after the code, so there a proof of the function itself can ask for one that
-its wrong code does not have.
+name may be missing, but for names that rt makes of the function's own code, of a goal or of a fact that a branch gives: with another condition
+they are others. Where that is all that its proof is refused for, the function is checked alone and without that proof: then the prover searches
+it, and has to find values at which a goal is false.
 
 usage: python3 tests/edits/edits.py [CRATE..]
 """
@@ -73,10 +74,17 @@ def unread(log, crate, functions):
     for path, text in ERROR.findall(log):
         if not path.startswith("proofs/"):
             return f"an error in {path}: {text}"
-        goal = re.search(r"has no `[^`]*` that can be named from here", text) and re.search(r"\.Goals`", text)
-        if NAMELESS.search(text) and not (goal and any(path in files(f) for f in functions)):
+        made = re.search(r"(?:module|record) `Rattle\.\w+\.proofs\.\S+\.(?:Goals|Lts)\b\S*` has no ", text)
+        if NAMELESS.search(text) and not (made and any(path in files(f) for f in functions)):
             return f"a name that is not found, in {path}: {text}"
     return ""
+
+
+def false(log, crate, function):
+    """Whether a search for the function's proof, which it has no more, came to values at which a goal is false."""
+    left = re.search(rf"^fn {crate}::{function}: no proof: .*`search` did not prove (.*)", log, re.M)
+    goals = re.findall(r"^note: src/\S+: .*\(`([^`]+)`\); the facts known there allow values at which this goal is false", log, re.M)
+    return bool(left and set(goals) & set(re.findall(r"`([^`]+)`", left[1])))
 
 
 class Copy:
@@ -93,8 +101,8 @@ class Copy:
             if (crate / "out" / "rlib").is_dir():
                 shutil.copytree(crate / "out" / "rlib", to / "out" / "rlib")
 
-    def check(self, crate, changes, only):
-        """What rt check says of the crate with these pairs, of the functions named, or of all of it."""
+    def check(self, crate, changes, only, bare=False):
+        """What rt check says of the crate with these pairs, of the functions named, or of all of it; bare: without those functions' proofs."""
         folder = self.top / "crates" / crate
         texts = {}
         for _, path, old, new in changes:
@@ -102,22 +110,27 @@ class Copy:
             if text.count(old) != 1:
                 return f"{path} has an old text {text.count(old)} times: {old}\n"
             texts[path] = text.replace(old, new)
+        away = [folder / path for f in only for path in files(f) if bare and (folder / path).exists()]
         try:
             for path, text in texts.items():
                 (folder / path).write_text(text)
+            for path in away:
+                path.rename(f"{path}.away")
             words = ["rt", "check", "--jobs", "1"] + [w for f in only for w in ("--only", f)]
             ran = subprocess.run(words, cwd=folder, stdin=subprocess.DEVNULL, stdout=subprocess.PIPE, stderr=subprocess.STDOUT, errors="replace", timeout=SECONDS)
             return ran.stdout
         except subprocess.TimeoutExpired:
             return f"rt check did not end within {SECONDS} s\n"
         finally:
+            for path in away:
+                pathlib.Path(f"{path}.away").rename(path)
             for path in texts:
                 shutil.copy(ROOT / "crates" / crate / path, folder / path)
 
 
-def tried(copy, edit, name, changes, functions):
+def tried(copy, edit, name, changes, functions, bare=False):
     whole = not functions or any(f.startswith("proofs/") for f in functions)
-    log = copy.check(edit.parts[-3], changes, [] if whole else functions)
+    log = copy.check(edit.parts[-3], changes, [] if whole else functions, bare)
     to = LOGS / edit.parts[-3] / f"{name}.log"
     to.parent.mkdir(parents=True, exist_ok=True)
     to.write_text(log)
@@ -139,13 +152,17 @@ def judge(copy, edit):
         right = facts and not why
         yield f"{'pass' if right else 'FAIL'}: {crate}/{edit.stem}, {facts[0] if facts else 'no error in a proof'}{f' ({why})' if why else ''}"
     for name, function in programs:
-        right = not why and refused(log, crate, function)
+        right, here = not why and refused(log, crate, function), why
+        alone = [change for change in changes if change[0] == (name, function)]
         if not right and len(programs) > 1:
-            alone = [change for change in changes if change[0] == (name, function)]
             own = tried(copy, edit, f"{edit.stem}.{name}", alone, [function])
-            right = refused(own, crate, function) and not unread(own, crate, [function])
-            why = unread(own, crate, [function])
-        said = "" if right else f" is NOT refused in its own proof{f' ({why})' if why else ''}: build/must-fail/{crate} has the logs"
+            here = unread(own, crate, [function])
+            right = not here and refused(own, crate, function)
+        if not right and not here and not function.startswith("proofs/"):
+            own = tried(copy, edit, f"{edit.stem}.{name}.bare", alone, [function], bare=True)
+            here = unread(own, crate, [function])
+            right = not here and false(own, crate, function)
+        said = "" if right else f" is NOT refused in its own proof{f' ({here})' if here else ''}: build/must-fail/{crate} has the logs"
         yield f"{'pass' if right else 'FAIL'}: {crate}/{name}, {function}{said}"
 
 
