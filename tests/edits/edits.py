@@ -14,8 +14,9 @@ An edit of one definition has no such line. There the error has to stand in a pr
 
 No error may stand in specs/ or src/: then what was edited is no definition or no program, as where it names what its crate does not. And no
 name may be missing, but for names that rt makes of the function's own code, of a goal or of a fact that a branch gives: with another condition
-they are others. Where that is all that its proof is refused for, the function is checked alone and without that proof: then the prover searches
-it, and has to find values at which a goal is false.
+they are others. Where that is all that its proof is refused for, the function is checked alone, its proof with the names that the wrong code
+has: then a fact has to fail in it. Or it is checked without its answers: then the prover searches them, and has to find values at which a goal
+is false.
 
 usage: python3 tests/edits/edits.py [CRATE..]
 """
@@ -87,6 +88,15 @@ def false(log, crate, function):
     return bool(left and set(goals) & set(re.findall(r"`([^`]+)`", left[1])))
 
 
+def renamed(log, function):
+    """The names that rt made of the right code in this function's proof and that the wrong code has not, each with the one that it has."""
+    found = {}
+    for path, text in ERROR.findall(log):
+        if path in files(function) and (m := re.search(r"has no field `if-(\S+)` \(nearest: \.if-([^\s,)]+)", text)):
+            found[m[1]] = m[2]
+    return found
+
+
 class Copy:
     """A copy of the tree, with the libraries that rt built."""
 
@@ -101,8 +111,9 @@ class Copy:
             if (crate / "out" / "rlib").is_dir():
                 shutil.copytree(crate / "out" / "rlib", to / "out" / "rlib")
 
-    def check(self, crate, changes, only, bare=False):
-        """What rt check says of the crate with these pairs, of the functions named, or of all of it; bare: without those functions' proofs."""
+    def check(self, crate, changes, only, bare=False, names=None):
+        """What rt check says of the crate with these pairs, of the functions named, or of all of it; bare: without those functions' answers;
+        names: with other names in their proofs."""
         folder = self.top / "crates" / crate
         texts = {}
         for _, path, old, new in changes:
@@ -110,7 +121,9 @@ class Copy:
             if text.count(old) != 1:
                 return f"{path} has an old text {text.count(old)} times: {old}\n"
             texts[path] = text.replace(old, new)
-        away = [folder / path for f in only for path in files(f) if bare and (folder / path).exists()]
+        away = [folder / path for f in only for path in files(f) if bare and "Invariants" not in path and (folder / path).exists()]
+        for path in [path for f in only for path in files(f) if names and (folder / path).exists()]:
+            texts[path] = re.sub("|".join(map(re.escape, sorted(names, key=len, reverse=True))), lambda m: names[m[0]], texts.get(path) or (folder / path).read_text())
         try:
             for path, text in texts.items():
                 (folder / path).write_text(text)
@@ -128,9 +141,9 @@ class Copy:
                 shutil.copy(ROOT / "crates" / crate / path, folder / path)
 
 
-def tried(copy, edit, name, changes, functions, bare=False):
+def tried(copy, edit, name, changes, functions, **how):
     whole = not functions or any(f.startswith("proofs/") for f in functions)
-    log = copy.check(edit.parts[-3], changes, [] if whole else functions, bare)
+    log = copy.check(edit.parts[-3], changes, [] if whole else functions, **how)
     to = LOGS / edit.parts[-3] / f"{name}.log"
     to.parent.mkdir(parents=True, exist_ok=True)
     to.write_text(log)
@@ -156,6 +169,10 @@ def judge(copy, edit):
         alone = [change for change in changes if change[0] == (name, function)]
         if not right and len(programs) > 1:
             own = tried(copy, edit, f"{edit.stem}.{name}", alone, [function])
+            here = unread(own, crate, [function])
+            right = not here and refused(own, crate, function)
+        if not right and not here and (names := renamed(own if len(programs) > 1 else log, function)):
+            own = tried(copy, edit, f"{edit.stem}.{name}.renamed", alone, [function], names=names)
             here = unread(own, crate, [function])
             right = not here and refused(own, crate, function)
         if not right and not here and not function.startswith("proofs/"):
