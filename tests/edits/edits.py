@@ -97,6 +97,14 @@ def renamed(log, function):
     return found
 
 
+def linked(one, other):
+    """A second name for a file, where that can be had: rt writes into no file of a library, it makes a new one."""
+    try:
+        os.link(one, other)
+    except OSError:
+        shutil.copy2(one, other)
+
+
 class Copy:
     """A copy of the tree, with the libraries that rt built."""
 
@@ -109,7 +117,7 @@ class Copy:
                 if (crate / part).is_dir():
                     shutil.copytree(crate / part, to / part)
             if (crate / "out" / "rlib").is_dir():
-                shutil.copytree(crate / "out" / "rlib", to / "out" / "rlib")
+                shutil.copytree(crate / "out" / "rlib", to / "out" / "rlib", copy_function=linked)
 
     def check(self, crate, changes, only, bare=False, names=None):
         """What rt check says of the crate with these pairs, of the functions named, or of all of it; bare: without those functions' answers;
