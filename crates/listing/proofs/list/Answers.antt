@@ -10,7 +10,7 @@ use Rattle.listing.proofs.list.Goals as goal
 pub returns-then-found-ne-DONE : goal.returns-then-found-ne-DONE
 returns-then-found-ne-DONE c =
     told (listing c.args.frame.now) c.args.room.now _ _
-    (put_as c.Put-refused.ensures
+    (put_as c.put_refused.ensures
     (refused-text c.args.frame.now _ _ _ (record { coefficients = refl; vendor = refl; reserved = refl }) c.read-found.result c.read-found.new.coefficients c.read-found.new.vendor c.read-found.new.reserved c.read-found.ensures
     c.if-found-ne-DONE.true))
 
