@@ -1,12 +1,12 @@
 -- `eocreader::judge` meets its contract.
 use mathlib.Core.Path.{◌≡◌, sym, ap, ◌∙◌}
-use mathlib.Core.Bool.{Bool, true, false}
+use mathlib.Core.Bool.{Bool, false}
 use mathlib.Core.List.{List}
 use Prim.Native.Nat.{ℕ, ◌≤◌, ◌-◌, min}
 use native.Mathlib.Omega.{arith}
 use lib.ListN.{length, take}
 use Rattle.octets.specs.Bits.{part}
-use Rattle.eoc.specs.Reading.{between, is_between_flags, other_escape, unescaped, fields_in}
+use Rattle.eoc.specs.Reading.{between, other_escape, unescaped, fields_in}
 use Rattle.eoc.proofs.RoundTrip.{framed-tests}
 use Rattle.eocreader.proofs.Judging.{between_is}
 use Rattle.eocreader.proofs.Promise.{no_frame, other, too_short, too_long, unchecked, all_right}

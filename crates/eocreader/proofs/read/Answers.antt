@@ -1,8 +1,7 @@
 -- `eocreader::read` meets its contract.
-use mathlib.Core.Path.{◌≡◌, sym, ◌∙◌, subst₂}
+use mathlib.Core.Path.{sym, ◌∙◌, subst₂}
 use Prim.Native.Nat.{ℕ, ◌-◌, ◌/◌, ◌%◌}
 use native.Mathlib.Omega.{arith}
-use lib.ListN.{length}
 use Rattle.eocreader.specs.Promises.{MessageRead}
 use Rattle.eocreader.proofs.Promise.{refused-read, wrong-room, right-room, done-read}
 use Rattle.eocreader.proofs.read.Goals as goal

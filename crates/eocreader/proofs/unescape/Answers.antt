@@ -1,7 +1,7 @@
 -- `eocreader::unescape` meets its contract.
 use mathlib.Core.Path.{refl, sym, ◌∙◌, subst, subst₂}
 use mathlib.Core.List.{List}
-use Prim.Native.Nat.{ℕ, ◌+◌, ◌-◌, ◌≤◌, ◌<◌}
+use Prim.Native.Nat.{ℕ, ◌+◌, ◌≤◌, ◌<◌}
 use native.Mathlib.Omega.{arith}
 use lib.Dec.{lit≤}
 use Rattle.eocreader.proofs.Laws.{Unescaping, plain-next, escape-next, too_many, all-put}
@@ -61,17 +61,17 @@ on c =
     let less : l.at < 77 = omega (arith, l.invariant.2.within, c.if-at-eq-FIELDS.false) in
     elim c.if-octet-eq-ESCAPE.branch [
       | then-octet-eq-ESCAPE w ↦
-        let n = escape-next a.s.now a.end l.fields l.at l.k w.meant.result (omega arith) c.requires.1 less w.if-octet-eq-ESCAPE.true w.meant.ensures l.invariant.2 in (
-          omega (arith, w.k-is),
-          omega (arith, w.k-is, n.0),
-          subst₂ (λ (f : List ℕ) (k : ℕ). Unescaping a.s.now a.end f (l.at + 1) k) (sym w.fields-is) (sym w.k-is) n.1,
-        )
+          let n = escape-next a.s.now a.end l.fields l.at l.k w.meant.result (omega arith) c.requires.1 less w.if-octet-eq-ESCAPE.true w.meant.ensures l.invariant.2 in (
+            omega (arith, w.k-is),
+            omega (arith, w.k-is, n.0),
+            subst₂ (λ (f : List ℕ) (k : ℕ). Unescaping a.s.now a.end f (l.at + 1) k) (sym w.fields-is) (sym w.k-is) n.1,
+          )
       | else-octet-eq-ESCAPE w ↦
-        let n = plain-next a.s.now a.end l.fields l.at l.k (omega arith) c.requires.1 less w.if-octet-eq-ESCAPE.false l.invariant.2 in (
-          omega (arith, w.k-is),
-          omega (arith, w.k-is),
-          subst₂ (λ (f : List ℕ) (k : ℕ). Unescaping a.s.now a.end f (l.at + 1) k) (sym w.fields-is) (sym w.k-is) n,
-        )
+          let n = plain-next a.s.now a.end l.fields l.at l.k (omega arith) c.requires.1 less w.if-octet-eq-ESCAPE.false l.invariant.2 in (
+            omega (arith, w.k-is),
+            omega (arith, w.k-is),
+            subst₂ (λ (f : List ℕ) (k : ℕ). Unescaping a.s.now a.end f (l.at + 1) k) (sym w.fields-is) (sym w.k-is) n,
+          )
     ]
 
 pub loop-k-smaller : goal.loop-k-smaller
