@@ -1,5 +1,6 @@
 // The totals of sorted cards: their text, of a list with each card's verdict (specs/Totals.antt).
 #![tactic(auto)]
+
 ghost use Rattle.std.specs.Prelude.{◌≡◌, cond, ◌++◌, eqb};
 ghost use Rattle.ascii.specs.Text.{decimal};
 ghost use Rattle.forms.specs.Forms.{row_of};
