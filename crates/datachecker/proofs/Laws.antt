@@ -1,9 +1,8 @@
 -- Laws of checking a data-mode frame: what the bits at their places say of stuffing and of the room behind the frame. Assumes nothing.
-use mathlib.Core.Path.{◌≡◌, refl, sym, ap, ap₂, ◌∙◌, subst}
-use mathlib.Core.Bool.{Bool, true, false, cond, ◌&&◌}
-use mathlib.Core.Logic.{◌⊎◌, inl, inr}
+use mathlib.Core.Path.{◌≡◌, sym, ap, ap₂, ◌∙◌}
+use mathlib.Core.Bool.{Bool, true, false, ◌&&◌}
 use mathlib.Core.List.{List, [], ◌∷◌, ◌++◌}
-use Prim.Native.Nat.{ℕ, zero, suc, ◌+◌, ◌-◌, ◌*◌, ◌^◌, ◌≤◌, ◌<◌, min}
+use Prim.Native.Nat.{ℕ, zero, suc, ◌+◌, ◌-◌, ◌*◌, ◌^◌, ◌≤◌, ◌<◌}
 use native.Mathlib.Omega.{arith}
 use borrow.Author.Tests.{eq-eqb, ne_eqb}
 use lib.Dec.{eqb}
@@ -13,7 +12,7 @@ use Rattle.octets.specs.Bits.{value_of, bits_of, part}
 use Rattle.octets.proofs.Digits.{no_value}
 use Rattle.octets.proofs.Laws.{bits-length}
 use Rattle.places.specs.Streams.{stream_in}
-use Rattle.dataframe.specs.Table.{stuffing, unused, end_width, line_bits, room_of, table}
+use Rattle.dataframe.specs.Table.{stuffing, unused, line_bits, room_of, table}
 use Rattle.dataframe.specs.Frame.{sbid1, sbid2, stuffed_in, behind}
 use Rattle.dataframe.specs.Refusals.{stuffing_right}
 use Rattle.dataframe.proofs.Rows.{sbid-is, no-sbid, stuffing-is, no-stuffing, unused-is}

@@ -1,24 +1,22 @@
 -- What `judge` finds is its promise. Assumes nothing.
 use mathlib.Core.Path.{◌≡◌, refl, sym, ap, ap₂, ◌∙◌, subst}
 use mathlib.Core.Bool.{Bool, true, false, cond, not}
-use mathlib.Core.List.{List, [], ◌∷◌, ◌++◌}
-use Prim.Native.Nat.{ℕ, zero, suc, ◌+◌, ◌*◌, ◌^◌, ◌≤◌}
+use mathlib.Core.List.{List}
+use Prim.Native.Nat.{ℕ, zero, suc, ◌^◌, ◌≤◌}
 use native.Mathlib.Omega.{arith}
 use borrow.Author.Tests.{eqb-true, eqb-false, not-false, not-true}
 use lib.Dec.{eqb, leb}
 use lib.ListN.{length}
-use Rattle.answer.specs.Answer.{Refusal, answer, refuse}
-use Rattle.answer.proofs.Laws.{none, stopped}
+use Rattle.answer.specs.Answer.{Refusal, answer}
+use Rattle.answer.proofs.Laws.{stopped}
 use Rattle.octets.specs.Bits.{value_of, bits_of}
-use Rattle.remainder.specs.Division.{polynomial}
-use Rattle.dataframe.specs.Table.{crc, sync, unused, is_size}
+use Rattle.dataframe.specs.Table.{sync, unused, is_size}
 use Rattle.dataframe.specs.Frame.{carried, stuffed_in, behind, due_of, Due}
-use Rattle.dataframe.specs.Refusals.{is_room, crc_refusals, stuffing_right, bit_refusals, frame_refusals, check_refusals}
-use Rattle.dataframe.proofs.Refused.{Fit, fit, behind-is}
+use Rattle.dataframe.specs.Refusals.{is_room, crc_refusals, stuffing_right, frame_refusals, check_refusals}
+use Rattle.dataframe.proofs.Refused.{fit, behind-is}
 use Rattle.datacrc.specs.declared.Sixes.{Sixes}
 use Rattle.datacrc.specs.Promises.{crc_of, CrcGiven}
 use Rattle.datacrc.proofs.Laws.{due-computed}
-use Rattle.datachecker.specs.declared.Verdict.{Verdict}
 use Rattle.datachecker.specs.Promises.{DataChecked, verdict_of, VerdictGiven}
 
 -- what room, form and size answer is not 7

@@ -1,18 +1,17 @@
 -- Laws of reading a data-mode frame. Assumes nothing.
-use mathlib.Core.Path.{◌≡◌, refl, sym, ap, ap₂, ◌∙◌, subst}
-use mathlib.Core.Bool.{Bool, true, false, cond}
-use mathlib.Core.List.{List, [], ◌∷◌, ◌++◌}
-use Prim.Native.Nat.{ℕ, zero, suc, ◌+◌, ◌*◌, ◌^◌, ◌≤◌, ◌<◌}
+use mathlib.Core.Path.{◌≡◌, sym, ap, ap₂, ◌∙◌}
+use mathlib.Core.List.{List, ◌++◌}
+use Prim.Native.Nat.{ℕ, zero, suc, ◌+◌, ◌*◌, ◌^◌, ◌≤◌}
 use native.Mathlib.Nat.{add_comm, mul_comm}
 use native.Mathlib.Omega.{arith}
-use lib.ListN.{length, take, drop, length-append, length-drop}
+use lib.ListN.{length, drop, length-append, length-drop}
 use lib.Seq.{length-take-le}
 use Rattle.octets.specs.Bits.{value_of, bits_of, octets_of, part, laid}
 use Rattle.octets.proofs.Digits.{Bits, value-append}
 use Rattle.octets.proofs.Laws.{bits-length, bits-part, laid_next, laid_end}
 use Rattle.remainder.specs.Division.{polynomial}
 use Rattle.dataframe.specs.declared.Overhead.{Overhead}
-use Rattle.dataframe.specs.Table.{indicators, eoc, spare, payload, crc, room_of}
+use Rattle.dataframe.specs.Table.{indicators, eoc, spare, crc, room_of}
 use Rattle.dataframe.specs.Frame.{carried, stuffed_in, overhead_in, payload_in}
 use Rattle.dataframe.proofs.Rows.{indicators-are, eoc-is, spare-is, no-spare, payload-is}
 use Rattle.datareader.specs.Reading.{spare_bits}

@@ -1,11 +1,10 @@
 -- What `read` gives and leaves is its promise. Assumes nothing.
-use mathlib.Core.Path.{◌≡◌, refl, sym, ap, ap₂, ◌∙◌, subst}
-use mathlib.Core.Bool.{Bool, true, false, not}
-use mathlib.Core.List.{List, ◌∷◌}
-use Prim.Native.Nat.{ℕ, zero, suc, ◌*◌, ◌≤◌}
+use mathlib.Core.Path.{◌≡◌, refl, sym, ap, ◌∙◌, subst}
+use mathlib.Core.Bool.{not}
+use mathlib.Core.List.{List}
+use Prim.Native.Nat.{ℕ, zero, suc, ◌*◌}
 use native.Mathlib.Omega.{arith}
 use borrow.Author.Tests.{eq-eqb, ne_eqb}
-use lib.Dec.{eqb}
 use lib.ListN.{length}
 use Rattle.answer.specs.Answer.{Refusal, answer, held}
 use Rattle.answer.proofs.Laws.{refused, passed}
@@ -17,7 +16,7 @@ use Rattle.dataframe.specs.Frame.{carried, stuffed_in, overhead_in, payload_in, 
 use Rattle.dataframe.specs.Refusals.{crc_refusals, frame_refusals, check_refusals, read_refusals}
 use Rattle.dataframe.proofs.Refused.{Fit, fit}
 use Rattle.datachecker.specs.declared.Verdict.{Verdict}
-use Rattle.datachecker.specs.Promises.{DataChecked, verdict_of, VerdictGiven}
+use Rattle.datachecker.specs.Promises.{verdict_of, VerdictGiven}
 use Rattle.datareader.specs.declared.Found.{Found}
 use Rattle.datareader.specs.Promises.{no_overhead, found_of, DataRead}
 

@@ -1,5 +1,6 @@
 // Reading a data-mode frame (002, clause 7.1.5, table 7.2). Places count from 0, and a block has m or n = 12k bits: place 2m + 26 is bit 24k + 27.
 #![tactic(auto)]
+
 ghost use Rattle.std.specs.Prelude.{◌≡◌, ◌++◌, ◌+◌, ◌*◌, ◌<◌, ◌≤◌, length};
 ghost use Rattle.octets.specs.Bits.{value_of, bits_of, octets_of, part};
 ghost use Rattle.dataframe.specs.Table.{room_of};

@@ -9,7 +9,7 @@ use lib.Dec.{lit≤}
 use lib.ListN.{length, take, drop, replicate, length-replicate}
 use lib.Seq.{drop-drop, take_all}
 use Rattle.octets.specs.Bits.{digits_of, bits_of, octets_of, part}
-use Rattle.octets.proofs.Digits.{digits-take, digits-length}
+use Rattle.octets.proofs.Digits.{digits-take}
 use Rattle.octets.proofs.Words.{digits-drop}
 use Rattle.remainder.specs.Division.{check_bits}
 use Rattle.dataframe.specs.declared.Overhead.{Overhead}

@@ -2,8 +2,8 @@
 use mathlib.Core.Path.{◌≡◌, refl, sym, ap, ap₂, ◌∙◌, subst}
 use mathlib.Core.Bool.{Bool, true, false, cond, ◌&&◌, ◌||◌}
 use mathlib.Core.Logic.{◌⊎◌, inl, inr}
-use mathlib.Core.List.{List, [], ◌∷◌, ◌++◌, append_assoc, append-nil, reverse}
-use Prim.Native.Nat.{ℕ, zero, suc, ◌+◌, ◌-◌, ◌*◌, ◌/◌, ◌%◌, ◌^◌, ◌≤◌, ◌<◌, min}
+use mathlib.Core.List.{List, ◌++◌, reverse}
+use Prim.Native.Nat.{ℕ, ◌+◌, ◌-◌, ◌*◌, ◌/◌, ◌%◌, ◌^◌, ◌≤◌, ◌<◌, min}
 use native.Mathlib.Nat.{mod-lt, mul_comm, add_comm, div-one}
 use native.Mathlib.Omega.{arith}
 use borrow.Author.Tests.{eq-eqb, ne_eqb, eqb-true}
@@ -11,7 +11,7 @@ use lib.Dec.{eqb, lit≤}
 use lib.ListN.{length, take, drop, replicate, length-append, length-drop, length-replicate}
 use lib.Seq.{length-take-le}
 use Rattle.octets.specs.Bits.{digits_of, value_of, bits_of, octets_of, part, laid}
-use Rattle.octets.proofs.Digits.{Bits, append_bits, zeros-bits, digits-bits, digits-length, digits-take, digits-mod-pow}
+use Rattle.octets.proofs.Digits.{Bits, append_bits, digits-bits, digits-length, digits-take, digits-mod-pow}
 use Rattle.octets.proofs.Laws.{bits-length, bits-part, laid_next, laid_end}
 use Rattle.octets.proofs.Turn.{turn-digits}
 use Rattle.octets.proofs.Words.{digits-drop, digits-join}

@@ -1,23 +1,22 @@
 -- What `write` answers and leaves is its promise. Assumes nothing.
-use mathlib.Core.Path.{◌≡◌, refl, sym, ap, ap₂, ◌∙◌, subst}
-use mathlib.Core.Bool.{Bool, true, false, not, ◌&&◌}
-use mathlib.Core.List.{List, ◌∷◌, ◌++◌}
+use mathlib.Core.Path.{◌≡◌, refl, sym, ap, ◌∙◌, subst}
+use mathlib.Core.Bool.{true, not, ◌&&◌}
+use mathlib.Core.List.{List, ◌++◌}
 use Prim.Native.Nat.{ℕ, zero, suc, ◌*◌, ◌^◌, ◌≤◌}
 use borrow.Author.Tests.{eq-eqb, ne_eqb, not-false}
 use lib.Dec.{eqb, leb}
 use lib.ListN.{length, drop}
 use Rattle.octets.proofs.Laws.{octets-length}
-use Rattle.answer.specs.Answer.{Refusal, answer, held, refuse}
-use Rattle.answer.proofs.Laws.{none, refused, passed, stopped, given}
+use Rattle.answer.specs.Answer.{Refusal, answer, held}
+use Rattle.answer.proofs.Laws.{none, refused, passed, stopped}
 use Rattle.octets.specs.Bits.{bits_of}
 use Rattle.dataframe.specs.declared.Overhead.{Overhead}
 use Rattle.dataframe.specs.Table.{room_of}
-use Rattle.dataframe.specs.Frame.{data_bits, data_octets, due_of, Due}
-use Rattle.dataframe.specs.Refusals.{is_stuffing, crc_refusals, value_refusals, end_refusals, write_refusals}
+use Rattle.dataframe.specs.Frame.{data_bits, data_octets, due_of}
+use Rattle.dataframe.specs.Refusals.{is_stuffing, crc_refusals, value_refusals, write_refusals}
 use Rattle.dataframe.proofs.Refused.{Fit, fit, fits, behind-is}
 use Rattle.datacrc.specs.declared.Sixes.{Sixes}
 use Rattle.datacrc.specs.Promises.{crc_of, CrcGiven}
-use Rattle.datawriter.specs.declared.Written.{Written}
 use Rattle.datawriter.specs.Promises.{written_of, DataWritten}
 
 -- numbers that are not refused have stuffing of their form

@@ -1,6 +1,6 @@
 -- `datachecker::announced` meets its contract.
 use mathlib.Core.Path.{◌≡◌, refl, sym, ap, subst, ◌∙◌}
-use Prim.Native.Nat.{ℕ, ◌*◌, ◌≤◌}
+use Prim.Native.Nat.{ℕ, ◌*◌}
 use lib.ListN.{length}
 use Rattle.dataframe.specs.Table.{room_of}
 use native.Mathlib.Omega.{arith}

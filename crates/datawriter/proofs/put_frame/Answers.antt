@@ -27,11 +27,14 @@ overflow_sub-rest c = (fit c).2
 
 pub put-requires : goal.put-requires
 put-requires c =
-    let h = fit c.before.before in
-    (omega (arith, c.requires.1), omega (arith, c.requires.3), omega (arith, h.1, c.rows_of_lem.ensures.ends_is), omega (arith, h.2, c.rows_of_lem.ensures.ends_is))
+    let a = c.args in
+    let h =
+    ends-fit a.form a.size a.overhead.stuffing c.marks_of-marks.result.ends a.frame.now c.requires.0 c.requires.1 c.requires.2
+    c.marks_of-marks.ensures.ends_is c.requires.4 in
+    (omega (arith, c.requires.1), omega (arith, c.requires.3), omega (arith, h.1, c.rows_of.ensures.ends_is), omega (arith, h.2, c.rows_of.ensures.ends_is))
 
 pub returns : goal.returns
 returns c =
     let a = c.args in
-    put-frame-is a.form a.size a.sync a.overhead a.payload.now a.frame.now c.put.new.frame c.marks_of-marks.result c.rows_of_lem.result
-    c.requires.0 c.requires.4 c.marks_of-marks.ensures c.rows_of_lem.ensures c.put.ensures
+    put-frame-is a.form a.size a.sync a.overhead a.payload.now a.frame.now c.put.new.frame c.marks_of-marks.result c.rows_of.result
+    c.requires.0 c.requires.4 c.marks_of-marks.ensures c.rows_of.ensures c.put.ensures

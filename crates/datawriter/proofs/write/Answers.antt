@@ -31,19 +31,22 @@ wrong-bad-requires c = let a = c.args in (fit a.form a.size a.frame.now (right c
 pub returns-then-bad-ne-DONE : goal.returns-then-bad-ne-DONE
 returns-then-bad-ne-DONE c =
     let a = c.args in
+    let y = sym c.refusal-no.ensures ∙ c.if-no-ne-DONE.false in
     not_written a.form a.size a.sync a.overhead a.payload.now a.frame.now c.wrong-bad.result
-    (value-answered a.form a.size a.sync a.overhead a.payload.now a.frame.now c.wrong-bad.result c.if-payload-size.false (right c.before) c.wrong-bad.ensures)
+    (value-answered a.form a.size a.sync a.overhead a.payload.now a.frame.now c.wrong-bad.result c.if-payload-size.false y c.wrong-bad.ensures)
     c.if-bad-ne-DONE.true
 
 pub put_frame-requires : goal.put_frame-requires
 put_frame-requires c =
     let a = c.args in
-    let f = fit a.form a.size a.frame.now (right c.before) in
+    let y = sym c.refusal-no.ensures ∙ c.if-no-ne-DONE.false in
+    let f = fit a.form a.size a.frame.now y in
     (f.known, f.most, stuffing-right a.form a.sync a.overhead (sym c.wrong-bad.ensures ∙ c.if-bad-ne-DONE.false), c.if-payload-size.false, f.room)
 
 pub returns : goal.returns
 returns c =
     let a = c.args in
-    let z = value-answered a.form a.size a.sync a.overhead a.payload.now a.frame.now 0 c.if-payload-size.false (right c.before) (sym c.if-bad-ne-DONE.false ∙ c.wrong-bad.ensures) in
-    was-written a.form a.size a.sync a.overhead a.payload.now a.frame.now c.put_frame.new.frame c.crc-six.result (right c.before) z
+    let y = sym c.refusal-no.ensures ∙ c.if-no-ne-DONE.false in
+    let z = value-answered a.form a.size a.sync a.overhead a.payload.now a.frame.now 0 c.if-payload-size.false y (sym c.if-bad-ne-DONE.false ∙ c.wrong-bad.ensures) in
+    was-written a.form a.size a.sync a.overhead a.payload.now a.frame.now c.put_frame.new.frame c.crc-six.result y z
     c.put_frame.ensures c.crc-six.ensures
