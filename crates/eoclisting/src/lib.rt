@@ -1,5 +1,6 @@
 // The text of operations channel messages for the bench: a line for each (specs/Line.antt), put into a lent room.
 #![tactic(auto)]
+
 ghost use Rattle.std.specs.Prelude.{◌≡◌, ◌++◌, ◌-◌, ◌≤◌, ◌<◌, length};
 ghost use Rattle.octets.specs.Bits.{part};
 ghost use Rattle.forms.specs.Forms.{row_of};
