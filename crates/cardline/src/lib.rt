@@ -1,5 +1,6 @@
 // Sorting cards: the text of a card's line (specs/Line.antt), by what its frame is found to be (crate card).
 #![tactic(auto)]
+
 ghost use Rattle.std.specs.Prelude.{◌≡◌, cond, eqb};
 ghost use Rattle.ascii.specs.Promises.{Put};
 ghost use Rattle.card.specs.Ranks.{final_frame, good};
