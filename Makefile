@@ -10,7 +10,7 @@
 # make help                 prints this
 # A program in build/ is run as './run NAME ARGS..', on any processor.
 .PHONY: all test first pair bench house install uninstall clean help
-.NOTPARALLEL: # two runs of rt at a time can take each other's crates for refused; rt itself uses every processor
+.NOTPARALLEL: # one run of rt after the other; rt itself uses more than one processor
 
 VERSION = 0.6.1
 PROGRAMS = lister messages replay sorter
@@ -30,7 +30,7 @@ endif
 CFLAGS = -O2
 STRICT = -std=c11 -Wall -Wextra -Werror
 
-SOURCES = crates.txt tools/build tools/turns $(shell find crates -name '*.rt' -o -name '*.antt')
+SOURCES = crates.txt tools/build tools/turns $(shell find crates -name out -prune -o \( -name '*.rt' -o -name '*.antt' \) -print)
 BUILT = build/libsdsl.a $(PROGRAMS:%=build/%)
 
 all: $(BUILT)
@@ -53,8 +53,8 @@ build/pair: $(wildcard $(PAIR)/*.c $(PAIR)/*.h) include/sdsl.h build/libsdsl.a
 # Crate checktrial, for tests and the benchmark: check bits and check sequence alone, which sdsl.h does not have.
 build/libchecktrial.a: $(SOURCES)
 	@mkdir -p build
-	@sh tools/turns rt staticlib checktrial > build/checktrial.log 2>&1 || { cat build/checktrial.log >&2; exit 1; }
-	@cp target/staticlib/libchecktrial.a $@
+	@cd crates/checktrial && sh ../../tools/turns rt lib > ../../build/checktrial.log 2>&1 || { cat ../../build/checktrial.log >&2; exit 1; }
+	@cp crates/checktrial/out/libchecktrial.a $@
 
 bench: build/bench
 	bash bench/run
@@ -93,7 +93,7 @@ uninstall:
 	@rmdir $(DESTDIR)$(libexecdir)/sdsl 2> /dev/null || true
 
 clean:
-	rm -rf build target
+	rm -rf build crates/*/out
 
 help:
 	@sed -n 's/^# \(make .*\)/\1/p' Makefile

@@ -16,6 +16,7 @@ def read(path):
             groups.append((line[2:].strip(), []))
         elif ":" in line and not line.startswith("#"):
             name, named = line.split(":")
+            name = name.split()[0]  # without staticlib
             groups[-1][1].append(name)
             uses[name] = named.split()
     return groups, {name: [used for used in named if used in uses] for name, named in uses.items()}

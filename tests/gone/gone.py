@@ -12,11 +12,11 @@ import subprocess
 import sys
 
 ROOT = pathlib.Path(__file__).resolve().parents[2]
-SKIPPED = {".git", "build", "target"}
+SKIPPED = {".git", "build"}
 
 # The functions' names, in C and in Rattle, and the crate's; `descramble_frame` stays, and so do the crates datawriter and eocwriter.
 OLD_FUNCTION = re.compile(r"frame_write|(?<!de)scramble_frame")
-OLD_NAME = re.compile(OLD_FUNCTION.pattern + r"|(?<!\w)writer::|Rattle·writer\b|crates/writer\b|(?<!\w)writer/(?:src|specs|proofs|must-fail)\b")
+OLD_NAME = re.compile(OLD_FUNCTION.pattern + r"|(?<!\w)writer::|Rattle[.·]writer\b|crates/writer\b|(?<!\w)writer/(?:src|specs|proofs|must-fail)\b")
 # Where they may stand: what changed and when, this test, and one line for those who have to change a host.
 HISTORY = re.compile(r"CHANGELOG\.md|docs/landings/\w+\.md|tests/gone/\w+(\.py)?")
 FOR_HOSTS = "What was `sdsl_frame_write` and `sdsl_scramble_frame` is `sdsl_frame_send`."
@@ -29,17 +29,17 @@ IN_C = {
 WRITE_A_FRAME_IN_C = {"sdsl_frame_send", "sdsl_receive", "sdsl_data_write"}
 # And the same of the crates.
 WRITE = {"datawriter::write", "eocwriter::write"}
-WRITE_A_FRAME = {"sender::send", "receiver::receive", "datawriter::write"} | {f"host::{name}" for name in WRITE_A_FRAME_IN_C}
-SEND = {"sender::send", "host::sdsl_frame_send"}
+WRITE_A_FRAME = {"sender::send", "receiver::receive", "datawriter::write"} | {f"{crate}::{name}" for crate in ("host", "host_c") for name in WRITE_A_FRAME_IN_C}
+SEND = {"sender::send", "host::sdsl_frame_send", "host_c::sdsl_frame_send"}
 FIELDS = {"kind", "count", "coefficients", "vendor"}
 SCRAMBLE = {"scrambler::scramble_run", "scrambler::descramble_run", "scrambler::descramble_frame"}
-THROUGH = {"scrambler::descramble_frame", "host::sdsl_descramble_frame"}
+THROUGH = {"scrambler::descramble_frame", "host::sdsl_descramble_frame", "host_c::sdsl_descramble_frame"}
 
 
 def tree():
     """Every file of the tree, by its path from the top, as text."""
     tops = [top for top in ROOT.iterdir() if top.name not in SKIPPED]
-    files = [file for top in tops for file in ([top] if top.is_file() else top.rglob("*")) if file.is_file() and "__pycache__" not in file.parts]
+    files = [file for top in tops for file in ([top] if top.is_file() else top.rglob("*")) if file.is_file() and not {"__pycache__", "out"} & set(file.parts)]
     return {str(file.relative_to(ROOT)): file.read_text(encoding="utf-8", errors="replace") for file in sorted(files)}
 
 
@@ -106,7 +106,7 @@ def header_wrong(files, archive):
 
 
 def crate_wrong(files, archive):
-    listed = re.findall(r"^(\w+):(.*)$", files["crates.txt"], re.M)
+    listed = re.findall(r"^(\w+)(?: staticlib)?:(.*)$", files["crates.txt"], re.M)
     wrong = ["there is a folder crates/writer"] * any(path.startswith("crates/writer/") for path in files)
     return wrong + [f"crates.txt: {name} names writer" for name, used in listed if "writer" in [name, *used.split()]]
 
@@ -207,19 +207,21 @@ PLANTED = [
     (header_wrong, "include/sdsl.h", "uint32_t sdsl_make(uint32_t kind, uint8_t *frame, size_t frame_len);"),
     (crate_wrong, "crates.txt", "writer: answer"),
     (crate_wrong, "crates.txt", "other: datawriter writer"),
+    (crate_wrong, "crates.txt", "other staticlib: writer"),
     (crate_wrong, "crates/writer/src/lib.rt", "fn write()"),
     (sender_wrong, "crates/sender/src/more.rt", "pub fn put_training(frame: &mut [u8])"),
     (writer_wrong, "crates/layout/src/lib.rt", "pub fn write(octets: &mut [u8])"),
     (writer_wrong, "crates/reader/src/lib.rt", "    pub fn finish(\n        self,\n        frame: &mut [u8],\n    ) -> u32"),
-    (writer_wrong, "crates/host/src/frames.rt", 'pub extern "C" fn sdsl_make(kind: u32, vendor: &[u8], room: &mut [u8]) -> u32'),
+    (writer_wrong, "crates/host/src/frames.rt", "pub fn sdsl_make(kind: u32, vendor: &[u8], room: &mut [u8]) -> u32"),
+    (writer_wrong, "crates/host_c/src/frames.rt", 'pub extern "C" fn sdsl_make(kind: u32, vendor: &[u8], room: &mut [u8]) -> u32'),
     (writer_wrong, "crates/layout/src/lib.rt", "pub fn made(kind: u32) -> [u8; FRAME_OCTETS]"),
     (scrambler_wrong, "crates/scrambler/src/lib.rt", "pub fn frame(back: bool, input: &[u8], output: &mut [u8]) -> u32"),
-    (scrambler_wrong, "crates/host/src/frames.rt", 'pub extern "C" fn sdsl_line(frame: &[u8], output: &mut [u8]) -> u32'),
+    (scrambler_wrong, "crates/host_c/src/frames.rt", 'pub extern "C" fn sdsl_line(frame: &[u8], output: &mut [u8]) -> u32'),
     (scrambler_wrong, "crates/scrambler/src/lib.rt", "fn scramble_frame()"),
     (names_wrong, "docs/DESIGN.md", "`sdsl_frame_write`"),
     (names_wrong, "man/sdsl.3", ".BR sdsl_scramble_frame ()"),
     (names_wrong, "tests/second/reference.c", "ref_frame_write();"),
-    (names_wrong, "crates/demands/proofs/Exact.antt", "use Rattle·writer.specs.Promises"),
+    (names_wrong, "crates/demands/proofs/Exact.antt", "use Rattle.writer.specs.Promises"),
     (names_wrong, "crates/host/src/lib.rt", "writer::write(0)"),
     (names_wrong, "crates/host/proofs/frames/sdsl_frame_write/Proof.antt", ""),
     (names_wrong, "README.md", "Once it was `sdsl_frame_write`."),
@@ -252,7 +254,7 @@ for text in unseen:
     print("  not seen: " + text)
 print(("FAIL: " if unseen else "pass: ") + f"{len(PLANTED) + len(CHANGED) + 2} errors planted in copies are seen")
 # And what stays is not taken for what went.
-STAYS = "descramble_frame sdsl_descramble_frame datawriter::write eocwriter::write Rattle·datawriter crates/eocwriter a writer, writers"
+STAYS = "descramble_frame sdsl_descramble_frame datawriter::write eocwriter::write Rattle.datawriter crates/eocwriter a writer, writers"
 refused = seen(names_wrong, at_end("docs/DESIGN.md", STAYS), archive)
 print(("FAIL: " if refused else "pass: ") + "names that stay are not taken for one")
 sys.exit(bool(failed or unseen or refused))

@@ -5,8 +5,8 @@ import re
 import sys
 
 ROOT = pathlib.Path(__file__).resolve().parents[2]
-SKIPPED = {".git", "build", "target"}
-files = sorted(f for top in ROOT.iterdir() if top.name not in SKIPPED for f in [top, *top.rglob("*")] if f.is_file())
+SKIPPED = {".git", "build"}
+files = sorted(f for top in ROOT.iterdir() if top.name not in SKIPPED for f in [top, *top.rglob("*")] if f.is_file() and "out" not in f.relative_to(ROOT).parts)
 pages = [f for f in files if f.suffix == ".md"]
 crates = "|".join(sorted(f.name for f in (ROOT / "crates").iterdir()))
 headings = re.findall(r"^## (.*)$", (ROOT / "docs/SCOPE.md").read_text(), re.M)

@@ -106,7 +106,7 @@ def gaps(rows):
     out = []
     for title, column in (("No definition", 1), ("No promise", 2), ("No must-fail edit", 3), ("No test", 4)):
         out.append(f"- {title}: {joined([n for n, cells in rows.items() if not cells[column]]) or 'none'}.")
-    names = [line.split(":")[0] for line in (ROOT / "crates.txt").read_text().splitlines() if re.match(r"\w+:", line)]
+    names = [line.split(":")[0].split()[0] for line in (ROOT / "crates.txt").read_text().splitlines() if re.match(r"\w+( staticlib)?:", line)]
     edits = {n: [programs(f) for f in sorted((CRATES / n / "must-fail").glob("*.edit"))] for n in names}
     count = {n: sum(map(len, e)) for n, e in edits.items()}
     out.append(f"- Wrong programs: {sum(count.values())}, in {sum(map(len, edits.values()))} edits of {sum(map(bool, count.values()))} crates out of {len(names)}. "

@@ -76,9 +76,9 @@ for line in open("crates.txt", encoding="utf-8"):
     if line.startswith("# "):
         heading = line[2:].strip()
     elif ":" in line:
-        wanted[line.split(":")[0]] = heading
+        wanted[line.split(":")[0].split()[0]] = heading
 named = {}
-for group, crates in re.findall(r"^\|([^|]*)\| ([a-z, ]+) \|[^|]*\|$", readme.split("## The crates")[-1].split("\n## ")[0], re.M):
+for group, crates in re.findall(r"^\|([^|]*)\| ([a-z_, ]+) \|[^|]*\|$", readme.split("## The crates")[-1].split("\n## ")[0], re.M):
     heading = group.strip() or heading
     named |= {crate: heading for crate in crates.split(", ")}
 say(named == wanted, "README's map has the crates of crates.txt under the same headings")

@@ -1,12 +1,16 @@
 """docs/RESULTS.md against the sources: every public function has a row, a contract for every input, and a theorem that its result is the only one.
 
-A public function is reached by another crate, or exported and called by a test in C. `results.py --callers` lists by which.
+A public function is reached by another crate, or exported and called by a test in C. `results.py --callers` lists by which. The exports of
+crate host_c are the functions of crate host for C, each with the same contract (tests/contracts): they have no rows of their own. Nor have
+those of crate outside: what it gives comes from the system, and no contract can say what that is. Only programs may use it.
 """
 import pathlib
 import re
 import sys
 
 ROOT = pathlib.Path(__file__).resolve().parents[2]
+EXPORTS = "host_c"
+OUTSIDE = "outside"
 wrong = []
 
 
@@ -14,6 +18,8 @@ def functions():
     """Each public function, as crate::function or crate::Type::function, with its contract."""
     for source in sorted((ROOT / "crates").glob("*/src/**/*.rt")):
         crate = source.relative_to(ROOT / "crates").parts[0]
+        if crate == EXPORTS:
+            continue
         owner = ""
         lines = source.read_text().split("\n")
         for i, line in enumerate(lines):
@@ -46,8 +52,10 @@ def callers(found):
         crate = source.relative_to(ROOT / "crates").parts[0]
         text[crate] = text.get(crate, "") + re.sub(r"^\s*//.*", "", source.read_text(), flags=re.M)
     for line in (ROOT / "crates.txt").read_text().splitlines():
-        if m := re.match(r"(\w+):(.*)", line):
+        if m := re.match(r"(\w+)(?: staticlib)?:(.*)", line):
             named[m[1]] = m[2].split()
+    exported = {name for body in text.values() for name in re.findall(r'pub extern "C" fn (\w+)', body)}
+    text.pop(EXPORTS)  # which calls every function of host
     tests = {}
     for file in sorted((ROOT / "tests").glob("*/*.c")):
         if file.name != "mock.c":  # which stands in for the library
@@ -59,7 +67,7 @@ def callers(found):
         else:
             call = rf"\b{crate}::{function}\(|^use {crate}::{function};"
         yield name, [c for c in text if c != crate and crate in named[c] and re.search(call, text[c], re.M)] + [
-            test for test, body in tests.items() if 'extern "C"' in contract and re.search(rf"\b{function}\b", body)]
+            test for test, body in tests.items() if function in exported and re.search(rf"\b{function}\b", body)]
 
 
 rows = {}
@@ -72,16 +80,21 @@ for line in (ROOT / "docs/RESULTS.md").read_text().split("\n"):
         wrong.append(f"this is no row: {line}")
 
 found = dict(functions())
+for line in (ROOT / "crates.txt").read_text().splitlines():
+    if (m := re.match(r"(\w+)(?: staticlib)?:(.*)", line)) and OUTSIDE in m[2].split() and not (ROOT / "crates" / m[1] / "src/main.rt").exists():
+        wrong.append(f"{m[1]} is no program and uses {OUTSIDE}")
 for name, contract in found.items():
-    if "requires {" in contract:
+    if re.search(r"\brequires\*?\b", contract):
         wrong.append(f"{name} has a requires")
-    if "ensures {" not in contract:
+    if name.startswith(OUTSIDE + "::"):
+        continue
+    if not re.search(r"\bensures\b", contract):
         wrong.append(f"{name} has no ensures")
     if name not in rows:
         wrong.append(f"{name} has no row")
         continue
     predicate, crate, theorem = rows[name]
-    ensures = contract[contract.find("ensures {"):]
+    ensures = contract[contract.find("ensures"):]
     if not re.search(rf"\b{predicate}\b", ensures):
         wrong.append(f"{name}: its ensures does not cite {predicate}")
     said = statement(crate, theorem)
@@ -107,5 +120,5 @@ for w in wrong:
 if wrong or not found:
     print(f"FAIL: docs/RESULTS.md, {len(wrong)} wrong")
     sys.exit(1)
-print(f"pass: one result per call: {len(found)} public functions, each with a contract for every input and its theorem")
+print(f"pass: one result per call: {len(rows)} public functions, each with a contract for every input and its theorem")
 print(f"pass: each is reached by another crate or by a test in C, {sum(map(len, reached.values()))} callers in all (results.py --callers lists them)")

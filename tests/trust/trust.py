@@ -13,7 +13,7 @@ def counted(crate):
     return len(files), sum(1 for line in lines if line and not line.startswith(("--", "use ")))
 
 
-names = [line.split(":")[0] for line in (ROOT / "crates.txt").read_text().splitlines() if ":" in line and not line.startswith("#")]
+names = [line.split(":")[0].split()[0] for line in (ROOT / "crates.txt").read_text().splitlines() if ":" in line and not line.startswith("#")]
 true = {n: counted(n) for n in names if counted(n)[0]}
 said = {m[1]: (int(m[2]), int(m[3])) for m in re.finditer(r"^\| (\w+) \| (\d+) \| (\d+) \|", (ROOT / "docs/TRUST.md").read_text(), re.M)}
 total = sum(n for _, n in true.values())

@@ -1,5 +1,6 @@
 // For tests and the benchmark only: what is compared with numbers from outside and no card's host calls.
 #![tactic(auto)]
+
 ghost use Rattle.std.specs.Prelude.{◌%◌, length};
 ghost use Rattle.answer.specs.Answer.{answer};
 ghost use Rattle.fcs.specs.Promises.{Sequenced};

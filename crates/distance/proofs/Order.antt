@@ -280,6 +280,7 @@ generator-apart = least generator generator-odd reach last_one small
     low m (inr (inr (inl e))) x = no-217 (subst (λ (n : ℕ). One generator (7 * n)) e (times-one generator m 7 x))
     low m (inr (inr (inr (inl e)))) x = no-217 (subst (λ (n : ℕ). One generator (31 * n)) e (times-one generator m 31 x))
     low m (inr (inr (inr (inr (inl e))))) x = no-217 (subst (λ (n : ℕ). One generator (217 * n)) e (times-one generator m 217 x))
+    low m (inr (inr (inr (inr (inr z))))) x = elim z [ ]
 
     high : (c m : ℕ) → 218 ≤ m → m < reach → c * m ≡ reach → In c (217 ∷ 151 ∷ 31 ∷ 7 ∷ 1 ∷ []) → One generator m → ⊥
     high c m h l e (inl f) x = let p : 217 * m ≡ reach = subst (λ (n : ℕ). n * m ≡ reach) f e in omega arith
@@ -293,6 +294,7 @@ generator-apart = least generator generator-odd reach last_one small
         let q : m ≡ 4681 = omega arith in
         no-4681 (subst (One generator) q x)
     high c m h l e (inr (inr (inr (inr (inl f))))) x = let p : 1 * m ≡ reach = subst (λ (n : ℕ). n * m ≡ reach) f e in omega arith
+    high c m h l e (inr (inr (inr (inr (inr z))))) x = elim z [ ]
 
     small : (m : ℕ) → 1 ≤ m → m < reach → reach % m ≡ 0 → One generator m → ⊥
     small m h l z x = pick (dec_lt m 218)

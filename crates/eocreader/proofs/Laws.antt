@@ -3,12 +3,12 @@ use mathlib.Core.Path.{◌≡◌, refl, sym, ap, ap₂, ◌∙◌, subst}
 use mathlib.Core.Bool.{Bool, true, false, cond, not, ◌&&◌, ◌||◌, false≢true}
 use mathlib.Core.Logic.{◌⊎◌, inl, inr}
 use mathlib.Core.List.{List, [], ◌∷◌, ◌++◌, append_assoc, append-nil}
-use Prim.Native.Nat.{ℕ, zero, suc, ◌+◌, ◌-◌, ◌*◌, ◌≤◌, ◌<◌, min}
+use Prim.Native.Nat.{ℕ, suc, ◌+◌, ◌-◌, ◌≤◌, ◌<◌, min}
 use native.Mathlib.Decide.{dec_lt}
 use native.Mathlib.Omega.{arith}
-use borrow.Author.Tests.{eq-eqb, ne_eqb, eqb-true, eqb-false, not-false}
-use lib.Dec.{eqb, lit≤}
-use lib.ListN.{length, get_or, take, drop, set, length-set, length-append, length-take, length-drop}
+use borrow.Author.Tests.{eq-eqb, ne_eqb, not-false}
+use lib.Dec.{eqb}
+use lib.ListN.{length, get_or, take, drop, set, length-set, length-append}
 use lib.Seq.{drop-cons, take-suc-set, length-take-le}
 use Rattle.octets.specs.Bits.{part}
 use Rattle.eoc.specs.Message.{flag, escape, flag_mark, escape_mark}

@@ -1,16 +1,15 @@
 -- What judging and reading promise, case by case. Assumes nothing.
-use mathlib.Core.Path.{◌≡◌, refl, sym, ap, ap₂, ◌∙◌, subst}
-use mathlib.Core.Bool.{Bool, true, false, not, ◌&&◌}
+use mathlib.Core.Path.{◌≡◌, refl, sym, ap, ap₂, ◌∙◌}
+use mathlib.Core.Bool.{true, false, not}
 use mathlib.Core.List.{List}
-use Prim.Native.Nat.{ℕ, zero, suc, ◌+◌, ◌-◌, ◌/◌, ◌%◌, ◌≤◌, ◌<◌, min}
+use Prim.Native.Nat.{ℕ, zero, suc, ◌-◌, ◌/◌, ◌%◌, ◌≤◌, ◌<◌, min}
 use native.Mathlib.Omega.{arith}
 use borrow.Author.Tests.{eq-eqb, ne_eqb, le-leb, lt-leb}
-use lib.Dec.{eqb, leb}
 use lib.ListN.{length, get_or, take, drop, length-take, length-drop}
-use lib.Seq.{get_or-take, length-take-le}
-use Rattle.answer.specs.Answer.{answer, held}
+use lib.Seq.{get_or-take}
+use Rattle.answer.specs.Answer.{answer}
 use Rattle.answer.proofs.Laws.{refused, passed, kept, given}
-use Rattle.eoc.specs.Message.{Message, contents_most, padded, body_most}
+use Rattle.eoc.specs.Message.{contents_most, padded, body_most}
 use Rattle.eoc.specs.Reading.{between, fields_in, is_between_flags, other_escape, is_length, is_checked, body_in, message_in}
 use Rattle.eoc.specs.Refusals.{form_refusals, read_refusals}
 use Rattle.eocreader.specs.declared.Judged.{Judged}

@@ -1,15 +1,14 @@
 -- Laws of records one after the other. Assumes nothing.
 use mathlib.Core.Path.{◌≡◌, refl, sym, ap, ap₂, ◌∙◌, subst}
 use mathlib.Core.Bool.{Bool, true, false, cond, ◌||◌}
-use mathlib.Core.Logic.{◌⊎◌, inl, inr}
 use mathlib.Core.List.{List, [], ◌∷◌, ◌++◌, map, append_assoc, append-nil}
-use Prim.Native.Nat.{ℕ, zero, suc, ◌+◌, ◌-◌, ◌*◌, ◌≤◌, ◌<◌}
+use Prim.Native.Nat.{ℕ, suc, ◌+◌, ◌-◌, ◌*◌, ◌≤◌, ◌<◌}
 use native.Mathlib.Nat.{add-zero, zero-add}
 use native.Mathlib.Omega.{arith}
-use borrow.Author.Tests.{eq-eqb, ne_eqb, le-leb, lt-leb}
-use lib.Dec.{eqb, leb, lit≤}
+use borrow.Author.Tests.{le-leb, lt-leb}
+use lib.Dec.{lit≤}
 use lib.ListN.{length, get_or, take, drop, set, length-set, length-take, length-drop, length-append, take-append-drop}
-use lib.Seq.{get_or-drop, get_or-take, drop-drop, take-add, take_at, drop_at, take_all, length-take-le}
+use lib.Seq.{get_or-drop, get_or-take, drop-drop, take_at, drop_at, take_all, length-take-le}
 use Rattle.octets.specs.Bits.{bits_of, part, laid}
 use Rattle.octets.proofs.Laws.{Octets}
 use Rattle.octets.proofs.Whole.{set-octets, copied, drop_all}

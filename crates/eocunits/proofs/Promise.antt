@@ -1,17 +1,16 @@
 -- What handing a message up promises, case by case. Assumes nothing.
-use mathlib.Core.Path.{◌≡◌, refl, sym, ap, ap₂, ◌∙◌, subst}
-use mathlib.Core.Bool.{Bool, true, false, cond, not}
+use mathlib.Core.Path.{◌≡◌, refl, sym, ap, ap₂, ◌∙◌}
+use mathlib.Core.Bool.{true, false, cond, not}
 use mathlib.Core.List.{List, [], ◌∷◌, map}
-use Prim.Native.Nat.{ℕ, zero, suc, ◌+◌, ◌-◌, ◌*◌, ◌/◌, ◌%◌, ◌≤◌, ◌<◌}
+use Prim.Native.Nat.{ℕ, zero, suc, ◌+◌, ◌-◌, ◌*◌, ◌/◌, ◌%◌, ◌<◌}
 use native.Mathlib.Omega.{arith}
 use borrow.Author.Tests.{eq-eqb, ne_eqb}
-use lib.Dec.{eqb}
-use lib.ListN.{length, get_or, take, drop}
-use Rattle.answer.specs.Answer.{answer, held}
+use lib.ListN.{length, drop}
+use Rattle.answer.specs.Answer.{answer}
 use Rattle.answer.proofs.Laws.{refused, passed, kept, given}
 use Rattle.octets.proofs.Laws.{Octets}
 use Rattle.octets.proofs.Whole.{take-octets, drop-octets}
-use Rattle.eoc.specs.Message.{Message, Lawful, contents_most, padded}
+use Rattle.eoc.specs.Message.{Message, contents_most, padded}
 use Rattle.eoc.specs.Reading.{between, fields_in, message_in}
 use Rattle.eoc.specs.Refusals.{form_refusals, read_refusals}
 use Rattle.eoc.proofs.Escapes.{unescaped-octets}

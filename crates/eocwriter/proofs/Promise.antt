@@ -3,13 +3,12 @@ use mathlib.Core.Path.{◌≡◌, refl, sym, ap, ◌∙◌}
 use mathlib.Core.List.{List}
 use Prim.Native.Nat.{ℕ, zero, suc, ◌≤◌, ◌<◌}
 use borrow.Author.Tests.{eqb-true, leb-false, ltb-false, not-false}
-use lib.Dec.{eqb, leb, ltb}
+use lib.Dec.{leb, ltb}
 use lib.ListN.{length, drop}
-use Rattle.answer.specs.Answer.{answer, held}
+use Rattle.answer.specs.Answer.{answer}
 use Rattle.answer.proofs.Laws.{none, kept, given}
-use Rattle.eoc.specs.Message.{Message, written, padded, addresses, message_numbers, contents_most, form_most}
+use Rattle.eoc.specs.Message.{written, padded, addresses, message_numbers, contents_most, form_most}
 use Rattle.eoc.specs.Refusals.{write_refusals}
-use Rattle.eocwriter.specs.declared.Written.{Written}
 use Rattle.eocwriter.specs.Promises.{message_from, written_of, MessageWritten}
 
 module _ (source destination number : ℕ) (contents room : List ℕ) where

@@ -29,8 +29,7 @@ pub struct EocHandedUp {
 }
 
 // Writes a message of the operations channel.
-#[unsafe(no_mangle)]
-pub extern "C" fn sdsl_eoc_write(
+pub fn sdsl_eoc_write(
     source: u32,
     destination: u32,
     number: u32,
@@ -47,8 +46,7 @@ pub extern "C" fn sdsl_eoc_write(
 }
 
 // Reads a message of the operations channel: its numbers, and into lent memory its contents.
-#[unsafe(no_mangle)]
-pub extern "C" fn sdsl_eoc_read(octets: &[u8], contents: &mut [u8]) -> EocMessage
+pub fn sdsl_eoc_read(octets: &[u8], contents: &mut [u8]) -> EocMessage
     ensures { EocRead octets.now contents.old result contents.new }
 {
     let found = eocreader::read(octets, contents);
@@ -62,8 +60,7 @@ pub extern "C" fn sdsl_eoc_read(octets: &[u8], contents: &mut [u8]) -> EocMessag
 }
 
 // Hands a message of the operations channel up to the units that it is meant for.
-#[unsafe(no_mangle)]
-pub extern "C" fn sdsl_eoc_hand_up(octets: &[u8], units: &mut [u8]) -> EocHandedUp
+pub fn sdsl_eoc_hand_up(octets: &[u8], units: &mut [u8]) -> EocHandedUp
     ensures { EocHanded octets.now units.old result units.new }
 {
     let handed = eocunits::hand_up(octets, units);

@@ -66,8 +66,7 @@ fn overhead_out(o: dataframe::Overhead) -> DataOverhead
 }
 
 // Writes a data-mode frame.
-#[unsafe(no_mangle)]
-pub extern "C" fn sdsl_data_write(
+pub fn sdsl_data_write(
     form: u32,
     size: u32,
     sync: u32,
@@ -85,8 +84,7 @@ pub extern "C" fn sdsl_data_write(
 }
 
 // The six check bits that stand in a data-mode frame, and those due in the next.
-#[unsafe(no_mangle)]
-pub extern "C" fn sdsl_data_crc(form: u32, size: u32, frame: &[u8]) -> DataCrcs
+pub fn sdsl_data_crc(form: u32, size: u32, frame: &[u8]) -> DataCrcs
     ensures { DataCrcGiven form size frame.now result }
 {
     let six = datacrc::crc(form, size, frame);
@@ -98,16 +96,14 @@ pub extern "C" fn sdsl_data_crc(form: u32, size: u32, frame: &[u8]) -> DataCrcs
 }
 
 // What is wrong with a data-mode frame, or 0.
-#[unsafe(no_mangle)]
-pub extern "C" fn sdsl_data_check(form: u32, size: u32, sync: u32, next: u32, frame: &[u8]) -> u32
+pub fn sdsl_data_check(form: u32, size: u32, sync: u32, next: u32, frame: &[u8]) -> u32
     ensures { DataChecked form size sync next frame.now result }
 {
     datachecker::check(form, size, sync, next, frame)
 }
 
 // Reads a data-mode frame: what it carries, and into lent memory its payload.
-#[unsafe(no_mangle)]
-pub extern "C" fn sdsl_data_read(
+pub fn sdsl_data_read(
     form: u32,
     size: u32,
     sync: u32,

@@ -13,16 +13,14 @@ pub struct FrameFields {
 }
 
 // What is wrong with a frame, or 0.
-#[unsafe(no_mangle)]
-pub extern "C" fn sdsl_frame_check(frame: &[u8]) -> u32
+pub fn sdsl_frame_check(frame: &[u8]) -> u32
     ensures { Checked frame.now result }
 {
     checker::check(frame)
 }
 
 // Reads a frame: its kind, and into lent memory vendor data and, of a training frame, the coefficients and the reserved bits.
-#[unsafe(no_mangle)]
-pub extern "C" fn sdsl_frame_read(
+pub fn sdsl_frame_read(
     frame: &[u8],
     coefficients: &mut [u8],
     vendor: &mut [u8],

@@ -1,10 +1,11 @@
-// The C boundary: thin exports over the proved crates, declared for C in include/sdsl.h. Only numbers and octet slices cross.
+// What C calls, over the proved crates: only numbers and octet slices cross. Crate host_c exports each function here under its name.
 #![tactic(auto)]
-mod channel;
-mod data;
-mod frames;
-mod receiving;
-mod scrambling;
-mod sending;
-mod supervising;
-mod symbols;
+
+pub mod channel;
+pub mod data;
+pub mod frames;
+pub mod receiving;
+pub mod scrambling;
+pub mod sending;
+pub mod supervising;
+pub mod symbols;

@@ -39,16 +39,14 @@ fn received_out(got: receiver::Received) -> Received
 }
 
 // Starts a receiver.
-#[unsafe(no_mangle)]
-pub extern "C" fn sdsl_receive_start(end: u32) -> Received
+pub fn sdsl_receive_start(end: u32) -> Received
     ensures { ReceiverStarted end result }
 {
     received_out(receiver::Receiver::start(end))
 }
 
 // Takes the next bits off the line.
-#[unsafe(no_mangle)]
-pub extern "C" fn sdsl_receive(
+pub fn sdsl_receive(
     state: Receiver,
     line: &mut [u8],
     lump: &[u8],

@@ -22,8 +22,7 @@ pub struct ScrambledBit {
 }
 
 // The state that an end starts with.
-#[unsafe(no_mangle)]
-pub extern "C" fn sdsl_scrambler_start(end: u32) -> Scrambled
+pub fn sdsl_scrambler_start(end: u32) -> Scrambled
     ensures { ScramblerStarted end result }
 {
     let ran = Scrambler::start(end);
@@ -35,8 +34,7 @@ pub extern "C" fn sdsl_scrambler_start(end: u32) -> Scrambled
 }
 
 // Scrambles one bit.
-#[unsafe(no_mangle)]
-pub extern "C" fn sdsl_scramble_bit(end: u32, state: u32, bit: u32) -> ScrambledBit
+pub fn sdsl_scramble_bit(end: u32, state: u32, bit: u32) -> ScrambledBit
     ensures { BitScrambled scramble end state bit result }
 {
     let step = Scrambler { end, state }.scramble(bit);
@@ -49,8 +47,7 @@ pub extern "C" fn sdsl_scramble_bit(end: u32, state: u32, bit: u32) -> Scrambled
 }
 
 // Descrambles one bit.
-#[unsafe(no_mangle)]
-pub extern "C" fn sdsl_descramble_bit(end: u32, state: u32, bit: u32) -> ScrambledBit
+pub fn sdsl_descramble_bit(end: u32, state: u32, bit: u32) -> ScrambledBit
     ensures { BitScrambled descramble end state bit result }
 {
     let step = Scrambler { end, state }.descramble(bit);
@@ -63,8 +60,7 @@ pub extern "C" fn sdsl_descramble_bit(end: u32, state: u32, bit: u32) -> Scrambl
 }
 
 // Scrambles the first `bits` bits of the input.
-#[unsafe(no_mangle)]
-pub extern "C" fn sdsl_scramble(
+pub fn sdsl_scramble(
     end: u32,
     state: u32,
     input: &[u8],
@@ -82,8 +78,7 @@ pub extern "C" fn sdsl_scramble(
 }
 
 // Descrambles the first `bits` bits of the input.
-#[unsafe(no_mangle)]
-pub extern "C" fn sdsl_descramble(
+pub fn sdsl_descramble(
     end: u32,
     state: u32,
     input: &[u8],
@@ -101,13 +96,7 @@ pub extern "C" fn sdsl_descramble(
 }
 
 // Descrambles a whole frame.
-#[unsafe(no_mangle)]
-pub extern "C" fn sdsl_descramble_frame(
-    end: u32,
-    state: u32,
-    frame: &[u8],
-    output: &mut [u8],
-) -> Scrambled
+pub fn sdsl_descramble_frame(end: u32, state: u32, frame: &[u8], output: &mut [u8]) -> Scrambled
     ensures { FrameDescrambled end state frame.now output.old result output.new }
 {
     let ran = Scrambler { end, state }.descramble_frame(frame, output);

@@ -6,8 +6,7 @@ use crate::scrambling::Scrambled;
 use scrambler::Scrambler;
 
 // Sends a frame of either kind.
-#[unsafe(no_mangle)]
-pub extern "C" fn sdsl_frame_send(
+pub fn sdsl_frame_send(
     end: u32,
     state: u32,
     kind: u32,

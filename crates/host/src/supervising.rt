@@ -85,24 +85,21 @@ fn stepped_out(given: supervisor::Answer) -> Stepped
 }
 
 // Starts a supervisor.
-#[unsafe(no_mangle)]
-pub extern "C" fn sdsl_start(end: u32, silence: u32) -> Stepped
+pub fn sdsl_start(end: u32, silence: u32) -> Stepped
     ensures { Started end silence result }
 {
     stepped_out(supervisor::Supervisor::start(end, silence))
 }
 
 // One code.
-#[unsafe(no_mangle)]
-pub extern "C" fn sdsl_step(state: Supervisor, code: u32) -> Stepped
+pub fn sdsl_step(state: Supervisor, code: u32) -> Stepped
     ensures { StateStepped state code result }
 {
     stepped_out(state_in(state).step(code))
 }
 
 // A list of codes, an octet each.
-#[unsafe(no_mangle)]
-pub extern "C" fn sdsl_run_codes(state: Supervisor, codes: &[u8]) -> Run
+pub fn sdsl_run_codes(state: Supervisor, codes: &[u8]) -> Run
     ensures { CodesRun state codes.now result }
 {
     let run = startup::Run::over(state_in(state), codes);

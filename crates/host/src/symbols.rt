@@ -50,8 +50,7 @@ pub struct Shaped {
 }
 
 // The level of a bit during activation.
-#[unsafe(no_mangle)]
-pub extern "C" fn sdsl_activation_level(bit: u32) -> Level
+pub fn sdsl_activation_level(bit: u32) -> Level
     ensures { ActivationLevelGiven bit result }
 {
     let level = symbol::activation_level(bit);
@@ -62,8 +61,7 @@ pub extern "C" fn sdsl_activation_level(bit: u32) -> Level
 }
 
 // The level of a code in data mode.
-#[unsafe(no_mangle)]
-pub extern "C" fn sdsl_data_level(code: u32) -> Level
+pub fn sdsl_data_level(code: u32) -> Level
     ensures { DataLevelGiven code result }
 {
     let level = symbol::data_level(code);
@@ -74,8 +72,7 @@ pub extern "C" fn sdsl_data_level(code: u32) -> Level
 }
 
 // The code of a level.
-#[unsafe(no_mangle)]
-pub extern "C" fn sdsl_level_code(sixteenths: i32) -> Code
+pub fn sdsl_level_code(sixteenths: i32) -> Code
     ensures { CodeGiven sixteenths result }
 {
     let found = symbol::level_code(sixteenths);
@@ -86,8 +83,7 @@ pub extern "C" fn sdsl_level_code(sixteenths: i32) -> Code
 }
 
 // The register that an encoder with these words starts with.
-#[unsafe(no_mangle)]
-pub extern "C" fn sdsl_encoder_start(a: u32, b: u32) -> EncodedRun
+pub fn sdsl_encoder_start(a: u32, b: u32) -> EncodedRun
     ensures { EncoderStarted a b result }
 {
     let start = symbol::Encoder::start(a, b);
@@ -99,8 +95,7 @@ pub extern "C" fn sdsl_encoder_start(a: u32, b: u32) -> EncodedRun
 }
 
 // One symbol.
-#[unsafe(no_mangle)]
-pub extern "C" fn sdsl_encode(a: u32, b: u32, register: u32, symbol: u32) -> Encoded
+pub fn sdsl_encode(a: u32, b: u32, register: u32, symbol: u32) -> Encoded
     ensures { SymbolEncoded a b register symbol result }
 {
     let step = symbol::Encoder { a, b, register }.step(symbol);
@@ -114,8 +109,7 @@ pub extern "C" fn sdsl_encode(a: u32, b: u32, register: u32, symbol: u32) -> Enc
 }
 
 // Many symbols, an octet each; a code each comes back.
-#[unsafe(no_mangle)]
-pub extern "C" fn sdsl_encode_run(
+pub fn sdsl_encode_run(
     a: u32,
     b: u32,
     register: u32,
@@ -133,8 +127,7 @@ pub extern "C" fn sdsl_encode_run(
 }
 
 // The history before the first symbol.
-#[unsafe(no_mangle)]
-pub extern "C" fn sdsl_history_start(history: &mut [u8]) -> u32
+pub fn sdsl_history_start(history: &mut [u8]) -> u32
     ensures { HistoryStarted history.old result history.new }
 {
     if history.len() != HISTORY_OCTETS {
@@ -146,13 +139,7 @@ pub extern "C" fn sdsl_history_start(history: &mut [u8]) -> u32
 }
 
 // Precodes samples, four octets each; the history moves on.
-#[unsafe(no_mangle)]
-pub extern "C" fn sdsl_precode(
-    coefficients: &[u8],
-    history: &mut [u8],
-    xs: &[u8],
-    ys: &mut [u8],
-) -> u32
+pub fn sdsl_precode(coefficients: &[u8], history: &mut [u8], xs: &[u8], ys: &mut [u8]) -> u32
     ensures { PrecodesRun coefficients.now history.old xs.now ys.old result history.new
         ys.new }
 {
@@ -160,13 +147,7 @@ pub extern "C" fn sdsl_precode(
 }
 
 // The receiving end.
-#[unsafe(no_mangle)]
-pub extern "C" fn sdsl_unprecode(
-    coefficients: &[u8],
-    history: &mut [u8],
-    ys: &[u8],
-    xs: &mut [u8],
-) -> u32
+pub fn sdsl_unprecode(coefficients: &[u8], history: &mut [u8], ys: &[u8], xs: &mut [u8]) -> u32
     ensures { DecodesRun coefficients.now history.old ys.now xs.old result history.new
         xs.new }
 {
@@ -174,8 +155,7 @@ pub extern "C" fn sdsl_unprecode(
 }
 
 // A sample for the shaper: exactly y / 131,072.
-#[unsafe(no_mangle)]
-pub extern "C" fn sdsl_shaper(y: i32) -> Shaped
+pub fn sdsl_shaper(y: i32) -> Shaped
     ensures { SampleShaped y result }
 {
     let shaped = samples::shaper(y);

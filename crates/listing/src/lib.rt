@@ -1,5 +1,6 @@
 // The bench listing (SCOPE): a frame's text, put into a lent room. specs/Listing.antt defines the text.
 #![tactic(auto)]
+
 ghost use Rattle.std.specs.Prelude.{◌≡◌, cond, ◌∷◌, [], ◌++◌, ◌<◌, ◌≤◌, eqb, ltb, length, take};
 ghost use Rattle.octets.specs.Bits.{bits_of};
 ghost use Rattle.remainder.specs.Division.{polynomial};

@@ -249,6 +249,7 @@ all-given x _ before after gs (more f fs o c good) b h st g a =
 
 -- no frame that is given begins before place 23
 pub none-across : (end : ℕ) (bits : List ℕ) (from n : ℕ) (gs : List Given) → n ≤ 23 → GivenFrom end bits from gs → Across n gs → ⊥
+none-across end bits from n _ h (nothing _ _) x = elim x [ ]
 none-across end bits from n _ h (next _ p gs e g) (here _ _ a b) = absurd (omega (arith, (lies-sound end bits p e.lies).0, a))
 none-across end bits from n _ h (next _ p gs e g) (there _ _ a) = none-across end bits (p + 4227) n gs h g a
 

@@ -1,5 +1,6 @@
 // What a card's frame is found to be, beside a customer's where one is given. What each means is specs/.
 #![tactic(auto)]
+
 ghost use Rattle.std.specs.Prelude.{◌≡◌, min};
 ghost use Rattle.verdict.specs.Ranks.{refused_rank, training_rank, final_rank};
 ghost use Rattle.verdict.specs.Verdict.{like_of, absent, most_octets, refused_verdict};

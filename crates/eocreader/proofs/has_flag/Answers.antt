@@ -1,11 +1,12 @@
 -- `eocreader::has_flag` meets its contract.
 use mathlib.Core.Path.{refl}
-use mathlib.Core.Logic.{inl, inr, ⊎_elim}
-use Prim.Native.Nat.{◌-◌, ◌≤◌}
+use mathlib.Core.Logic.{inl, inr}
+use Prim.Native.Nat.{◌+◌}
 use native.Mathlib.Omega.{arith}
 use lib.Dec.{lit≤}
-use Rattle.eocreader.proofs.Laws.{flags-next, flags-all}
+use Rattle.eocreader.proofs.Laws.{Flags, flags-next, flags-all}
 use Rattle.eocreader.proofs.has_flag.Goals as goal
+use Rattle.eocreader.proofs.has_flag.Goals.{then-s-k-eq-FLAG, else-s-k-eq-FLAG}
 
 pub loop-k-init : goal.loop-k-init
 loop-k-init c = (lit≤ tt, c.requires.0, refl)
@@ -24,7 +25,12 @@ loop-k-preserved c =
     let l = c.loop-k in
     let a = c.args in
     let next = flags-next a.s.now a.end l.found c.if-s-k-eq-FLAG.found l.k (omega arith) c.requires.1 l.invariant.2 in
-    (omega arith, omega arith, ⊎_elim (λ w. next (inl (w.0.taken, w.1))) (λ w. next (inr (w.0.left, w.1))) c.if-s-k-eq-FLAG.branch)
+    let f : Flags a.s.now a.end c.if-s-k-eq-FLAG.found (l.k + 1) =
+    elim c.if-s-k-eq-FLAG.branch [
+      | then-s-k-eq-FLAG w ↦ next (inl (w.if-s-k-eq-FLAG.true, w.found-is))
+      | else-s-k-eq-FLAG w ↦ next (inr (w.if-s-k-eq-FLAG.false, w.found-is))
+    ] in
+    (omega arith, omega arith, f)
 
 pub returns : goal.returns
 returns c =

@@ -8,7 +8,7 @@ use Rattle.eocreader.proofs.Judging.{first-wrong, first_right}
 use Rattle.eocreader.proofs.is_checked.Goals as goal
 
 pub overflow_cast-fields : goal.overflow_cast-fields
-overflow_cast-fields c = let a = c.args in omega (arith, c.shared_slice_known-2-1.given (a.n - 2))
+overflow_cast-fields c = let a = c.args in omega (arith, c.type_inv.fields (a.n - 2))
 
 pub returns-then-fields-n : goal.returns-then-fields-n
 returns-then-fields-n c =
@@ -18,7 +18,7 @@ returns-then-fields-n c =
     first-wrong a.fields.now a.n (r % 256) (r / 256) c.requires.0 c.requires.2 s c.if-fields-n.true
 
 pub overflow_cast-result : goal.overflow_cast-result
-overflow_cast-result c = let a = c.args in omega (arith, c.shared_slice_known-3-1.given (a.n - 1))
+overflow_cast-result c = let a = c.args in omega (arith, c.type_inv.fields (a.n - 1))
 
 pub returns : goal.returns
 returns c =

@@ -1,13 +1,12 @@
 -- `eocreader::other_escape` meets its contract.
 use mathlib.Core.Path.{refl, sym, ◌∙◌}
-use mathlib.Core.Logic.{⊎_elim}
-use Prim.Native.Nat.{◌+◌, ◌-◌, ◌≤◌}
+use Prim.Native.Nat.{◌+◌}
 use native.Mathlib.Omega.{arith}
-use borrow.Author.Tests.{not-true, not-false}
 use lib.Dec.{lit≤}
 use lib.ListN.{get_or}
-use Rattle.eocreader.proofs.Laws.{others-next, others-all, found, right, no-escape}
+use Rattle.eocreader.proofs.Laws.{Others, others-next, others-all, found, right, no-escape}
 use Rattle.eocreader.proofs.other_escape.Goals as goal
+use Rattle.eocreader.proofs.other_escape.Goals.{then-s-k-eq-ESCAPE+then-not-ends_escape, then-s-k-eq-ESCAPE+else-not-ends_escape, else-s-k-eq-ESCAPE}
 
 pub loop-k-init : goal.loop-k-init
 loop-k-init c = (lit≤ tt, c.requires.0, refl)
@@ -36,12 +35,14 @@ loop-k-preserved c =
     let a = c.args in
     let o = get_or a.s.now l.k 0 in
     let p = get_or a.s.now (l.k + 1) 0 in
-    let next = others-next a.s.now a.end l.other c.if-s-k-eq-ESCAPE.other l.k (omega arith) c.requires.1 c.requires.2 l.invariant.2 in (
-      omega arith,
-      omega arith,
-      next (⊎_elim (λ w. w.3 ∙ sym (found o p l.other w.0.taken (sym w.1.ensures ∙ not-true _ w.2.taken)))
-          (λ v. ⊎_elim (λ w. w.3 ∙ sym (right o p l.other (sym w.1.ensures ∙ not-false _ w.2.left))) (λ w. w.1 ∙ sym (no-escape o p l.other w.0.left)) v) c.if-s-k-eq-ESCAPE.branch),
-    )
+    let next = others-next a.s.now a.end l.other c.if-s-k-eq-ESCAPE.other l.k (omega arith) c.requires.1 c.requires.2 l.invariant.2 in
+    let f : Others a.s.now a.end c.if-s-k-eq-ESCAPE.other (l.k + 1) =
+    elim c.if-s-k-eq-ESCAPE.branch [
+      | then-s-k-eq-ESCAPE+then-not-ends_escape w ↦ next (w.other-is ∙ sym (found o p l.other w.if-s-k-eq-ESCAPE.true (sym w.ends_escape.ensures ∙ w.if-not-ends_escape.true)))
+      | then-s-k-eq-ESCAPE+else-not-ends_escape w ↦ next (w.other-is ∙ sym (right o p l.other (sym w.ends_escape.ensures ∙ w.if-not-ends_escape.false)))
+      | else-s-k-eq-ESCAPE w ↦ next (w.other-is ∙ sym (no-escape o p l.other w.if-s-k-eq-ESCAPE.false))
+    ] in
+    (omega arith, omega arith, f)
 
 pub returns : goal.returns
 returns c =

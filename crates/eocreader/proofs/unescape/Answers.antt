@@ -1,12 +1,12 @@
 -- `eocreader::unescape` meets its contract.
 use mathlib.Core.Path.{refl, sym, ◌∙◌, subst, subst₂}
 use mathlib.Core.List.{List}
-use mathlib.Core.Logic.{⊎_elim}
-use Prim.Native.Nat.{ℕ, ◌+◌, ◌-◌, ◌≤◌, ◌<◌}
+use Prim.Native.Nat.{ℕ, ◌+◌, ◌≤◌, ◌<◌}
 use native.Mathlib.Omega.{arith}
 use lib.Dec.{lit≤}
 use Rattle.eocreader.proofs.Laws.{Unescaping, plain-next, escape-next, too_many, all-put}
 use Rattle.eocreader.proofs.unescape.Goals as goal
+use Rattle.eocreader.proofs.unescape.Goals.{then-octet-eq-ESCAPE, else-octet-eq-ESCAPE}
 
 pub loop-k-init : goal.loop-k-init
 loop-k-init c =
@@ -59,14 +59,20 @@ on c =
     let l = c.loop-k in
     let a = c.args in
     let less : l.at < 77 = omega (arith, l.invariant.2.within, c.if-at-eq-FIELDS.false) in
-    ⊎_elim
-    (λ w.
-    let n = escape-next a.s.now a.end l.fields l.at l.k w.2.result (omega arith) c.requires.1 less w.0.taken w.2.ensures l.invariant.2 in
-    (omega (arith, w.4), omega (arith, w.4, n.0), subst₂ (λ (f : List ℕ) (k : ℕ). Unescaping a.s.now a.end f (l.at + 1) k) (sym w.3) (sym w.4) n.1))
-    (λ w.
-    let n = plain-next a.s.now a.end l.fields l.at l.k (omega arith) c.requires.1 less w.0.left l.invariant.2 in
-    (omega (arith, w.2), omega (arith, w.2), subst₂ (λ (f : List ℕ) (k : ℕ). Unescaping a.s.now a.end f (l.at + 1) k) (sym w.1) (sym w.2) n))
-    c.if-octet-eq-ESCAPE.branch
+    elim c.if-octet-eq-ESCAPE.branch [
+      | then-octet-eq-ESCAPE w ↦
+          let n = escape-next a.s.now a.end l.fields l.at l.k w.meant.result (omega arith) c.requires.1 less w.if-octet-eq-ESCAPE.true w.meant.ensures l.invariant.2 in (
+            omega (arith, w.k-is),
+            omega (arith, w.k-is, n.0),
+            subst₂ (λ (f : List ℕ) (k : ℕ). Unescaping a.s.now a.end f (l.at + 1) k) (sym w.fields-is) (sym w.k-is) n.1,
+          )
+      | else-octet-eq-ESCAPE w ↦
+          let n = plain-next a.s.now a.end l.fields l.at l.k (omega arith) c.requires.1 less w.if-octet-eq-ESCAPE.false l.invariant.2 in (
+            omega (arith, w.k-is),
+            omega (arith, w.k-is),
+            subst₂ (λ (f : List ℕ) (k : ℕ). Unescaping a.s.now a.end f (l.at + 1) k) (sym w.fields-is) (sym w.k-is) n,
+          )
+    ]
 
 pub loop-k-smaller : goal.loop-k-smaller
 loop-k-smaller c = omega (arith, (on c).0)

@@ -1,6 +1,6 @@
 -- `eocwriter::put_escaped` meets its contract.
 use mathlib.Core.Path.{◌≡◌, subst}
-use Prim.Native.Nat.{◌-◌, ◌<◌, zero-le}
+use Prim.Native.Nat.{◌<◌, zero-le}
 use native.Mathlib.Omega.{arith}
 use lib.ListN.{length}
 use Rattle.eocwriter.proofs.Laws.{SoFar, none_yet, one_more}

@@ -14,7 +14,7 @@ returns c =
     let a = c.args in
     let body = a.address ∷ a.number ∷ a.contents.now in
     let first : take (2 + length a.contents.now) c.copy.new.s ≡ body =
-    body-put a.address a.number a.contents.now c.copy.new.s (λ i. omega (arith, c.shared_slice_known-1.given i)) c.requires.0 (omega arith) (omega arith) c.copy.ensures in
+    body-put a.address a.number a.contents.now c.copy.new.s (λ i. omega (arith, c.type_inv.contents i)) c.requires.0 (omega arith) (omega arith) c.copy.ensures in
     let all = c.put_sequence.ensures ∙ ap (λ (x : List ℕ). x ++ sequence_of x) first in
     let e = c.put_form.ensures in (
       e.1,

@@ -10,5 +10,5 @@ returns c =
     let w = c.pair-found in
     let e = words-read c.args.frame.now c.args.at w.result c.requires.1 w.ensures in (
       vendor-read c.args.frame.now c.args.vendor.now y.new.s c.requires.0 c.requires.2 y.ensures (ap (λ (t : TakenPair). t.next) e) refl,
-      c.training.ensures ∙ ap (λ (t : TakenPair). record { answer = 0; kind = 0; c.before.before.before.before.before.before.before.before = t.first; b = t.second }) e,
+      c.training.ensures ∙ ap (λ (t : TakenPair). record { answer = 0; kind = 0; a = t.first; b = t.second }) e,
     )

@@ -3,24 +3,9 @@ use mathlib.Core.Path.{◌≡◌, refl, sym, ◌∙◌}
 use Prim.Native.Nat.{◌+◌, ◌*◌, ◌≤◌}
 use native.Mathlib.Omega.{arith}
 use lib.ListN.{length}
-use Rattle.answer.specs.Answer.{answer}
-use Rattle.receiver.specs.Promises.{receive_refusals}
 use Rattle.receiver.proofs.Cut.{call-sound}
 use Rattle.receiver.proofs.Call.{refused-call, done-call, room-length, is_found, place-there, room-is, line-is}
 use Rattle.receiver.proofs.Receiver.receive.Goals as goal
-use Rattle.receiver.proofs.Receiver.receive.Tie as tie
-
--- behind the refusals nothing is refused
-none-refused : (c : tie.Else-n-ne-DONE) → let a = c.args in
-    answer (receive_refusals a.self a.line.now a.lump.now a.bits a.frame.now) ≡ 0
-none-refused c = sym c.refusal-n.ensures ∙ c.if-n-ne-DONE.false
-
-sound : (c : tie.Else-n-ne-DONE) → let a = c.args in
-    (a.bits ≤ 8 * length a.lump.now) × (length a.line.now ≡ 532) × (length a.frame.now ≡ 529) × (a.self.end ≤ 1) × (a.bits ≤ 4096)
-    × (a.self.heard + a.bits ≤ 4294967295)
-sound c =
-    let a = c.args in
-    call-sound a.self a.line.now a.lump.now a.bits a.frame.now (none-refused c)
 
 pub returns-then-n-ne-DONE : goal.returns-then-n-ne-DONE
 returns-then-n-ne-DONE c =
@@ -29,29 +14,39 @@ returns-then-n-ne-DONE c =
 
 pub join-requires : goal.join-requires
 join-requires c =
-    let w = sound c.before.before in
+    let a = c.args in
+    let none = sym c.refusal-n.ensures ∙ c.if-n-ne-DONE.false in
+    let w = call-sound a.self a.line.now a.lump.now a.bits a.frame.now none in
     (refl, w.1, w.0, w.4)
 
 pub overflow_add-stop : goal.overflow_add-stop
-overflow_add-stop c = let w = sound c.before.before.before.before in omega (arith, w.4)
+overflow_add-stop c =
+    let a = c.args in
+    let none = sym c.refusal-n.ensures ∙ c.if-n-ne-DONE.false in
+    let w = call-sound a.self a.line.now a.lump.now a.bits a.frame.now none in
+    omega (arith, w.4)
 
 pub first-at-requires : goal.first-at-requires
 first-at-requires c =
-    let w = sound c.before.before.before in
+    let a = c.args in
+    let none = sym c.refusal-n.ensures ∙ c.if-n-ne-DONE.false in
+    let w = call-sound a.self a.line.now a.lump.now a.bits a.frame.now none in
     let e = c.begin-start.ensures in
-    let a = c.args in (
+    (
       w.3,
       omega (arith, e),
       omega (arith, e),
-      omega (arith, w.4, room-length a.self a.line.now a.lump.now a.bits a.frame.now c.join.new.room (none-refused c.before.before.before) c.join.ensures),
+      omega (arith, w.4, room-length a.self a.line.now a.lump.now a.bits a.frame.now c.join.new.room none c.join.ensures),
       w.2,
     )
 
 pub received-requires : goal.received-requires
 received-requires c =
-    let w = sound c.before.before.before in
-    let a = c.args in (
-      place-there a.self a.line.now a.lump.now a.bits a.frame.now c.join.new.room (none-refused c.before.before.before) c.join.ensures c.begin-start.result
+    let a = c.args in
+    let none = sym c.refusal-n.ensures ∙ c.if-n-ne-DONE.false in
+    let w = call-sound a.self a.line.now a.lump.now a.bits a.frame.now none in
+    (
+      place-there a.self a.line.now a.lump.now a.bits a.frame.now c.join.new.room none c.join.ensures c.begin-start.result
           c.first-at.result c.begin-start.ensures c.first-at.ensures.0,
       w.4,
       w.5,
@@ -60,7 +55,7 @@ received-requires c =
 pub returns : goal.returns
 returns c =
     let a = c.args in
-    let z = none-refused c.before.before.before in
+    let z = sym c.refusal-n.ensures ∙ c.if-n-ne-DONE.false in
     let k = c.copy in
     let s = a.self in
     let line = a.line.now in

@@ -20,5 +20,5 @@ pub returns : goal.returns
 returns c =
     let a = c.args in
     told_is a.self a.next a.code c.event-event.result c.one.result c.one-2.result c.since_opening-ticks.result c.entered_at.result
-    c.kind_of.result c.number_of_lem.result c.then-last.result c.event-event.ensures c.since_opening-ticks.ensures c.one.ensures
-    c.one-2.ensures c.then-last.ensures c.entered_at.ensures c.kind_of.ensures c.number_of_lem.ensures
+    c.kind_of.result c.number_of.result c.then-last.result c.event-event.ensures c.since_opening-ticks.ensures c.one.ensures
+    c.one-2.ensures c.then-last.ensures c.entered_at.ensures c.kind_of.ensures c.number_of.ensures

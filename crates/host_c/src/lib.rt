@@ -1,0 +1,11 @@
+// The C boundary: what include/sdsl.h declares. Each export is a call of the function of crate host with the same name, and promises what it promises.
+#![tactic(auto)]
+
+mod channel;
+mod data;
+mod frames;
+mod receiving;
+mod scrambling;
+mod sending;
+mod supervising;
+mod symbols;

@@ -1,0 +1,9 @@
+-- `storytext::ended` meets its contract.
+use Rattle.storytext.proofs.EndWords.{data-mode-said, exception-mode-said}
+use Rattle.storytext.proofs.ended.Goals as goal
+
+pub returns-then-last-eq-DATA : goal.returns-then-last-eq-DATA
+returns-then-last-eq-DATA c = data-mode-said c.args.story c.if-last-eq-DATA.true
+
+pub returns : goal.returns
+returns c = exception-mode-said c.args.story _ _ c.if-last-eq-DATA.false c.cause_row.ensures c.short_row.ensures
