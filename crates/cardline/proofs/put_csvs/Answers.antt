@@ -1,6 +1,5 @@
 -- `cardline::put_csvs` meets its contract. After k turns the first k octets stand in the room in their form.
 use mathlib.Core.Path.{ap}
-use Prim.Native.Nat.{◌-◌}
 use native.Mathlib.Omega.{arith}
 use lib.ListN.{get_or, take}
 use lib.Seq.{take_all}

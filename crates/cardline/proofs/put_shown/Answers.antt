@@ -1,7 +1,6 @@
 -- `cardline::put_shown` meets its contract. After k turns the first k octets of the name stand in the room.
 use mathlib.Core.Path.{ap}
 use mathlib.Core.List.{[], ◌∷◌}
-use Prim.Native.Nat.{◌-◌}
 use native.Mathlib.Omega.{arith}
 use lib.ListN.{take}
 use lib.Seq.{take_all}

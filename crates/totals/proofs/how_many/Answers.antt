@@ -1,6 +1,6 @@
 -- `totals::how_many` meets its contract. After k turns those among the first k entries are counted.
 use mathlib.Core.Path.{ap, ◌∙◌}
-use Prim.Native.Nat.{◌+◌, ◌-◌}
+use Prim.Native.Nat.{◌+◌}
 use native.Mathlib.Omega.{arith}
 use lib.ListN.{get_or}
 use lib.Seq.{take_all}

@@ -1,6 +1,5 @@
 -- `totals::put_lines` meets its contract. After n turns the lines of the verdicts below n stand in the room.
 use mathlib.Core.Path.{◌≡◌, ap}
-use Prim.Native.Nat.{◌-◌}
 use native.Mathlib.Omega.{arith}
 use Rattle.ascii.proofs.Room.{put-none, put-more, put_as, put-length}
 use Rattle.card.specs.Ranks.{verdicts}
