@@ -1,7 +1,7 @@
 -- What each function of the crate promises: of its arguments, its result r and what lent octets hold at exit.
 use Rattle.std.specs.Prelude.{◌≡◌, List, ◌++◌, reverse, ℕ, ◌+◌, ◌-◌, ◌^◌, min, ℤ, pos, length, take, replicate}
 use Rattle.octets.specs.Bits.{digits_of, value_of, bits_of, part, laid}
-use Rattle.octets.specs.Signed.{signed_of, twos_of, number_bits}
+use Rattle.octets.specs.Signed.{signed_of, number_bits}
 
 -- field
 abbrev pub FieldRead : List ℕ → ℕ → ℕ → ℕ → Type 0

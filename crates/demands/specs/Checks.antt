@@ -10,7 +10,8 @@ use Rattle.precoder.specs.Runs.{run_tests as precoder_tests}
 use Rattle.supervisor.specs.Step.{start_refusals, step_refusals, state_refusals}
 use Rattle.host.specs.Sending.{frame_send_refusals}
 use Rattle.host.specs.Frames.{frame_read_refusals}
-use Rattle.dataframe.specs.Refusals.{crc_refusals, write_refusals as data_write_refusals, check_refusals as data_check_refusals, read_refusals as data_read_refusals}
+use Rattle.dataframe.specs.Refusals.{crc_refusals, write_refusals as data_write_refusals}
+use Rattle.dataframe.specs.Refusals.{check_refusals as data_check_refusals, read_refusals as data_read_refusals}
 use Rattle.eoc.specs.Refusals.{write_refusals as eoc_write_refusals, read_refusals as eoc_read_refusals}
 use Rattle.eocunits.specs.Units.{hand_up_refusals}
 use Rattle.host.specs.Data.{overhead_of}

@@ -17,7 +17,8 @@ write_refusals source destination number contents room =
 -- what is wrong with a message as it came
 abbrev pub form_refusals : List ℕ → List Refusal
 form_refusals s =
-    refuse 10 (not (is_between_flags s)) ∷ refuse 11 (other_escape (between s)) ∷ refuse 12 (not (is_length (fields_in s))) ∷ refuse 7 (not (is_checked (fields_in s))) ∷ []
+    refuse 10 (not (is_between_flags s)) ∷ refuse 11 (other_escape (between s))
+    ∷ refuse 12 (not (is_length (fields_in s))) ∷ refuse 7 (not (is_checked (fields_in s))) ∷ []
 
 -- reading
 abbrev pub read_refusals : List ℕ → List ℕ → List Refusal

@@ -1,6 +1,5 @@
 // The field reader (SCOPE, "The activation frame"): it keeps the lent frame it walks and the place of the next field.
-// The borrow checker covers no function over such a struct, so those here are proved by hand and are thin: the work is
-// done by the slice-and-place functions of bitfields.
+// The functions over it are thin: the work is done by the slice-and-place functions of bitfields.
 #![tactic(auto)]
 
 ghost use Rattle.fields.specs.Promises.{Made, FieldTaken, SignedTaken};

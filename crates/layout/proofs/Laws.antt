@@ -5,10 +5,10 @@ use mathlib.Core.List.{List, ◌++◌}
 use Prim.Native.Nat.{ℕ, ◌-◌, ◌≤◌}
 use native.Mathlib.Omega.{arith}
 use lib.IntN.{ℤ, pos}
-use lib.ListN.{length, take, replicate, length-append, length-replicate, length-reverse}
+use lib.ListN.{length, take, replicate, length-append, length-replicate}
 use lib.Seq.{length-take-le}
 use Rattle.octets.specs.Bits.{digits_of, value_of, bits_of}
-use Rattle.octets.proofs.Digits.{Bits, append_bits, digits-length, digits-bits, digits_value, reverse_bits, zeros-bits}
+use Rattle.octets.proofs.Digits.{Bits, append_bits, digits-length, digits-bits, digits_value, zeros-bits}
 use Rattle.octets.proofs.Laws.{bits-length, bits-bits}
 use Rattle.octets.proofs.Numbers.{number-length, number-bits}
 use Rattle.remainder.specs.Division.{check_bits}

@@ -6,7 +6,7 @@ use native.Mathlib.Omega.{arith}
 use lib.Dec.{lit≤}
 use lib.ListN.{length, get_or, set, take, drop, replicate, length-take, length-drop, length-replicate}
 use lib.Seq.{sets, sets-eq, get_or-drop, paste}
-use Rattle.octets.specs.Bits.{bits_of, octets_of, part, laid}
+use Rattle.octets.specs.Bits.{bits_of, part, laid}
 use Rattle.octets.proofs.Digits.{zeros-bits}
 use Rattle.octets.proofs.Laws.{Octets, bits-bits, bits-length, octets-bits, sets_below}
 use Rattle.octets.proofs.Words.{octets-part, octets-laid, octets-zeros}

@@ -1,7 +1,7 @@
 -- The register 64 bits at a time, for any generator with a constant term: its terms as shifts (Sums.antt). A word stands for all bits before it where the
 -- two have the same remainder; the word 64 bits further on is what a power of the generator leaves of it. Assumes nothing.
 use mathlib.Core.Path.{◌≡◌, refl, sym, ap, ap₂, subst, ◌∙◌}
-use mathlib.Core.Bool.{Bool, true, false}
+use mathlib.Core.Bool.{true, false}
 use mathlib.Core.List.{List, [], ◌∷◌, ◌++◌, append_assoc}
 use Prim.Native.Nat.{ℕ, zero, suc, ◌+◌, ◌-◌, ◌*◌, ◌/◌, ◌%◌, ◌^◌, ◌≤◌, ◌<◌}
 use native.Mathlib.Nat.{mul_assoc, pow-suc, div-one, mod-eq_of_lt, div-eq_of_lt}
@@ -10,15 +10,15 @@ use lib.Arith.{bin_ind}
 use lib.Bits.{bit_xor, bit_or, or_mod, or_shifted, xor_comm, xor_zero_r, xor_zero_l, xor_self, xor_lt, xor_shifted}
 use lib.Dec.{lit≤}
 use lib.ListN.{length, get_or, take, drop}
-use lib.Pow.{pow-add, pow_pos, shr_lt, split}
-use Rattle.octets.specs.Bits.{digits_of, value_of, bits_of, bit_of, part}
+use lib.Pow.{pow-add, pow_pos, shr_lt}
+use Rattle.octets.specs.Bits.{digits_of, bits_of, bit_of, part}
 use Rattle.octets.proofs.Digits.{Bits, append_bits, digits-bits, digits-length, digits-mod-pow, take-bits, drop_bits, turned_lt}
 use Rattle.octets.proofs.Laws.{bits-bits, part-bits, part-next}
 use Rattle.octets.proofs.Words.{digits-cut, digits-join, part-more}
 use Rattle.octets.proofs.Turn.{turn_of, turn-xor, turn-turn}
-use Rattle.octets.proofs.Xor.{xor_assoc, xor-swap, shl-xor, back, mid}
-use Rattle.octets.proofs.Sums.{sum, shifts, doubled, sum-xor, sum-shl, sum_twice, Solves, solves-far, solves-root, near, coded, coded-sum, sum_near, mirror, turn-long, turned-sum, coded-over, solved, within-le}
-use Rattle.remainder.specs.Division.{scale, times, polynomial, Degree, Remainder, RemainderFrom, Multiple, generator}
+use Rattle.octets.proofs.Xor.{xor_assoc, shl-xor, back, mid}
+use Rattle.octets.proofs.Sums.{sum, shifts, doubled, sum-xor, sum-shl, sum_twice, Solves, solves-far, solves-root, near, coded, coded-sum, sum_near, mirror, turn-long, turned-sum, solved, within-le}
+use Rattle.remainder.specs.Division.{times, polynomial, Degree, Multiple, generator}
 use Rattle.remainder.specs.Register.{step_of, register_of}
 use Rattle.remainder.proofs.Division.{add, distrib, step-lt, exists, exists-from, left_unique, unique, register-append}
 use Rattle.remainder.proofs.Errors.{polynomial-append, generator-degree}

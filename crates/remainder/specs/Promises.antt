@@ -1,5 +1,5 @@
 -- What the crate's functions promise.
-use Rattle.std.specs.Prelude.{◌≡◌, not, ◌||◌, List, [], ◌∷◌, reverse, ℕ, suc, ◌%◌, ◌^◌, eqb, leb, ltb}
+use Rattle.std.specs.Prelude.{◌≡◌, List, [], ◌∷◌, reverse, ℕ, suc, ◌%◌, ◌^◌, eqb, leb, ltb}
 use Rattle.answer.specs.Answer.{Refusal, refuse, answer}
 use Rattle.octets.specs.Bits.{digits_of, value_of, bits_of, part}
 use Rattle.remainder.specs.Division.{Remainder, RemainderFrom, generator}

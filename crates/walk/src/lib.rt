@@ -1,5 +1,6 @@
-// Fields one behind the other, taken with the field reader (SCOPE, "The activation frame"). Like the reader, they are thin and proved by hand.
+// Fields one behind the other, taken with the field reader (SCOPE, "The activation frame").
 #![tactic(auto)]
+
 ghost use Rattle.walk.specs.Promises.{PairTaken, SignedFilled};
 
 // Two fields, one behind the other, and the place behind them.

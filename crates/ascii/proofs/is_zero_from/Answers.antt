@@ -1,6 +1,5 @@
 -- `ascii::is_zero_from` meets its contract. The octets from the first place to the place k are zero.
 use mathlib.Core.Path.{refl, ◌∙◌}
-use Prim.Native.Nat.{◌-◌}
 use native.Mathlib.Omega.{arith}
 use Rattle.ascii.proofs.Plainly.{zero-stop, zero-next, zero-end}
 use Rattle.ascii.proofs.is_zero_from.Goals as goal

@@ -1,6 +1,5 @@
 -- `ascii::printables` meets its contract. The first k octets are printable.
 use mathlib.Core.Path.{sym, ◌∙◌}
-use Prim.Native.Nat.{◌-◌}
 use native.Mathlib.Omega.{arith}
 use Rattle.ascii.proofs.Plainly.{print-stop, print-next, print-end}
 use Rattle.ascii.proofs.printables.Goals as goal

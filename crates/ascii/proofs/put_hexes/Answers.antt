@@ -1,6 +1,5 @@
 -- `ascii::put_hexes` meets its contract. After k turns the first k octets stand in the room.
 use mathlib.Core.Path.{ap}
-use Prim.Native.Nat.{◌-◌}
 use native.Mathlib.Omega.{arith}
 use lib.ListN.{get_or, take}
 use lib.Seq.{take_all}

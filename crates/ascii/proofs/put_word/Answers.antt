@@ -1,6 +1,5 @@
 -- `ascii::put_word` meets its contract. After k turns the word's first k octets stand in the room.
 use mathlib.Core.List.{[], ◌∷◌}
-use Prim.Native.Nat.{◌-◌}
 use native.Mathlib.Omega.{arith}
 use lib.ListN.{take}
 use lib.Seq.{take_all}

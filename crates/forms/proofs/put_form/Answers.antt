@@ -1,5 +1,4 @@
 -- `forms::put_form` meets its contract: what stands in the room after k octets, with the rest, is the whole.
-use Prim.Native.Nat.{◌-◌}
 use native.Mathlib.Omega.{arith}
 use lib.ListN.{get_or, drop}
 use Rattle.ascii.specs.Text.{decimal}

@@ -1,5 +1,4 @@
 -- `forms::put_row` meets its contract: what stands in the room after k octets, with the rest, is the whole.
-use Prim.Native.Nat.{◌-◌}
 use native.Mathlib.Omega.{arith}
 use lib.ListN.{get_or}
 use mathlib.Core.List.{[], ◌∷◌}

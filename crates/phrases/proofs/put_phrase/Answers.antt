@@ -1,6 +1,6 @@
 -- `phrases::put_phrase` meets its contract: what stands in the room after k octets, with the rest, is the whole.
 use mathlib.Core.Path.{ap}
-use Prim.Native.Nat.{ℕ, ◌-◌}
+use Prim.Native.Nat.{ℕ}
 use native.Mathlib.Omega.{arith}
 use lib.ListN.{get_or}
 use mathlib.Core.List.{List}

@@ -1,5 +1,5 @@
 -- `phrases::put_phrases` meets its contract: what stands in the room after k numbers, with the rest, is the whole.
-use Prim.Native.Nat.{◌+◌, ◌-◌, ◌<◌}
+use Prim.Native.Nat.{◌+◌, ◌<◌}
 use native.Mathlib.Omega.{arith}
 use lib.ListN.{length, get_or}
 use Rattle.ascii.proofs.Room.{put-length}

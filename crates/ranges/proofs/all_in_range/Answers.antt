@@ -1,10 +1,8 @@
 -- `ranges::all_in_range` meets its contract: what remains decides. Assumes nothing.
-use mathlib.Core.Path.{◌≡◌, sym, ◌∙◌}
-use Prim.Native.Nat.{◌<◌}
+use mathlib.Core.Path.{sym, ◌∙◌}
 use native.Mathlib.Omega.{arith}
-use lib.ListN.{length}
 use mir.Facts.{to_z-of_z}
-use Rattle.ranges.specs.Ranges.{between, every}
+use Rattle.ranges.specs.Ranges.{between}
 use Rattle.ranges.proofs.Laws.{every-next, every-out, every-end}
 use Rattle.ranges.proofs.all_in_range.Goals as goal
 

@@ -1,5 +1,5 @@
 -- `walk::fill_signed` meets its contract: the fields before place k are there, and the reader stands behind them.
-use mathlib.Core.Path.{◌≡◌, refl, sym, ap, ap₂, ◌∙◌}
+use mathlib.Core.Path.{◌≡◌, sym, ap, ap₂, ◌∙◌}
 use mathlib.Core.List.{List, [], ◌∷◌, ◌++◌, append-nil}
 use Prim.Native.Nat.{ℕ, suc, ◌+◌, ◌-◌, ◌<◌, ◌≤◌, min}
 use native.Mathlib.Numerals.{add-one}
@@ -41,9 +41,12 @@ loop-k-preserved c =
     let l = c.loop-k in
     let n = length c.args.into.now in
     let e : n - l.k ≡ suc (n - (l.k + 1)) = omega arith in
-    rw (t.1, to_z-of_z {w = w32} (record { sfits = c.take_signed.type_inv }))
-    (omega arith, i.1, one_more l.r.frame.now l.r.at c.args.w (n - l.k) (n - (l.k + 1)) l.k _ l.into _ (omega arith) e t.0 i.2,
-    further l.r.at c.args.w (n - l.k) (n - (l.k + 1)) _ e i.3)
+    rw (t.1, to_z-of_z {w = w32} (record { sfits = c.take_signed.type_inv })) (
+      omega arith,
+      i.1,
+      one_more l.r.frame.now l.r.at c.args.w (n - l.k) (n - (l.k + 1)) l.k _ l.into _ (omega arith) e t.0 i.2,
+      further l.r.at c.args.w (n - l.k) (n - (l.k + 1)) _ e i.3,
+    )
 
 -- where nothing remains, all that was there to be done is done
 done : (s : List ℕ) (at w n k : ℕ) (all into : List ℤ) → length into ≤ k → n ≡ 0 → all ≡ take k into ++ signed_from s at w n → into ≡ all
@@ -64,8 +67,7 @@ returns c =
     let z : n - l.k ≡ 0 = omega arith in
     let e = c.reader-r.ensures in
     let f = i.1 ∙ ap (λ (r : FieldReader). r.frame) e in
-    let at = ap (λ (r : FieldReader). r.at) e in
-    (
+    let at = ap (λ (r : FieldReader). r.at) e in (
       done l.r.frame.now l.r.at a.w (n - l.k) l.k _ l.into (omega arith) z i.2 ∙ ap₂ (λ (x : Bor (List ℕ)) (p : ℕ). signed_from x.now p a.w n) f at,
       stands l.r.at a.w (n - l.k) _ z i.3 ∙ ap (λ (p : ℕ). behind_all p a.w n) at,
     )

@@ -2,7 +2,7 @@
 use mathlib.Core.Path.{◌≡◌}
 use mathlib.Core.List.{◌++◌}
 use Prim.Native.Nat.{◌-◌, ◌≤◌}
-use lib.ListN.{length, take, drop}
+use lib.ListN.{length, take}
 use Rattle.walk.specs.Promises.{signed_from, behind_all}
 use Rattle.walk.proofs.fill_signed.Given as goal
 
