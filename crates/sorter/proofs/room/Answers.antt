@@ -2,11 +2,7 @@
 use mathlib.Core.Path.{sym}
 use Prim.Native.Nat.{ℕ}
 use lib.ListN.{length-replicate}
-use Rattle.sorter.proofs.room.Statement.{statement}
-use Rattle.sorter.proofs.room.Tie as tie
+use Rattle.sorter.proofs.room.Goals as goal
 
-returns : tie.Need-returns
+pub returns : goal.returns
 returns c = sym {A = ℕ} (length-replicate {0} {A = ℕ} 16384 0)
-
-pub room-spec : {M : Type 1} → statement M
-room-spec = tie.close (tie.spec returns)

@@ -2,11 +2,7 @@
 use mathlib.Core.Path.{sym}
 use Prim.Native.Nat.{ℕ}
 use lib.ListN.{length-replicate}
-use Rattle.sorter.proofs.no_octets.Statement.{statement}
-use Rattle.sorter.proofs.no_octets.Tie as tie
+use Rattle.sorter.proofs.no_octets.Goals as goal
 
-returns : tie.Need-returns
+pub returns : goal.returns
 returns c = sym {A = ℕ} (length-replicate {0} {A = ℕ} 530 0)
-
-pub no-octets-spec : {M : Type 1} → statement M
-no-octets-spec = tie.close (tie.spec returns)
