@@ -2,11 +2,7 @@
 use mathlib.Core.Path.{sym}
 use Prim.Native.Nat.{ℕ}
 use lib.ListN.{length-replicate}
-use Rattle.messages.proofs.room.Statement.{statement}
-use Rattle.messages.proofs.room.Tie as tie
+use Rattle.messages.proofs.room.Goals as goal
 
-returns : tie.Need-returns
+pub returns : goal.returns
 returns c = sym {A = ℕ} (length-replicate {0} {A = ℕ} 1048577 0)
-
-pub room-spec : {M : Type 1} → statement M
-room-spec = tie.close (tie.spec returns)
