@@ -1,5 +1,6 @@
 // Handing an operations channel message up to the units that it is meant for (002, clause 10.5.5.5).
 #![tactic(auto)]
+
 ghost use Rattle.std.specs.Prelude.{◌≡◌, ◌∷◌, ◌++◌, map, ◌+◌, ◌*◌, ◌<◌, ◌≤◌, length, get_or, take, drop};
 ghost use Rattle.eoc.specs.Addresses.{is_meant};
 ghost use Rattle.eocunits.specs.Units.{records_of, joined, some_wide};

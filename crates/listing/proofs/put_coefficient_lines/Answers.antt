@@ -1,6 +1,6 @@
 -- `listing::put_coefficient_lines` meets its contract. After k turns the lines of the first k coefficients stand in the room.
 use mathlib.Core.Path.{◌≡◌, ap}
-use Prim.Native.Nat.{◌+◌, ◌-◌}
+use Prim.Native.Nat.{◌+◌}
 use native.Mathlib.Omega.{arith}
 use lib.IntN.{pos}
 use lib.ListN.{get_or, take}

@@ -1,6 +1,5 @@
 -- `startlog::line_end` meets its contract. No newline stands from the first place to the place k.
 use mathlib.Core.Path.{refl, sym, ◌∙◌}
-use Prim.Native.Nat.{◌-◌}
 use native.Mathlib.Omega.{arith}
 use Rattle.startlog.proofs.Laws.{end-here, end-next, end-last}
 use Rattle.startlog.proofs.line_end.Goals as goal

@@ -1,6 +1,5 @@
 -- `Line::counted` meets its contract. After k turns the first k digits are read.
 use mathlib.Core.Path.{◌∙◌}
-use Prim.Native.Nat.{◌-◌}
 use native.Mathlib.Omega.{arith}
 use Rattle.startlog.proofs.Laws.{below, above, read_none, read_more, none-counted, many-counted, some-counted}
 use Rattle.startlog.proofs.Line.counted.Goals as goal
