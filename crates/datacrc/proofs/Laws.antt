@@ -1,8 +1,8 @@
 -- Laws of the six check bits. Assumes nothing.
 use mathlib.Core.Path.{◌≡◌, refl, sym, ap, ap₂, ◌∙◌, subst}
 use mathlib.Core.Bool.{Bool, true, false, not, ◌&&◌, ◌||◌}
-use mathlib.Core.List.{List, [], ◌∷◌, ◌++◌, append_assoc, reverse}
-use Prim.Native.Nat.{ℕ, zero, suc, ◌+◌, ◌*◌, ◌^◌, ◌≤◌, ◌<◌, min}
+use mathlib.Core.List.{List, [], ◌++◌, append_assoc, reverse}
+use Prim.Native.Nat.{ℕ, zero, suc, ◌+◌, ◌*◌, ◌^◌, ◌≤◌, ◌<◌}
 use native.Mathlib.Omega.{arith}
 use borrow.Author.Tests.{lt-leb, eq-eqb, ne_eqb}
 use lib.Dec.{eqb, lit≤}
@@ -15,13 +15,12 @@ use Rattle.octets.proofs.Laws.{bits-length, bits-part}
 use Rattle.remainder.specs.Division.{Degree, polynomial, Remainder, RemainderFrom}
 use Rattle.remainder.specs.Promises.{start_refusals, FromStart}
 use Rattle.remainder.specs.declared.Left.{Left}
-use Rattle.remainder.proofs.Division.{computed, exists}
+use Rattle.remainder.proofs.Division.{computed}
 use Rattle.remainder.proofs.Start.{follows}
 use Rattle.dataframe.specs.Table.{crc, end_width}
 use Rattle.dataframe.specs.Frame.{six_generator, carried, covered, due_of, Due}
 use Rattle.dataframe.specs.Refusals.{is_room, crc_refusals}
 use Rattle.dataframe.proofs.Refused.{fit}
-use Rattle.datacrc.specs.declared.Sixes.{Sixes}
 use Rattle.datacrc.specs.Promises.{crc_of, CrcGiven}
 use Rattle.dataframe.proofs.Rows.{crc-is, covered-is}
 

@@ -1,7 +1,7 @@
 -- Every payload bit and every overhead bit has a frame bit of its own, together they are the frame, and each is read there: for every size k.
 -- Assumes nothing.
-use mathlib.Core.Path.{◌≡◌, refl, sym, ap, ap₂, ◌∙◌}
-use mathlib.Core.List.{List, [], ◌∷◌, ◌++◌, append-nil, append_assoc}
+use mathlib.Core.Path.{◌≡◌, sym, ap, ap₂, ◌∙◌}
+use mathlib.Core.List.{List, [], ◌++◌, append-nil, append_assoc}
 use Prim.Native.Nat.{ℕ, zero, suc, ◌+◌, ◌-◌, ◌*◌, ◌/◌, ◌≤◌, ◌<◌}
 use native.Mathlib.Decide.{dec_lt}
 use native.Mathlib.Nat.{mul-le-mul_left, mul-div-le, lt-mul-div-succ, le-div_iff_mul-le, div-mul-le_self, div-eq_of_lt-le, div-lt_iff_lt-mul}

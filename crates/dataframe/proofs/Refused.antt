@@ -1,5 +1,5 @@
 -- What it says that a room, a form and a size are not refused, and what is answered behind them. Assumes nothing.
-use mathlib.Core.Path.{◌≡◌, refl, sym, ap, ap₂, ◌∙◌}
+use mathlib.Core.Path.{◌≡◌, refl, sym, ap₂, ◌∙◌}
 use mathlib.Core.Bool.{Bool, true, false, not, ◌&&◌, ◌||◌}
 use mathlib.Core.List.{List, [], ◌∷◌, ◌++◌}
 use Prim.Native.Nat.{ℕ, zero, suc, ◌+◌, ◌*◌, ◌/◌, ◌%◌, ◌≤◌, ◌<◌}
@@ -8,12 +8,12 @@ use native.Mathlib.Nat.{mod-lt, div-add-mod}
 use native.Mathlib.Omega.{arith}
 use borrow.Author.Tests.{eqb-true, eq-eqb, ne_eqb, ltb-false, leb-true, le-leb, not-false}
 use lib.Dec.{eqb, leb, ltb, lit≤}
-use lib.ListN.{length, drop}
+use lib.ListN.{length}
 use Rattle.answer.specs.Answer.{Refusal, answer}
 use Rattle.answer.proofs.Laws.{none, passed}
 use Rattle.answer.proofs.Order.{both}
 use Rattle.dataframe.specs.Table.{Covers, is_size, room_of}
-use Rattle.dataframe.specs.Refusals.{is_room, no_room, no_form, no_size, crc_refusals}
+use Rattle.dataframe.specs.Refusals.{is_room, no_form, no_size, crc_refusals}
 
 -- a room, a form and a size that are right
 pub record Fit (form k : ℕ) (frame : List ℕ) : Type 0 where

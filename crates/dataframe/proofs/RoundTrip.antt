@@ -1,7 +1,7 @@
 -- What is written is read back; what reads with answer 0 is what writing its fields gives; different fields give different frames. All over the
 -- definitions, for both forms and every size. Assumes nothing.
 use mathlib.Core.Path.{◌≡◌, refl, sym, ap, ap₂, ◌∙◌, subst}
-use mathlib.Core.Bool.{Bool, true, false, cond, not, ◌&&◌, ◌||◌, false≢true}
+use mathlib.Core.Bool.{Bool, true, false, cond, not, ◌&&◌, ◌||◌}
 use mathlib.Core.Logic.{◌⊎◌, inl, inr}
 use mathlib.Core.List.{List, [], ◌∷◌, reverse, reverse-reverse}
 use Prim.Native.Nat.{ℕ, zero, suc, ◌-◌, ◌*◌, ◌^◌, ◌≤◌, ◌<◌}
@@ -23,7 +23,7 @@ use Rattle.places.proofs.Streams.{whole_back, laid-out-length, laid-out-bits, de
 use Rattle.remainder.specs.Division.{polynomial, check_bits}
 use Rattle.remainder.proofs.Errors.{check-value, polynomial-lt}
 use Rattle.dataframe.specs.declared.Overhead.{Overhead}
-use Rattle.dataframe.specs.Table.{synchronous, plesiochronous, sync, indicators, payload, eoc, crc, spare, sbid, stuffing, unused}
+use Rattle.dataframe.specs.Table.{synchronous, plesiochronous, sync, payload, crc, spare, sbid, stuffing, unused}
 use Rattle.dataframe.specs.Table.{line_bits, room_of, table}
 use Rattle.dataframe.specs.Frame.{mark_of, streams, data_bits, data_octets, carried, sbid1, sbid2, stuffed_in, behind, overhead_in, payload_in, due_of}
 use Rattle.dataframe.specs.Refusals.{is_stuffing, write_refusals, stuffing_right, bit_refusals}

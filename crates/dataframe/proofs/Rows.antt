@@ -1,12 +1,12 @@
 -- The rows of the table as bits at their places, and the streams as such bits: for every size k, and for either form. Assumes nothing.
 use mathlib.Core.Path.{◌≡◌, refl, sym, ap, ap₂, ◌∙◌}
-use mathlib.Core.List.{List, [], ◌∷◌, ◌++◌, append-nil, append_assoc}
+use mathlib.Core.List.{List, [], ◌∷◌, ◌++◌, append-nil}
 use Prim.Native.Nat.{ℕ, zero, suc, ◌+◌, ◌-◌, ◌*◌, ◌≤◌}
 use native.Mathlib.Omega.{arith}
 use lib.Dec.{eqb}
 use mathlib.Core.Bool.{Bool, true, false, cond}
 use Rattle.octets.specs.Bits.{part}
-use Rattle.places.specs.Places.{place_in, field_in, span_in, fields_from, fields_in, joined}
+use Rattle.places.specs.Places.{place_in, field_in, fields_from, fields_in, joined}
 use Rattle.places.specs.Streams.{Row, widths_in, stream_in, chosen}
 use Rattle.places.proofs.Fields.{joined-append, span-fields}
 use Rattle.dataframe.specs.Table.{sync, indicators, payload, eoc, crc, spare, sbid, stuffing, unused, end_width, line_bits, room_of, table}

@@ -1,7 +1,7 @@
 -- How many bits each stream has in the table, for every size and either form; what is written fits; the streams before the end stand where they
 -- stand, stuffing or not. Assumes nothing.
 use mathlib.Core.Path.{◌≡◌, refl, sym, ap, ◌∙◌, subst}
-use mathlib.Core.Bool.{Bool, true, false, cond, ◌&&◌, false≢true}
+use mathlib.Core.Bool.{Bool, true, false, cond, ◌&&◌}
 use mathlib.Core.List.{List, [], ◌∷◌, ◌++◌}
 use Prim.Native.Nat.{ℕ, zero, suc, ◌+◌, ◌-◌, ◌*◌, ◌≤◌, ◌<◌}
 use native.Mathlib.Decide.{dec_le}
@@ -9,14 +9,12 @@ use native.Mathlib.Nat.{add-zero, le_refl}
 use native.Mathlib.Omega.{arith}
 use borrow.Author.Tests.{ltb-true, ne_eqb}
 use lib.Dec.{eqb, ltb}
-use lib.ListN.{length, get_or, take, drop, replicate, length-replicate, length-reverse, get_or-eq_default}
-use Rattle.octets.specs.Bits.{digits_of}
-use Rattle.octets.proofs.Digits.{Bits, nil-bits, cons-bits, digits-length, digits-bits, reverse_bits, zeros-bits}
+use lib.ListN.{length, get_or, take, drop, replicate, length-replicate, get_or-eq_default}
+use Rattle.octets.proofs.Digits.{Bits, nil-bits, cons-bits, digits-length, digits-bits, zeros-bits}
 use Rattle.octets.proofs.Laws.{bits-length, bits-bits}
 use Rattle.places.specs.Places.{total}
 use Rattle.places.specs.Streams.{Row, widths_in, amount, among, stream_in}
 use Rattle.places.proofs.Streams.{Fits, counted, before, sifted, counted_is, among-front}
-use Rattle.remainder.specs.Division.{check_bits}
 use Rattle.answer.proofs.Order.{both}
 use Rattle.remainder.proofs.Errors.{check-length, check_bits_right}
 use Rattle.dataframe.specs.declared.Overhead.{Overhead}

@@ -1,5 +1,5 @@
 -- For the functions that lay a frame only; no promise of a public function names this.
-use Rattle.std.specs.Prelude.{◌≡◌, cond, List, ◌++◌, ℕ, ◌+◌, ◌*◌, ◌/◌, ◌^◌, eqb, replicate}
+use Rattle.std.specs.Prelude.{◌≡◌, cond, List, ◌++◌, ℕ, ◌*◌, ◌/◌, eqb, replicate}
 use Rattle.octets.specs.Bits.{digits_of, part}
 use Rattle.remainder.specs.Division.{check_bits}
 use Rattle.dataframe.specs.declared.Overhead.{Overhead}

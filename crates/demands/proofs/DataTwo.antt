@@ -17,7 +17,6 @@ use Rattle.dataframe.specs.Frame.{data_octets, carried, overhead_in, payload_in,
 use Rattle.dataframe.specs.Refusals.{is_room, crc_refusals, bit_refusals, check_refusals}
 use Rattle.dataframe.proofs.Refused.{fit}
 use Rattle.dataframe.proofs.RoundTrip.{Right as Taken, write-takes, writes, again}
-use Rattle.dataframe.proofs.Order.{due}
 use Rattle.datawriter.specs.declared.Written.{Written}
 use Rattle.datawriter.specs.Promises.{written_of}
 use Rattle.datacrc.specs.declared.Sixes.{Sixes as CrcSixes}

@@ -1,6 +1,5 @@
 -- No library whose operations channel messages are those of `Messages` is one of `RejectedMessages`. Assumes nothing.
 use mathlib.Core.Path.{◌≡◌, refl, sym, ap, ◌∙◌}
-use mathlib.Core.Bool.{not}
 use mathlib.Core.List.{List, [], ◌∷◌}
 use Prim.Native.Nat.{ℕ}
 use native.Mathlib.Omega.{arith}
@@ -9,17 +8,16 @@ use lib.ListN.{length, get_or, replicate}
 use Rattle.answer.specs.Answer.{answer}
 use Rattle.answer.proofs.Laws.{passed}
 use Rattle.eoc.specs.Message.{Message, Lawful, escaped, written, padded, contents_most, form_most}
-use Rattle.eoc.specs.Reading.{message_in}
 use Rattle.eoc.specs.Refusals.{form_refusals}
 use Rattle.eoc.proofs.RoundTrip.{reads-back}
 use Rattle.eocunits.specs.Units.{records_of, records_in, joined, count_taking, units_after, some_wide}
 use Rattle.demands.specs.Handed.{Outcome}
 use Rattle.demands.specs.HandedEoc.{EocWriteCall, EocReadCall, EocFields, EocUnitsCall}
 use Rattle.demands.specs.Library.{Library}
-use Rattle.demands.specs.Checks.{eoc_write_checks, eoc_read_checks, eoc_hand_up_checks}
+use Rattle.demands.specs.Checks.{eoc_write_checks, eoc_hand_up_checks}
 use Rattle.demands.specs.Frames.{Right}
 use Rattle.demands.specs.Messages.{message_of, Messages}
-use Rattle.demands.specs.WrongMessages.{OneForm, FormUnwritten, ContentsUnwritten, HandsAll, HandsNothing, RejectedMessages}
+use Rattle.demands.specs.WrongMessages.{RejectedMessages}
 
 -- a message of the LTU to the NTU without contents, with this number, into a room of this octet
 abbrev calling : ℕ → ℕ → EocWriteCall

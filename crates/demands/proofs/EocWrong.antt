@@ -1,5 +1,5 @@
 -- The libraries with wrong operations channel messages, built: ours with one other function, which meet demand 1. Assumes nothing.
-use mathlib.Core.Path.{◌≡◌, refl}
+use mathlib.Core.Path.{refl}
 use mathlib.Core.List.{List, ◌∷◌, map}
 use Prim.Native.Nat.{ℕ}
 use lib.ListN.{length, replicate}
@@ -10,7 +10,7 @@ use Rattle.eoc.specs.Reading.{message_in}
 use Rattle.eocunits.specs.Units.{held_for, own_of, records_in, joined}
 use Rattle.demands.specs.Handed.{Outcome}
 use Rattle.demands.specs.HandedEoc.{EocWriteCall, EocReadCall, EocFields, EocUnitsCall}
-use Rattle.demands.specs.One.{Answers, One}
+use Rattle.demands.specs.One.{One}
 use Rattle.demands.specs.Checks.{eoc_write_checks, eoc_hand_up_checks}
 use Rattle.demands.specs.Messages.{message_of}
 use Rattle.demands.specs.WrongMessages.{OneForm, FormUnwritten, ContentsUnwritten, HandsAll, HandsNothing}

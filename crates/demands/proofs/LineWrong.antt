@@ -2,7 +2,7 @@
 use mathlib.Core.Path.{◌≡◌, refl, sym, ap, ap₂, ◌∙◌}
 use mathlib.Core.Bool.{Bool, true, false, cond}
 use mathlib.Core.List.{List, [], ◌∷◌, ◌++◌}
-use Prim.Native.Nat.{ℕ, zero, suc, ◌+◌, ◌-◌, ◌≤◌}
+use Prim.Native.Nat.{ℕ, zero, suc, ◌+◌, ◌≤◌}
 use native.Mathlib.Omega.{arith}
 use borrow.Author.Tests.{eqb-true, ne_eqb}
 use lib.Dec.{eqb}
@@ -23,7 +23,7 @@ use Rattle.demands.specs.Checks.{receive_checks}
 use Rattle.demands.specs.Receiving.{LumpCall, call_of, outs_of}
 use Rattle.demands.specs.WrongReceivers.{NeverGives, FirstOnly, RoomUnwritten}
 use Rattle.demands.specs.NoStrawMan.{Built}
-use Rattle.demands.proofs.One.{answers, ordered, one}
+use Rattle.demands.proofs.One.{answers, ordered}
 use Rattle.demands.proofs.LineOurs.{receives-lump}
 use Rattle.demands.proofs.Ours.{ours}
 use Rattle.demands.proofs.Rebuilt.{ours-one, Parts, rebuilt, rebuilt-one, usual, usual-answer}

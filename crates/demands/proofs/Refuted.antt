@@ -1,7 +1,7 @@
 -- No supervisor that SCOPE rejects meets demand 3. Assumes nothing.
 use mathlib.Core.Path.{◌≡◌, refl, sym, ap, ◌∙◌, subst}
 use mathlib.Core.Bool.{true, false, true≢false}
-use mathlib.Core.Logic.{◌⊎◌, inl, ⊎_elim}
+use mathlib.Core.Logic.{inl, ⊎_elim}
 use mathlib.Core.List.{List, [], ◌∷◌, ◌++◌}
 use Prim.Native.Nat.{ℕ, suc, ◌≤◌}
 use native.Mathlib.Omega.{arith}
@@ -11,7 +11,7 @@ use Rattle.supervisor.specs.Names.{Hearing, Exception}
 use Rattle.supervisor.specs.Phases.{in_attempt}
 use Rattle.startup.specs.Reports.{count, need, shown}
 use Rattle.startup.specs.Attempts.{ltu_needs, ntu_needs, meant, InTime, StillOpen, EndsInData, fresh, counted, OpensAt, opens}
-use Rattle.startup.specs.Scan.{Attempt, attempt, Listed}
+use Rattle.startup.specs.Scan.{Attempt, Listed}
 use Rattle.startup.specs.Make.{Make, Ran, phase_at, reply_to, FirstShows, ran_over}
 use Rattle.startup.proofs.Counts.{in-order-le}
 use Rattle.startup.proofs.Fate.{open-now}

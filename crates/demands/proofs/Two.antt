@@ -6,7 +6,6 @@ use Prim.Native.Nat.{ℕ, ◌^◌, ◌≤◌, ◌<◌}
 use borrow.Author.Tests.{le-ltb, leb-false}
 use lib.Dec.{eqb, ltb}
 use lib.ListN.{drop}
-use Rattle.answer.specs.Answer.{answer}
 use Rattle.answer.proofs.Laws.{given as held-given, passed}
 use Rattle.octets.specs.Bits.{value_of, bits_of, octets_of, part, laid}
 use Rattle.octets.proofs.Digits.{Bits, nil-bits, cons-bits, take-bits, drop_bits}

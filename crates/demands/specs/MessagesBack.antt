@@ -2,7 +2,7 @@
 use Rattle.std.specs.Prelude.{◌≡◌, List, ℕ, length, take}
 use Rattle.eoc.specs.Message.{padded, contents_most, form_most}
 use Rattle.eocunits.specs.Units.{records_in, count_taking, units_after}
-use Rattle.demands.specs.HandedEoc.{EocWriteCall, EocReadCall, EocUnitsCall}
+use Rattle.demands.specs.HandedEoc.{EocWriteCall, EocReadCall}
 use Rattle.demands.specs.Library.{Library}
 use Rattle.demands.specs.Checks.{eoc_write_checks, eoc_read_checks}
 use Rattle.demands.specs.Frames.{Right, Octets, done}

@@ -1,7 +1,6 @@
 -- Demand 2's first sentence of symbol levels and precoded values, over libraries of any make: exactly those of ETSI TS 101 524-2 as SCOPE sets
 -- them out.
 use Rattle.std.specs.Prelude.{◌≡◌, true, List, ◌∷◌, ℕ, ◌≤◌, ℤ}
-use Rattle.answer.specs.Answer.{answer}
 use Rattle.numbers.specs.Promises.{numbers_of, number_octets}
 use Rattle.symbol.specs.Levels.{activation_levels, data_levels, level_at, activation_tests, data_tests}
 use Rattle.symbol.specs.Encoder.{code_of, codes_of, x1, sent_after, held_in, register_of}

@@ -3,7 +3,7 @@
 use Rattle.std.specs.Prelude.{◌≡◌, List, ◌∷◌, map, ℕ, length}
 use Rattle.eoc.specs.Reading.{message_in}
 use Rattle.eocunits.specs.Units.{held_for, own_of, records_in, joined}
-use Rattle.demands.specs.HandedEoc.{EocWriteCall, EocReadCall, EocUnitsCall}
+use Rattle.demands.specs.HandedEoc.{EocWriteCall, EocUnitsCall}
 use Rattle.demands.specs.Library.{Library}
 use Rattle.demands.specs.WrongLibraries.{Refuses, Unwritten}
 

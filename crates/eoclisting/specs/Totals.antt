@@ -1,5 +1,5 @@
 -- What is said behind the lines of messages: what was left out, and how many messages there were.
-use Rattle.std.specs.Prelude.{◌≡◌, cond, ◌&&◌, List, [], ◌∷◌, ◌++◌, ℕ, ◌-◌, eqb, ltb}
+use Rattle.std.specs.Prelude.{cond, ◌&&◌, List, [], ◌∷◌, ◌++◌, ℕ, ◌-◌, eqb, ltb}
 use Rattle.ascii.specs.Text.{text}
 use Rattle.ascii.specs.Promises.{Told}
 use Rattle.forms.specs.Forms.{formed, row_of}

@@ -2,17 +2,17 @@
 use mathlib.Core.Path.{◌≡◌, refl, sym, ap, ap₂, ◌∙◌, subst}
 use mathlib.Core.Bool.{Bool, true, false, not, ◌&&◌, ◌||◌, false≢true}
 use mathlib.Core.List.{List, [], ◌∷◌}
-use Prim.Native.Nat.{ℕ, ◌+◌, ◌-◌, ◌*◌, ◌/◌, ◌%◌, ◌^◌, ◌≤◌, ◌<◌}
+use Prim.Native.Nat.{ℕ, ◌-◌, ◌*◌, ◌/◌, ◌%◌, ◌^◌, ◌≤◌, ◌<◌}
 use native.Mathlib.Nat.{mod-eq_of_lt}
 use native.Mathlib.Decide.{dec_le}
 use native.Mathlib.Omega.{arith}
-use lib.Bits.{bit_xor, bit_and, and_mask, xor_add_and, xor_comm, and_comm}
+use lib.Bits.{bit_xor, bit_and, and_mask, xor_add_and, and_comm}
 use lib.Dec.{lit≤, eqb, ltb}
 use borrow.Author.Tests.{ltb-false, eqb-true}
 use lib.ListN.{length, take, drop}
 use lib.Seq.{take_all}
 use Rattle.octets.specs.Bits.{digits_of, value_of, bits_of, octets_of, part}
-use Rattle.octets.proofs.Digits.{digits-take, digits_value, value-digits, reverse_bits, digits-bits, digits-length, turned_lt}
+use Rattle.octets.proofs.Digits.{digits-take, value-digits, digits-bits, turned_lt}
 use Rattle.octets.proofs.Laws.{Octets, octets-length, bits-bits, bits-length}
 use Rattle.octets.specs.Promises.{WordRead}
 use Rattle.octets.proofs.Words.{octets-octets, octets-part, digits-drop, word-front}

@@ -1,5 +1,5 @@
 -- One result per call of the functions of data-mode frames. Assumes nothing.
-use mathlib.Core.Path.{◌≡◌, sym, ap, ◌∙◌}
+use mathlib.Core.Path.{◌≡◌, ap}
 use mathlib.Core.List.{List}
 use Prim.Native.Nat.{ℕ}
 use Rattle.datawriter.specs.declared.Written.{Written}

@@ -2,11 +2,8 @@
 -- the structs that cross.
 use Rattle.std.specs.Prelude.{List, ℕ}
 use Rattle.dataframe.specs.declared.Overhead.{Overhead}
-use Rattle.datawriter.specs.declared.Written.{Written}
 use Rattle.datawriter.specs.Promises.{DataWritten}
-use Rattle.datacrc.specs.declared.Sixes.{Sixes}
 use Rattle.datacrc.specs.Promises.{CrcGiven}
-use Rattle.datareader.specs.declared.Found.{Found}
 use Rattle.datareader.specs.Promises.{DataRead}
 use Rattle.host.specs.declared.data.DataOverhead.{DataOverhead}
 use Rattle.host.specs.declared.data.DataSent.{DataSent}

@@ -1,6 +1,7 @@
 // The frame lister (SCOPE, "The bench listing"): `lister [--status] [FILE]`. The listing and the words beside it are those of crate listing;
 // here a file is only read, and they are written.
 #![tactic(auto)]
+
 ghost use Rattle.std.specs.Prelude.{◌≤◌, ◌≡◌, length, IfOk};
 
 use std::io;

@@ -1,5 +1,6 @@
 // The channel precoder and its inverse (000, clause 4.3.4), in runs of symbols. All values are in steps of 1/131,072.
 #![tactic(auto)]
+
 ghost use Rattle.std.specs.Prelude.{◌≡◌, true, ◌%◌, ◌*◌, ◌^◌, ◌≤◌, pos, neg_ℤ, nat_abs, ◌+ℤ◌, ◌*ℤ◌, length};
 ghost use Rattle.numbers.specs.Promises.{number_length, numbers_of};
 ghost use Rattle.ranges.specs.Ranges.{coefficient_count, between, is_coefficient, every};

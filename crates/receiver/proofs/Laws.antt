@@ -12,7 +12,7 @@ use lib.Dec.{eqb, leb}
 use lib.ListN.{length, take, drop, replicate, length-append, length-drop, length-replicate, replicate-append-replicate}
 use lib.Seq.{length-take-le, take_all, drop_at, sets, sets-eq}
 use Rattle.answer.specs.Answer.{answer}
-use Rattle.answer.proofs.Laws.{kept, given, passed}
+use Rattle.answer.proofs.Laws.{given, passed}
 use Rattle.octets.specs.Bits.{digits_of, value_of, bits_of, octets_of, part, laid}
 use Rattle.octets.proofs.Digits.{append_bits, take-bits, drop_bits, zeros-bits, zeros-value, digits-take, value-digits, turned_lt}
 use Rattle.octets.proofs.Laws.{Octets, bits-length, bits-bits, bits-part, bits-octets, octets-length, laid_next}

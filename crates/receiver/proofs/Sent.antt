@@ -1,7 +1,7 @@
 -- What was sent is there: a frame that checks with 0, scrambled behind bits whose last 23 are the sender's state, lies at its place and comes out as
 -- it was; and frames sent on end are all given. Assumes nothing.
 use mathlib.Core.Path.{◌≡◌, refl, sym, ap, ap₂, subst, ◌∙◌}
-use mathlib.Core.Bool.{true, false, not, ◌||◌, ◌&&◌, false≢true}
+use mathlib.Core.Bool.{true, not, ◌||◌, ◌&&◌, false≢true}
 use mathlib.Core.List.{List, [], ◌∷◌, ◌++◌, append_assoc, append-nil, reverse, reverse-append}
 use Prim.Native.Nat.{ℕ, suc, ◌+◌, ◌-◌, ◌*◌, ◌^◌, ◌≤◌, ◌<◌}
 use native.Mathlib.Decide.{dec_le}

@@ -1,6 +1,7 @@
 // The text of a story, by phrases (crate phrases), put into a lent room: what would lie past the room's end is left out, and how much of
 // the room is taken comes back. A phrase is told by its row in the tables of words, and its number. specs/ defines the text.
 #![tactic(auto)]
+
 ghost use Rattle.std.specs.Prelude.{◌≡◌, cond, not, ◌&&◌, ◌||◌, ◌++◌, ◌+◌, ◌-◌, eqb, ltb};
 ghost use Rattle.ascii.specs.Text.{text};
 ghost use Rattle.ascii.specs.Promises.{Put};

@@ -1,9 +1,5 @@
 -- `datacrc::carried` meets its contract.
 use Rattle.datacrc.proofs.Laws.{carried-is}
-use Rattle.datacrc.proofs.carried.Reads as reads
-use Rattle.datacrc.proofs.carried.Lts as lts
-use Rattle.bitfields.proofs.turned.Reads as turned-reads
-use Rattle.datacrc.proofs.pair.Reads as Pair-reads
 use Rattle.datacrc.proofs.carried.Goals as goal
 
 -- src/lib.rt:59:1

@@ -1,8 +1,5 @@
 -- `datacrc::due` meets its contract.
 use Rattle.datacrc.proofs.Laws.{due-is}
-use Rattle.datacrc.proofs.due.Reads as reads
-use Rattle.datacrc.proofs.due.Lts as lts
-use Rattle.datacrc.proofs.left.Reads as left-reads
 use Rattle.datacrc.proofs.due.Goals as goal
 
 -- src/lib.rt:38:1

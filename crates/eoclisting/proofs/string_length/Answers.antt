@@ -1,6 +1,5 @@
 -- `eoclisting::string_length` meets its contract. What was found so far and what is found from place k on are the string's length.
 use mathlib.Core.Path.{sym, ◌∙◌}
-use Prim.Native.Nat.{◌-◌}
 use native.Mathlib.Omega.{arith}
 use Rattle.eoclisting.proofs.Laws.{length-first, length-stop, length-end, length_over, length-blank}
 use Rattle.eoclisting.proofs.string_length.Goals as goal

@@ -1,6 +1,5 @@
 -- `receiver::first_in` meets its contract: no sync word begins at a digit before j.
 use mathlib.Core.Path.{◌≡◌, sym, ap, ◌∙◌}
-use Prim.Native.Nat.{◌-◌}
 use native.Mathlib.Omega.{arith}
 use Rattle.octets.proofs.Digits.{rest-next}
 use Rattle.receiver.specs.Search.{sync_in, sync_from}

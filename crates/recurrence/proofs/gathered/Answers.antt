@@ -1,6 +1,6 @@
 -- `recurrence::gathered` meets its contract. The spread of the word so far is u with its bits k back added.
 use mathlib.Core.List.{[], ◌∷◌}
-use Prim.Native.Nat.{◌-◌, ◌^◌, ◌<◌}
+use Prim.Native.Nat.{◌^◌, ◌<◌}
 use native.Mathlib.Omega.{arith}
 use Rattle.octets.proofs.Sums.{doubled, coded-lt}
 use Rattle.recurrence.proofs.Block.{begun, gathering, done}

@@ -1,8 +1,6 @@
 -- `receiver::Receiver::receive` meets its contract.
-use mathlib.Core.Path.{◌≡◌, refl, sym, ◌∙◌}
-use Prim.Native.Nat.{◌+◌, ◌*◌, ◌≤◌}
+use mathlib.Core.Path.{refl, sym, ◌∙◌}
 use native.Mathlib.Omega.{arith}
-use lib.ListN.{length}
 use Rattle.receiver.proofs.Cut.{call-sound}
 use Rattle.receiver.proofs.Call.{refused-call, done-call, room-length, is_found, place-there, room-is, line-is}
 use Rattle.receiver.proofs.Receiver.receive.Goals as goal
@@ -31,8 +29,7 @@ first-at-requires c =
     let a = c.args in
     let none = sym c.refusal-n.ensures ∙ c.if-n-ne-DONE.false in
     let w = call-sound a.self a.line.now a.lump.now a.bits a.frame.now none in
-    let e = c.begin-start.ensures in
-    (
+    let e = c.begin-start.ensures in (
       w.3,
       omega (arith, e),
       omega (arith, e),
@@ -44,8 +41,7 @@ pub received-requires : goal.received-requires
 received-requires c =
     let a = c.args in
     let none = sym c.refusal-n.ensures ∙ c.if-n-ne-DONE.false in
-    let w = call-sound a.self a.line.now a.lump.now a.bits a.frame.now none in
-    (
+    let w = call-sound a.self a.line.now a.lump.now a.bits a.frame.now none in (
       place-there a.self a.line.now a.lump.now a.bits a.frame.now c.join.new.room none c.join.ensures c.begin-start.result
           c.first-at.result c.begin-start.ensures c.first-at.ensures.0,
       w.4,
