@@ -53,7 +53,7 @@ build/pair: $(wildcard $(PAIR)/*.c $(PAIR)/*.h) include/sdsl.h build/libsdsl.a
 # Crate checktrial, for tests and the benchmark: check bits and check sequence alone, which sdsl.h does not have.
 build/libchecktrial.a: $(SOURCES)
 	@mkdir -p build
-	@cd crates/checktrial && sh ../../tools/turns rt lib > ../../build/checktrial.log 2>&1 || { cat ../../build/checktrial.log >&2; exit 1; }
+	@cd crates/checktrial && sh ../../tools/turns rt lib --cpu x86-64 > ../../build/checktrial.log 2>&1 || { cat ../../build/checktrial.log >&2; exit 1; }
 	@cp crates/checktrial/out/libchecktrial.a $@
 
 bench: build/bench

@@ -67,7 +67,7 @@ def refused(log, crate, function):
     own = [text for path, text in ERROR.findall(log) if path in files(function)]
     if any(not NAMELESS.search(text) and not ELSEWHERE.search(text) for text in own):
         return function.startswith("proofs/") or bool(re.search(rf"^fn {crate}::{function}: (not proved|no proof)", log, re.M))
-    return bool(re.search(rf"^fn {crate}::{function}: (not proved|no proof).*`search` did not prove", log, re.M))
+    return not own and bool(re.search(rf"^fn {crate}::{function}: (not proved|no proof).*`search` did not prove", log, re.M))
 
 
 def unread(log, crate, functions):

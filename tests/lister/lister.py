@@ -170,6 +170,10 @@ command = [os.path.abspath(a) if os.path.exists(a) else a for a in sys.argv[1:]]
 got = subprocess.run(command + ["--", "-card"], cwd=folder.name, capture_output=True)
 compare("a name that begins with - behind --", (got.returncode, got.stdout, got.stderr), text, "")
 compare("no such file", run(b"", folder.name + "/none"), "", f"lister: {folder.name}/none: No such file or directory\n")
+odd = os.fsencode(folder.name) + b"/\xff\xfe"
+pathlib.Path(os.fsdecode(odd)).write_bytes(good)
+got = run(b"", odd)
+report("a name that is no text in UTF-8", got == (0, b"", b"lister: " + odd + b": Invalid or incomplete multibyte or wide character\n"))
 compare("a folder by name", run(b"", folder.name), "", f"lister: {folder.name}: Is a directory\n")
 opened = os.open(folder.name, os.O_RDONLY)
 got = subprocess.run(sys.argv[1:], stdin=opened, capture_output=True)

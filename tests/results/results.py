@@ -2,7 +2,8 @@
 
 A public function is reached by another crate, or exported and called by a test in C. `results.py --callers` lists by which. The exports of
 crate host_c are the functions of crate host for C, each with the same contract (tests/contracts): they have no rows of their own. Nor have
-those of crate outside: what it gives comes from the system, and no contract can say what that is. Only programs may use it.
+the nine of crate outside, by name: what they give comes from the system, and no contract can say what that is. Five of them hand on all that
+they do and have no ensures either. Only programs may use them.
 """
 import pathlib
 import re
@@ -11,6 +12,8 @@ import sys
 ROOT = pathlib.Path(__file__).resolve().parents[2]
 EXPORTS = "host_c"
 OUTSIDE = "outside"
+HANDED_ON = {f"{OUTSIDE}::{name}" for name in ("arg_count", "open", "complain", "fail", "tell_status")}
+OF_THE_SYSTEM = HANDED_ON | {f"{OUTSIDE}::{name}" for name in ("buffer", "arg", "word", "read_full")}
 wrong = []
 
 
@@ -86,10 +89,10 @@ for line in (ROOT / "crates.txt").read_text().splitlines():
 for name, contract in found.items():
     if re.search(r"\brequires\*?\b", contract):
         wrong.append(f"{name} has a requires")
-    if name.startswith(OUTSIDE + "::"):
-        continue
-    if not re.search(r"\bensures\b", contract):
+    if name not in HANDED_ON and not re.search(r"\bensures\b", contract):
         wrong.append(f"{name} has no ensures")
+    if name in OF_THE_SYSTEM:
+        continue
     if name not in rows:
         wrong.append(f"{name} has no row")
         continue
