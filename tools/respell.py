@@ -1,5 +1,5 @@
 #!/usr/bin/env python3
-"""Brings the repository's own names in antt to today's spelling, once, after /opt/rattle/port/port.py: words in snake case.
+"""Brings the repository's own names in antt to today's spelling, once, after the kit's port.py: words in snake case.
 
 - A definition, lemma, field or variable in camel case becomes snake case: `inOrder` is `in_order`, `digitsOf-length` is `digits_of-length`.
 - A name that specs/ declares with dashes becomes snake case: the field `run-codes` is `run_codes`. In a lemma's name a dash joins two names, and stays.

@@ -92,8 +92,10 @@ def renamed(log, function):
     """The names that rt made of the right code in this function's proof and that the wrong code has not, each with the one that it has."""
     found = {}
     for path, text in ERROR.findall(log):
-        if path in files(function) and (m := re.search(r"has no field `if-(\S+)` \(nearest: \.if-([^\s,)]+)", text)):
-            found[m[1]] = m[2]
+        if path not in files(function):
+            continue
+        for m in re.finditer(r"has no field `if-(\S+)` \(nearest: \.if-([^\s,)]+)|has no `(?:then|else)-(\S+)` .*?begin alike: `(?:then|else)-([^`]+)`", text):
+            found[m[1] or m[3]] = m[2] or m[4]
     return found
 
 
@@ -131,7 +133,8 @@ class Copy:
             texts[path] = text.replace(old, new)
         away = [folder / path for f in only for path in files(f) if bare and "Invariants" not in path and (folder / path).exists()]
         for path in [path for f in only for path in files(f) if names and (folder / path).exists()]:
-            texts[path] = re.sub("|".join(map(re.escape, sorted(names, key=len, reverse=True))), lambda m: names[m[0]], texts.get(path) or (folder / path).read_text())
+            said = "|".join(map(re.escape, sorted(names, key=len, reverse=True)))
+            texts[path] = re.sub(rf"(?<!\w)(if|then|else)-({said})(?!\w)", lambda m: f"{m[1]}-{names[m[2]]}", texts.get(path) or (folder / path).read_text())
         try:
             for path, text in texts.items():
                 (folder / path).write_text(text)
