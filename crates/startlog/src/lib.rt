@@ -3,7 +3,7 @@
 
 ghost use Rattle.std.specs.Prelude.{◌≡◌, cond, ◌+◌, ◌-◌, ◌*◌, ◌≤◌, leb};
 ghost use Rattle.startlog.specs.Lines.{most_ticks, counted, one_code, said, line_of, end_of};
-ghost use Rattle.startlog.specs.Lines.{line as lineWith};
+ghost use Rattle.startlog.specs.Lines.{line as line_with};
 
 // What a line says. With any answer but 0 the other numbers are 0.
 #[derive(Drop)]
@@ -37,7 +37,7 @@ impl Line {
 
     // What a line says, from its three numbers.
     fn with(answer: u32, code: u32, times: u32) -> Line
-        ensures { result ≡ lineWith answer code times }
+        ensures { result ≡ line_with answer code times }
     {
         Line {
             answer,

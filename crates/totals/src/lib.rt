@@ -7,7 +7,7 @@ ghost use Rattle.forms.specs.Forms.{row_of};
 ghost use Rattle.card.specs.Words.{row_of_rank, refused_row};
 ghost use Rattle.ascii.specs.Promises.{Put};
 ghost use Rattle.card.specs.Ranks.{verdicts};
-ghost use Rattle.totals.specs.Totals.{how_many, fine as fineOf, written as written_of, words, fine_text, first_line};
+ghost use Rattle.totals.specs.Totals.{how_many, fine as fine_of, written as written_of, words, fine_text, first_line};
 ghost use Rattle.totals.specs.Totals.{verdict_line, verdict_lines, all_fine, last_line};
 ghost use Rattle.totals.specs.Promises.{Totalled, IsStatus};
 
@@ -45,7 +45,7 @@ fn how_many(xs: &[u32], x: u32) -> usize
 
 // The verdict of a card that is fine.
 fn fine(given: bool) -> u32
-    ensures { result ≡ fineOf given }
+    ensures { result ≡ fine_of given }
 {
     if given { card::MATCHING } else { card::GOOD }
 }
