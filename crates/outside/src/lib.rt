@@ -103,6 +103,7 @@ struct Words {
 }
 
 impl Words {
+    // One octet more, where there is room for it.
     fn push(&mut self, octet: u8) {
         let n = self.count;
         if n < 256 {
@@ -113,6 +114,7 @@ impl Words {
 }
 
 impl fmt::Write for Words {
+    // All octets of a text, as far as there is room.
     fn write_str(&mut self, s: &str) -> fmt::Result {
         for octet in s.as_bytes() {
             self.push(*octet);
