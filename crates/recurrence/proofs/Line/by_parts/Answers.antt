@@ -1,4 +1,4 @@
--- `recurrence::by_parts` meets its contract. The bits before the one k places behind are gone.
+-- `recurrence::Line::by_parts` meets its contract. The bits before the one k places behind are gone.
 use mathlib.Core.Path.{◌≡◌, ap, subst, ◌∙◌}
 use Prim.Native.Nat.{ℕ, ◌+◌, ◌-◌, ◌*◌, ◌/◌, ◌%◌, ◌^◌, ◌≤◌, min}
 use native.Mathlib.Omega.{arith}
@@ -6,10 +6,9 @@ use lib.ListN.{length}
 use Rattle.octets.specs.Bits.{digits_of, value_of, bits_of, part, laid}
 use Rattle.octets.proofs.Laws.{laid-length}
 use Rattle.octets.proofs.Words.{field-digits}
-use Rattle.recurrence.specs.Run.{way_of}
 use Rattle.recurrence.specs.Window.{Gone}
 use Rattle.recurrence.proofs.Block.{gone-none, gone-word, gone-join}
-use Rattle.recurrence.proofs.by_parts.Goals as goal
+use Rattle.recurrence.proofs.Line.by_parts.Goals as goal
 
 pub loop-k-init : goal.loop-k-init
 loop-k-init c =
@@ -18,41 +17,40 @@ loop-k-init c =
     let e : 0 ≡ a.from - a.from = omega arith in (
       omega arith,
       omega arith,
-      subst (λ (n : ℕ). Gone (way_of a.back) a.tap a.start (part p n (bits_of a.input.now)) a.output.now p a.start a.output.now) e
-          (gone-none (way_of a.back) a.tap a.start a.output.now p c.requires.2 (λ i. omega (arith, c.slice_known-1.given i))),
+      subst (λ (n : ℕ). Gone a.self.way a.self.tap a.start (part p n (bits_of a.input.now)) a.output.now p a.start a.output.now) e
+          (gone-none a.self.way a.self.tap a.start a.output.now p c.requires.0 (λ i. omega (arith, c.slice_known-1.given i))),
     )
 
 pub overflow_sub-bits : goal.overflow_sub-bits
 overflow_sub-bits c = omega arith
 
 pub word_out-out-requires : goal.word_out-out-requires
-word_out-out-requires c =
-    (c.requires.0, c.requires.1, c.loop-k.invariant.2.0)
+word_out-out-requires c = c.loop-k.invariant.2.0
 
 pub later-window-requires : goal.later-window-requires
 later-window-requires c =
-    (c.loop-k.invariant.2.0, omega (arith, c.shorter-n.ensures))
+    (c.loop-k.invariant.2.0, omega (arith, c.min-n.ensures))
 
 pub overflow_add-k : goal.overflow_add-k
-overflow_add-k c = omega (arith, c.shorter-n.ensures)
+overflow_add-k c = omega (arith, c.min-n.ensures)
 
 pub loop-k-smaller : goal.loop-k-smaller
-loop-k-smaller c = omega (arith, c.shorter-n.ensures)
+loop-k-smaller c = omega (arith, c.min-n.ensures)
 
 pub loop-k-preserved : goal.loop-k-preserved
 loop-k-preserved c =
     let l = c.loop-k in
     let a = c.args in
-    let n = c.shorter-n.result in
+    let n = c.min-n.result in
     let s = a.input.now in
     let p = a.at + a.from in
     let q = l.k + a.at in
-    let le : n ≤ a.bits - l.k = omega (arith, c.shorter-n.ensures) in
-    let few : min n 56 ≡ n = omega (arith, c.shorter-n.ensures) in
+    let le : n ≤ a.bits - l.k = omega (arith, c.min-n.ensures) in
+    let few : min n 56 ≡ n = omega (arith, c.min-n.ensures) in
     let e : l.k - a.from + n ≡ l.k + n - a.from = omega arith in
     let f : p + (l.k - a.from) ≡ q = omega arith in
     let h : p + (l.k - a.from) ≤ 8 * length s = omega arith in
-    let way = way_of a.back in
+    let way = a.self.way in
     let f-is = c.bits-f in
     let out = c.word_out-out in
     let put = c.put_bits in
@@ -60,11 +58,11 @@ loop-k-preserved c =
     let digits : digits_of n f-is.result ≡ part q n (bits_of s) = ap (digits_of n) at-q ∙ field-digits s q n (omega arith) in (
       omega arith,
       omega arith,
-      gone-join way a.tap s p (l.k - a.from) n (l.k + n - a.from) q a.start l.window c.later-window.result a.output.now l.output
+      gone-join way a.self.tap s p (l.k - a.from) n (l.k + n - a.from) q a.start l.window c.later-window.result a.output.now l.output
           put.new.s e h f l.invariant.2
-          (gone-word way a.tap l.window n f-is.result out.result c.later-window.result q (part q n (bits_of s)) l.output put.new.s
-          (out.ensures n (omega (arith, c.shorter-n.ensures)))
-          (c.later-window.ensures ∙ ap (λ (x : ℕ). (x * 2 ^ 23 + l.window) / 2 ^ n % 2 ^ 23) c.on_line-line.ensures)
+          (gone-word way a.self.tap l.window n f-is.result out.result c.later-window.result q (part q n (bits_of s)) l.output put.new.s
+          (out.ensures n (omega (arith, c.min-n.ensures)))
+          (c.later-window.ensures ∙ ap (λ (x : ℕ). (x * 2 ^ 23 + l.window) / 2 ^ n % 2 ^ 23) c.on_line.ensures)
           digits (put.ensures ∙ ap (λ (m : ℕ). laid l.output q (digits_of m out.result)) few)),
     )
 
@@ -77,4 +75,4 @@ returns c =
     let l = c.loop-k in
     let p = a.at + a.from in
     let e : l.k - a.from ≡ a.bits - a.from = omega arith in
-    subst (λ (n : ℕ). Gone (way_of a.back) a.tap a.start (part p n (bits_of a.input.now)) a.output.now p l.window l.output) e l.invariant.2
+    subst (λ (n : ℕ). Gone a.self.way a.self.tap a.start (part p n (bits_of a.input.now)) a.output.now p l.window l.output) e l.invariant.2
