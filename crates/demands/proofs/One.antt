@@ -35,7 +35,8 @@ use Rattle.datacrc.specs.declared.Sixes.{Sixes}
 use Rattle.datacrc.specs.Promises.{crc_of}
 use Rattle.datareader.specs.declared.Found.{Found as DataFound}
 use Rattle.datareader.specs.Promises.{found_of as data_found_of, no_overhead}
-use Rattle.recurrence.specs.Run.{Way, scramble, descramble}
+use Rattle.recurrence.specs.declared.Way.{Way}
+use Rattle.recurrence.specs.declared.Way.TheVariants.{Scramble as scramble, Descramble as descramble}
 use Rattle.scrambler.proofs.One.{step-order as bit-order, run-order as scrambler-order, frame-order}
 use Rattle.symbol.specs.declared.Encoder.{Encoder}
 use Rattle.symbol.specs.Levels.{activation_tests, data_tests, back_tests}

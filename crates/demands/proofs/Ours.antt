@@ -15,7 +15,8 @@ use Rattle.checker.proofs.Laws.{checked}
 use Rattle.reader.specs.Promises.{found_of, vendor_octets, reserved_left}
 use Rattle.scrambler.specs.Ends.{tap_of}
 use Rattle.scrambler.specs.Promises.{given, clocked, around}
-use Rattle.recurrence.specs.Run.{scramble, descramble, out_of, next_of, run_of, after_of}
+use Rattle.recurrence.specs.Run.{out_of, next_of, run_of, after_of}
+use Rattle.recurrence.specs.declared.Way.TheVariants.{Scramble as scramble, Descramble as descramble}
 use Rattle.symbol.specs.Levels.{activation_levels, data_levels, level_at, place_in, activation_tests, data_tests, back_tests}
 use Rattle.symbol.specs.Encoder.{code_of, codes_of, x1, sent_after, held_in, register_of, with_register}
 use Rattle.samples.specs.Samples.{is_signal, at_start}

@@ -4,7 +4,7 @@ use mathlib.Core.List.{List}
 use Prim.Native.Nat.{ℕ}
 use Rattle.answer.specs.Answer.{answer, held}
 use Rattle.answer.proofs.Laws.{kept}
-use Rattle.recurrence.specs.Run.{Way}
+use Rattle.recurrence.specs.declared.Way.{Way}
 use Rattle.supervisor.specs.declared.Supervisor.{Supervisor as State}
 use Rattle.datareader.specs.Promises.{no_overhead}
 use Rattle.host.specs.declared.data.DataOverhead.{DataOverhead}

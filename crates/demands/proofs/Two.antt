@@ -16,7 +16,9 @@ use Rattle.numbers.specs.Promises.{numbers_of, number_octets}
 use Rattle.scrambler.specs.Ends.{tap_of}
 use Rattle.scrambler.specs.Promises.{given, clocked, around, frame_out}
 use Rattle.recurrence.specs.Line.{Scrambles, Descrambles, newest}
-use Rattle.recurrence.specs.Run.{Way, scramble, descramble, out_of, next_of, run_of, after_of}
+use Rattle.recurrence.specs.Run.{out_of, next_of, run_of, after_of}
+use Rattle.recurrence.specs.declared.Way.{Way}
+use Rattle.recurrence.specs.declared.Way.TheVariants.{Scramble as scramble, Descramble as descramble}
 use Rattle.scrambler.specs.declared.Scrambler.{Scrambler}
 use Rattle.scrambler.proofs.Laws.{tap-range, run_sound, frame-sound}
 use Rattle.scrambler.proofs.Frames.{frame_back}

@@ -25,7 +25,9 @@ use Rattle.host.specs.Frames.{FrameRead, frame_read_refusals}
 use Rattle.host.specs.Symbols.{ActivationLevelGiven, DataLevelGiven, CodeGiven, EncoderStarted, SymbolEncoded, SymbolsEncoded}
 use Rattle.host.specs.Symbols.{HistoryStarted, SampleShaped, as_level, encoder}
 use Rattle.host.specs.Supervising.{Started, StateStepped, CodesRun}
-use Rattle.recurrence.specs.Run.{Way, scramble, descramble, after_of}
+use Rattle.recurrence.specs.Run.{after_of}
+use Rattle.recurrence.specs.declared.Way.{Way}
+use Rattle.recurrence.specs.declared.Way.TheVariants.{Scramble as scramble, Descramble as descramble}
 use Rattle.scrambler.specs.Ends.{tap_of}
 use Rattle.scrambler.specs.Promises.{clocked, frame_out}
 use Rattle.host.specs.Sending.{frame_send_refusals, FrameSent}

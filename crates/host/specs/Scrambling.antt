@@ -2,7 +2,8 @@
 use Rattle.std.specs.Prelude.{◌≡◌, List, ℕ}
 use Rattle.scrambler.specs.declared.Ran.{Ran}
 use Rattle.scrambler.specs.declared.Step.{Step}
-use Rattle.recurrence.specs.Run.{Way, descramble}
+use Rattle.recurrence.specs.declared.Way.{Way}
+use Rattle.recurrence.specs.declared.Way.TheVariants.{Descramble as descramble}
 use Rattle.scrambler.specs.Promises.{StartPromise, StepPromise, RunPromise, FramePromise}
 use Rattle.host.specs.declared.scrambling.Scrambled.{Scrambled}
 use Rattle.host.specs.declared.scrambling.ScrambledBit.{ScrambledBit}

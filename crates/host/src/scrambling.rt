@@ -1,5 +1,5 @@
 // The scrambler for C: the answer and the next state together; a refused call hands the state back equal.
-ghost use Rattle.recurrence.specs.Run.{scramble, descramble};
+ghost use Rattle.recurrence.specs.declared.Way.TheVariants.{Scramble as scramble, Descramble as descramble};
 ghost use Rattle.host.specs.Scrambling.{ScramblerStarted, BitScrambled, ScrambledRun, FrameDescrambled};
 
 use scrambler::Scrambler;

@@ -21,7 +21,8 @@ use Rattle.octets.proofs.Words.{digits-drop, drop-take, field-digits, octets-oct
 use Rattle.octets.proofs.Whole.{drop_all, laid-octets}
 use Rattle.layout.specs.Frame.{training_sync, final_sync}
 use Rattle.layout.specs.Refusals.{check_refusals}
-use Rattle.recurrence.specs.Run.{descramble, run_of}
+use Rattle.recurrence.specs.Run.{run_of}
+use Rattle.recurrence.specs.declared.Way.TheVariants.{Descramble as descramble}
 use Rattle.recurrence.proofs.Laws.{run-bits}
 use Rattle.scrambler.specs.Ends.{tap_of}
 use Rattle.scrambler.specs.Promises.{frame_refusals, clocked, frame_out, FramePromise}

@@ -11,7 +11,8 @@ use Rattle.answer.specs.declared.Refused.{Refused}
 use Rattle.answer.proofs.Laws.{passed}
 use Rattle.answer.proofs.Given.{refused-number}
 use Rattle.octets.specs.Bits.{bits_of, part, laid}
-use Rattle.recurrence.specs.Run.{Way, run_of, after_of}
+use Rattle.recurrence.specs.Run.{run_of, after_of}
+use Rattle.recurrence.specs.declared.Way.{Way}
 use Rattle.recurrence.specs.Promises.{run_refusals, RunPromise}
 
 module _ (tap state : ℕ) (input : List ℕ) (at bits : ℕ) where

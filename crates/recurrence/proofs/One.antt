@@ -8,7 +8,8 @@ use Rattle.answer.specs.Answer.{held, in_order}
 use Rattle.answer.specs.declared.Refused.{Refused}
 use Rattle.answer.proofs.Given.{value-one}
 use Rattle.octets.specs.Bits.{bits_of, part, laid}
-use Rattle.recurrence.specs.Run.{Way, run_of}
+use Rattle.recurrence.specs.Run.{run_of}
+use Rattle.recurrence.specs.declared.Way.{Way}
 use Rattle.recurrence.specs.Promises.{step_refusals, StepPromise, run_refusals, RunPromise}
 use Rattle.recurrence.specs.declared.Stepped.{Stepped}
 

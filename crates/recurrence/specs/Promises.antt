@@ -4,7 +4,8 @@ use Rattle.answer.specs.Answer.{Refusal, refuse, answer, held}
 use Rattle.answer.specs.Given.{answer_of}
 use Rattle.answer.specs.declared.Refused.{Refused}
 use Rattle.octets.specs.Bits.{bits_of, part, laid}
-use Rattle.recurrence.specs.Run.{Way, out_of, next_of, run_of, after_of}
+use Rattle.recurrence.specs.Run.{out_of, next_of, run_of, after_of}
+use Rattle.recurrence.specs.declared.Way.{Way}
 use Rattle.recurrence.specs.declared.Stepped.{Stepped}
 
 -- a state of 2^23 or more is 4

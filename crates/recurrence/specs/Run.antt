@@ -1,9 +1,8 @@
 -- The same, computed bit by bit (theorems `run-scrambles` and `scrambles-run`: it is the recurrence of Line.antt, and nothing else is).
 use Rattle.std.specs.Prelude.{List, [], ◌∷◌, ℕ, ◌+◌, ◌-◌, ◌*◌, ◌/◌, ◌%◌, ◌^◌}
 use Rattle.recurrence.specs.Line.{sum3}
--- the two directions, as the code names them
-pub use Rattle.recurrence.specs.declared.Way.{Way}
-pub use Rattle.recurrence.specs.declared.Way.TheVariants.{Scramble as scramble, Descramble as descramble}
+use Rattle.recurrence.specs.declared.Way.{Way}
+use Rattle.recurrence.specs.declared.Way.TheVariants.{Scramble as scramble, Descramble as descramble}
 
 -- the bit that comes out for a bit b: b and the two bits of the line that lie tap and 23 back
 abbrev pub out_of : ℕ → ℕ → ℕ → ℕ

@@ -3,7 +3,8 @@ use mathlib.Core.Path.{sym, subst}
 use Prim.Native.Nat.{ℕ, ◌-◌, ◌/◌, ◌^◌, ◌≤◌}
 use native.Mathlib.Omega.{arith}
 use lib.Bits.{bit_xor}
-use Rattle.recurrence.specs.Run.{Way, descramble}
+use Rattle.recurrence.specs.declared.Way.{Way}
+use Rattle.recurrence.specs.declared.Way.TheVariants.{Descramble as descramble}
 use Rattle.recurrence.specs.Window.{Out}
 use Rattle.recurrence.proofs.Block.{word_back, word-forth}
 use Rattle.recurrence.proofs.Line.word_out.Goals as goal
