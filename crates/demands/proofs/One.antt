@@ -61,12 +61,11 @@ use Rattle.host.specs.declared.supervising.Run.{Run}
 use Rattle.host.specs.Supervising.{state_in, state_of, run_fields_of}
 use Rattle.host.specs.Frames.{fields_of}
 use Rattle.host.specs.Data.{overhead_of, overhead_for}
-use Rattle.host.specs.Scrambling.{crossing, bit_crossing}
 use Rattle.host.specs.Symbols.{encoder}
 use Rattle.host.proofs.One.{frame-send-order, frame-read-order, history-start-order}
 use Rattle.demands.specs.Handed.{Outcome, None, none}
 use Rattle.demands.specs.HandedData.{DataWriteCall, DataCrcCall, DataReadCall}
-use Rattle.receiver.specs.declared.Received.{Received as Got}
+use Rattle.receiver.specs.Promises.{Got}
 use Rattle.receiver.proofs.One.{receive-order}
 use Rattle.receiver.proofs.Cut.{answer-is, refused-is}
 use Rattle.host.specs.Receiving.{receiver_in}
@@ -362,24 +361,22 @@ module _ (x : Library) (k : Keeps x) where
 
   bit_is : (way : Way) → Answers (x.bit way) bit_checks (λ c. c.state) 0
   bit_is way =
-      answers ordered.bit (λ c. ap (λ (r : ScrambledBit). r.answer) ((k.bit way c refl).crossed ∙ ap bit_crossing (k.bit way c refl).promise))
+      answers ordered.bit (λ c. ap (λ (r : ScrambledBit). r.answer) (k.bit way c refl))
       (λ c h.
-      let e = (k.bit way c refl).crossed ∙ ap bit_crossing (k.bit way c refl).promise in
+      let e = k.bit way c refl in
       ap (λ (r : ScrambledBit). r.bit) e ∙ kept _ _ _ (other (ap (λ (r : ScrambledBit). r.answer) e) h))
       (λ c h.
-      let e = (k.bit way c refl).crossed ∙ ap bit_crossing (k.bit way c refl).promise in
+      let e = k.bit way c refl in
       ap (λ (r : ScrambledBit). r.state) e ∙ kept _ _ _ (other (ap (λ (r : ScrambledBit). r.answer) e) h))
 
   run_is : (way : Way) → Answers (x.run way) run_checks (λ c. record { state = c.state; output = c.output }) none
   run_is way =
       answers ordered.run
-      (λ c. ap (λ (r : Scrambled). r.answer) (k.run way c refl).crossed ∙ (k.run way c refl).promise.answered) (λ c h. only _)
+      (λ c. (k.run way c refl).answered) (λ c h. only _)
       (λ c h.
       let w = k.run way c refl in
-      let e : (x.run way c).answer ≡ w.ran.answer = ap (λ (r : Scrambled). r.answer) w.crossed in
-      let s : (x.run way c).memory.state ≡ c.state =
-      ap (λ (r : Scrambled). r.state) w.crossed ∙ ap (λ (y : _). y.state) w.promise.next ∙ kept w.ran.answer _ _ (other e h) in
-      let o : (x.run way c).memory.output ≡ c.output = w.promise.left ∙ kept w.ran.answer _ _ (other e h) in
+      let s : (x.run way c).memory.state ≡ c.state = w.next ∙ kept (x.run way c).answer _ _ h in
+      let o : (x.run way c).memory.output ≡ c.output = w.left ∙ kept (x.run way c).answer _ _ h in
       λ i. record { state = s i; output = o i })
 
   send-is : Answers x.send send_checks (λ c. record { state = c.state; output = c.output }) none
@@ -393,13 +390,11 @@ module _ (x : Library) (k : Keeps x) where
   frame_is : Answers x.descramble_frame frame_checks (λ c. record { state = c.state; output = c.output }) none
   frame_is =
       answers ordered.descramble_frame
-      (λ c. ap (λ (r : Scrambled). r.answer) (k.descramble_frame c refl).crossed ∙ (k.descramble_frame c refl).promise.answered) (λ c h. only _)
+      (λ c. (k.descramble_frame c refl).answered) (λ c h. only _)
       (λ c h.
       let w = k.descramble_frame c refl in
-      let e : (x.descramble_frame c).answer ≡ w.ran.answer = ap (λ (r : Scrambled). r.answer) w.crossed in
-      let s : (x.descramble_frame c).memory.state ≡ c.state =
-      ap (λ (r : Scrambled). r.state) w.crossed ∙ ap (λ (y : _). y.state) w.promise.next ∙ kept w.ran.answer _ _ (other e h) in
-      let o : (x.descramble_frame c).memory.output ≡ c.output = w.promise.left ∙ kept w.ran.answer _ _ (other e h) in
+      let s : (x.descramble_frame c).memory.state ≡ c.state = w.next ∙ kept (x.descramble_frame c).answer _ _ h in
+      let o : (x.descramble_frame c).memory.output ≡ c.output = w.left ∙ kept (x.descramble_frame c).answer _ _ h in
       λ i. record { state = s i; output = o i })
 
   codes-answer : (c : _) → (x.run_codes c).answer ≡ answer (state_refusals (state_in c.state))
@@ -427,8 +422,8 @@ module _ (x : Library) (k : Keeps x) where
     eoc_read = eoc-read-is;
     eoc_hand_up = eoc-hand-up-is;
     scrambler_start = answers ordered.scrambler_start
-        (λ e. ap (λ (r : Scrambled). r.answer) ((k.scrambler_start e refl).crossed ∙ ap crossing (k.scrambler_start e refl).promise)) (λ e h. only _)
-        (λ e h. ap (λ (r : Scrambled). r.state) ((k.scrambler_start e refl).crossed ∙ ap crossing (k.scrambler_start e refl).promise));
+        (λ e. ap (λ (r : Scrambled). r.answer) (k.scrambler_start e refl)) (λ e h. only _)
+        (λ e h. ap (λ (r : Scrambled). r.state) (k.scrambler_start e refl));
     bit = bit_is;
     run = run_is;
     descramble_frame = frame_is;

@@ -5,3 +5,4 @@ pub mod One
 pub mod DataOne
 pub mod ChannelOne
 pub mod ReceivingOne
+pub mod ScramblingLaws
