@@ -193,30 +193,10 @@ ours-keep = record {
   eoc_hand_up = λ c h. eoc-hands-up-keep c;
   receive_start = λ end h. starts-keep end;
   receive = λ c h. receives-lump-keep c;
-  scrambler_start = λ end h. record {
-    ran = record { answer = (ours.scrambler_start end).answer; next = record { end = end; state = 0 } };
-    crossed = refl;
-    promise = refl;
-  };
-  bit = λ way c h. record {
-    step = record {
-      answer = (ours.bit way c).answer;
-      bit = (ours.bit way c).numbers;
-      next = record { end = c.end; state = (ours.bit way c).memory };
-    };
-    crossed = refl;
-    promise = refl;
-  };
-  run = λ way c h. record {
-    ran = record { answer = (ours.run way c).answer; next = record { end = c.end; state = (ours.run way c).memory.state } };
-    crossed = refl;
-    promise = record { answered = refl; next = refl; left = refl };
-  };
-  descramble_frame = λ c h. record {
-    ran = record { answer = (ours.descramble_frame c).answer; next = record { end = c.end; state = (ours.descramble_frame c).memory.state } };
-    crossed = refl;
-    promise = record { answered = refl; next = refl; left = refl };
-  };
+  scrambler_start = λ end h. refl;
+  bit = λ way c h. refl;
+  run = λ way c h. record { answered = refl; next = refl; left = refl };
+  descramble_frame = λ c h. record { answered = refl; next = refl; left = refl };
   activation = λ b h. record { answered = refl; level = refl };
   level = λ b h. record { answered = refl; level = refl };
   code = λ l h. record { answered = refl; code = refl };
