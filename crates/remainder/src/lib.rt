@@ -89,12 +89,10 @@ fn words(start: u32, s: &[u8], i: usize, count: usize) -> u64
     requires { (start < 2 ^ 16) × (1 ≤ count) × (i + 8 * count ≤ length s.now) }
     ensures { register_of 16 generator start (part (8 * i) (64 * count) (bits_of s.now)) ≡ register_of 16 generator 0 (digits_of 64 result) }
 {
-    let mut x = octets::word(s, i) ^ (bitfields::turned(DEGREE, start) as u64);
-    let mut k: usize = 1;
-    while k < count {
+    let mut x = octets::word(s, i) ^ u64::from(bitfields::turned(DEGREE, start));
+    for k in 1..count {
         let w = octets::word(s, i + 8 * k);
         x = folded(x) ^ w;
-        k += 1;
     }
     x
 }
@@ -125,7 +123,7 @@ fn short(start: u32, s: &[u8], i: usize, n: u32) -> u32
     requires { (start < 2 ^ 16) × (16 ≤ n) × (n ≤ 64) × (8 * i + n ≤ 8 * length s.now) }
     ensures { result ≡ register_of 16 generator start (part (8 * i) n (bits_of s.now)) }
 {
-    let x = octets::word(s, i) ^ (bitfields::turned(DEGREE, start) as u64);
+    let x = octets::word(s, i) ^ u64::from(bitfields::turned(DEGREE, start));
     after_word(x << (WORD - n))
 }
 
@@ -135,14 +133,12 @@ fn by_bits(generator: u32, degree: u32, start: u32, s: &[u8], at: usize, n: u32)
     ensures { result ≡ register_of degree generator start (part at n (bits_of s.now)) }
 {
     let mut register = start;
-    let mut k: u32 = 0;
-    while k < n {
+    for k in 0..n {
         if !octets::has(s, at, k) {
             return register;
         }
-        let b = octets::bit(s, at, k) as u32;
+        let b = u32::from(octets::bit(s, at, k));
         register = step(register, b, generator, degree);
-        k += 1;
     }
     register
 }
@@ -153,10 +149,7 @@ fn after(start: u32, s: &[u8], at: usize, n: u32) -> u32
     ensures { result ≡ register_of 16 generator start (part at n (bits_of s.now)) }
 {
     let lead = ((8 - at % 8) % 8) as u32;
-    if n < lead + DEGREE {
-        return by_bits(GENERATOR, DEGREE, start, s, at, n);
-    }
-    if !octets::has(s, at, n - 1) {
+    if n < lead + DEGREE || !octets::has(s, at, n - 1) {
         return by_bits(GENERATOR, DEGREE, start, s, at, n);
     }
     let register = by_bits(GENERATOR, DEGREE, start, s, at, lead);
@@ -180,13 +173,6 @@ const ROUND: u32 = 63;
 // So many bits are read at once, from any place.
 const READ: u32 = 56;
 
-// How many of n bits are read next.
-fn next(n: u32) -> u32
-    ensures { result ≡ min n 56 }
-{
-    if n < READ { n } else { READ }
-}
-
 // The digits that stand for x and the n low digits of t behind it: the first n of x come round to the end, and those of t are added to them.
 fn brought_round(x: u64, t: u64, n: u32) -> u64
     requires { (1 ≤ n) × (n ≤ 56) × (x < 2 ^ 63) × (t < 2 ^ n) }
@@ -201,11 +187,11 @@ fn stands_for(start: u32, s: &[u8], at: usize, n: u32) -> u64
     requires { (start < 2 ^ 6) × (at + n ≤ 8 * length s.now) }
     ensures { (result < 2 ^ 63) × (register_of 6 67 start (part at n (bits_of s.now)) ≡ register_of 6 67 0 (digits_of 63 result)) }
 {
-    let mut x = bitfields::turned(SIX_DEGREE, start) as u64;
+    let mut x = u64::from(bitfields::turned(SIX_DEGREE, start));
     let mut seen: u32 = 0;
     while seen < n {
         let v = octets::bits(s, at, seen, n - seen);
-        let m = next(n - seen);
+        let m = (n - seen).min(READ);
         x = brought_round(x, v, m);
         seen += m;
     }

@@ -21,7 +21,7 @@ loop-k-init c =
       c.requires.1,
       ap (register_of 16 generator a.start) (sym (ap (digits_of 64) w.ensures ∙ field-digits s (8 * a.i) 64 (omega arith)))
           ∙ start-in 16 generator (lit≤ tt) generator-degree 64 a.start w.result (lit≤ tt) c.requires.0
-          ∙ ap (λ (y : ℕ). register_of 16 generator 0 (digits_of 64 (bit_xor w.result y))) (sym c.turned.ensures),
+          ∙ ap (λ (y : ℕ). register_of 16 generator 0 (digits_of 64 (bit_xor w.result y))) (sym (c.from.ensures ∙ c.turned.ensures)),
     )
 
 pub overflow_mul-k : goal.overflow_mul-k
@@ -29,12 +29,6 @@ overflow_mul-k c = omega arith
 
 pub overflow_add-i : goal.overflow_add-i
 overflow_add-i c = omega arith
-
-pub overflow_add-k : goal.overflow_add-k
-overflow_add-k c = omega arith
-
-pub loop-k-smaller : goal.loop-k-smaller
-loop-k-smaller c = omega arith
 
 pub loop-k-preserved : goal.loop-k-preserved
 loop-k-preserved c =
