@@ -85,11 +85,11 @@ fn joined(x: u64, t: u64, n: u32) -> u64
 }
 
 // The word that stands for a start and so many words from octet i on.
-fn words(start: u32, s: &[u8], i: usize, count: usize) -> u64
-    requires { (start < 2 ^ 16) × (1 ≤ count) × (i + 8 * count ≤ length s.now) }
+fn words(start: u16, s: &[u8], i: usize, count: usize) -> u64
+    requires { (1 ≤ count) × (i + 8 * count ≤ length s.now) }
     ensures { register_of 16 generator start (part (8 * i) (64 * count) (bits_of s.now)) ≡ register_of 16 generator 0 (digits_of 64 result) }
 {
-    let mut x = octets::word(s, i) ^ u64::from(bitfields::turned(DEGREE, start));
+    let mut x = octets::word(s, i) ^ u64::from(bitfields::turned(DEGREE, u32::from(start)));
     for k in 1..count {
         let w = octets::word(s, i + 8 * k);
         x = folded(x) ^ w;
@@ -109,8 +109,8 @@ fn rest(x: u64, s: &[u8], i: usize, n: u32) -> u64
 }
 
 // The register after so many words from octet i on, and n bits behind them.
-fn by_words(start: u32, s: &[u8], i: usize, count: usize, n: u32) -> u32
-    requires { (start < 2 ^ 16) × (1 ≤ count) × (n < 64) × (8 * i + (64 * count + n) ≤ 8 * length s.now) }
+fn by_words(start: u16, s: &[u8], i: usize, count: usize, n: u32) -> u32
+    requires { (1 ≤ count) × (n < 64) × (8 * i + (64 * count + n) ≤ 8 * length s.now) }
     ensures { result ≡ register_of 16 generator start (part (8 * i) (64 * count + n) (bits_of s.now)) }
 {
     let x = words(start, s, i, count);
@@ -119,11 +119,11 @@ fn by_words(start: u32, s: &[u8], i: usize, count: usize, n: u32) -> u32
 
 // The register after the n bits from octet i on, where a word holds them: the start is added to the first of them, and they are moved up to the
 // word's end. The zeros before them count for nothing.
-fn short(start: u32, s: &[u8], i: usize, n: u32) -> u32
-    requires { (start < 2 ^ 16) × (16 ≤ n) × (n ≤ 64) × (8 * i + n ≤ 8 * length s.now) }
+fn short(start: u16, s: &[u8], i: usize, n: u32) -> u32
+    requires { (16 ≤ n) × (n ≤ 64) × (8 * i + n ≤ 8 * length s.now) }
     ensures { result ≡ register_of 16 generator start (part (8 * i) n (bits_of s.now)) }
 {
-    let x = octets::word(s, i) ^ u64::from(bitfields::turned(DEGREE, start));
+    let x = octets::word(s, i) ^ u64::from(bitfields::turned(DEGREE, u32::from(start)));
     after_word(x << (WORD - n))
 }
 
@@ -144,15 +144,14 @@ fn by_bits(generator: u32, degree: u32, start: u32, s: &[u8], at: usize, n: u32)
 }
 
 // The register of D^16 + D^12 + D^5 + 1 after the n bits from place `at` on: up to an octet, and the rest in one word or by words.
-fn after(start: u32, s: &[u8], at: usize, n: u32) -> u32
-    requires { start < 2 ^ 16 }
+fn after(start: u16, s: &[u8], at: usize, n: u32) -> u32
     ensures { result ≡ register_of 16 generator start (part at n (bits_of s.now)) }
 {
     let lead = ((8 - at % 8) % 8) as u32;
     if n < lead + DEGREE || !octets::has(s, at, n - 1) {
-        return by_bits(GENERATOR, DEGREE, start, s, at, n);
+        return by_bits(GENERATOR, DEGREE, u32::from(start), s, at, n);
     }
-    let register = by_bits(GENERATOR, DEGREE, start, s, at, lead);
+    let register = by_bits(GENERATOR, DEGREE, u32::from(start), s, at, lead) as u16;
     let octet = at / 8 + (at % 8 + 7) / 8;
     let rest = n - lead;
     if rest <= WORD {
@@ -261,7 +260,7 @@ pub fn from_start(
 {
     allowed(generator, degree, start)?;
     Ok(match generator {
-        GENERATOR => after(start, s, at, n),
+        GENERATOR => after(start as u16, s, at, n),
         SIX => six_after(start, s, at, n),
         _ => by_bits(generator, degree, start, s, at, n),
     })
