@@ -10,7 +10,7 @@ use Rattle.sender.specs.Promises.{frame_octets}
 use Rattle.samples.specs.Samples.{at_start}
 use Rattle.samples.proofs.Exact.{exact-unique}
 use Rattle.precoder.specs.Runs.{PrecodesRun, DecodesRun}
-use Rattle.precoder.proofs.One.{precode-run-one, decode-run-one}
+use Rattle.precoder.proofs.One.{precode-number-one, decode-number-one}
 use Rattle.host.specs.declared.frames.FrameFields.{FrameFields}
 use Rattle.host.specs.declared.symbols.Level.{Level}
 use Rattle.host.specs.declared.symbols.Code.{Code}
@@ -109,11 +109,11 @@ module _ (history : List ℕ) where
 
 pub sdsl-precode-one : (coefficients history xs ys : List ℕ) (r r' : ℕ) (h h' d d' : List ℕ)
     → PrecodesRun coefficients history xs ys r h d → PrecodesRun coefficients history xs ys r' h' d' → (r ≡ r') × (h ≡ h') × (d ≡ d')
-sdsl-precode-one = precode-run-one
+sdsl-precode-one = precode-number-one
 
 pub sdsl-unprecode-one : (coefficients history ys xs : List ℕ) (r r' : ℕ) (h h' d d' : List ℕ)
     → DecodesRun coefficients history ys xs r h d → DecodesRun coefficients history ys xs r' h' d' → (r ≡ r') × (h ≡ h') × (d ≡ d')
-sdsl-unprecode-one = decode-run-one
+sdsl-unprecode-one = decode-number-one
 
 pub sdsl-shaper-one : (y : ℤ) (r r' : Shaped) → SampleShaped y r → SampleShaped y r' → r ≡ r'
 sdsl-shaper-one y r r' p q =

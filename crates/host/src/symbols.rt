@@ -173,7 +173,10 @@ pub fn sdsl_precode(coefficients: &[u8], history: &mut [u8], xs: &[u8], ys: &mut
     ensures { PrecodesRun coefficients.now history.old xs.now ys.old result history.new
         ys.new }
 {
-    precoder::precode_run(coefficients, history, xs, ys)
+    match precoder::precode_run(coefficients, history, xs, ys) {
+        Ok(()) => 0,
+        Err(no) => no.number(),
+    }
 }
 
 // The receiving end.
@@ -181,7 +184,10 @@ pub fn sdsl_unprecode(coefficients: &[u8], history: &mut [u8], ys: &[u8], xs: &m
     ensures { DecodesRun coefficients.now history.old ys.now xs.old result history.new
         xs.new }
 {
-    precoder::decode_run(coefficients, history, ys, xs)
+    match precoder::decode_run(coefficients, history, ys, xs) {
+        Ok(()) => 0,
+        Err(no) => no.number(),
+    }
 }
 
 // A sample for the shaper: exactly y / 131,072.
