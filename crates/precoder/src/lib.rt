@@ -142,6 +142,7 @@ fn receive(y: i32, coefficients: &[i32; TAPS], history: &mut [i32; TAPS]) -> i32
 }
 
 // One symbol in range in either direction.
+// Stays: a bool, as Turns and line_of have it; a type or a const parameter for each direction would say the same at each call.
 fn turn(back: bool, z: i32, coefficients: &[i32; TAPS], history: &mut [i32; TAPS]) -> i32
     requires { (is_signal z ≡ true) × (every is_coefficient coefficients.now ≡ true) × (every is_signal history.old ≡ true) }
     ensures { Turns back coefficients.now history.old z result

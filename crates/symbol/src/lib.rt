@@ -168,6 +168,7 @@ impl Encoder {
             × (result ≡ with_register self (register_of (sent_after (held_in self.register) symbols.now))) }
     {
         let mut next = self;
+        // Stays: codes by index; after iter_mut under zip a proof knows nothing of what was written (goal returns).
         for (i, &symbol) in symbols.iter().enumerate() {
             let t = next.turn(u32::from(symbol));
             codes[i] = t.code as u8;
