@@ -1,6 +1,5 @@
 pub mod FrameLaws
 pub mod SendLaws
-pub mod SymbolLaws
 pub mod One
 pub mod DataOne
 pub mod ChannelOne
