@@ -48,7 +48,7 @@ use Rattle.precoder.proofs.Order.{run-order as precoder-order}
 use Rattle.supervisor.specs.declared.Supervisor.{Supervisor as State}
 use Rattle.supervisor.specs.Step.{state_refusals, step_of}
 use Rattle.supervisor.proofs.One.{start-in-order, step-in-order, state-in-order}
-use Rattle.startup.specs.declared.Run.{Run as StartupRun}
+use Rattle.startup.specs.Run.{Run as StartupRun}
 use Rattle.startup.specs.Run.{event_of, goes_on, opens, ends, noted, taken_of, run_from, begun}
 use Rattle.reader.specs.declared.Found.{Found}
 use Rattle.reader.specs.Promises.{found_of}

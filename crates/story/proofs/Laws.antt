@@ -7,7 +7,7 @@ use borrow.Author.Tests.{eq-eqb, ne_eqb, le-leb, lt-leb}
 use lib.Dec.{eqb, ltb}
 use Rattle.answer.proofs.Laws.{none, kept}
 use Rattle.supervisor.specs.declared.Supervisor.{Supervisor}
-use Rattle.supervisor.specs.declared.Answer.{Answer}
+use Rattle.supervisor.specs.Step.{Numbered}
 use Rattle.supervisor.specs.Step.{step_of, state_refusals}
 use Rattle.supervisor.proofs.Laws.{legal}
 use Rattle.startup.specs.Reports.{one}
@@ -68,10 +68,10 @@ module _ (s t : Supervisor) (c e : ℕ) (q : e ≡ attempt_event s.phase t.phase
 -- ---- an event
 
 -- the supervisor's step that answers 0 had less than 15,000 ticks of an attempt
-pub taken-attempt : (s : Supervisor) (c : ℕ) (g : Answer) → g ≡ step_of s c → g.answer ≡ 0 → s.attempt ≤ 14999
-taken-attempt s c g q z = (legal s (none 1 (ltb 8 c) (state_refusals s) (sym (ap (λ (x : Answer). x.answer) q) ∙ z)).1).attempt
+pub taken-attempt : (s : Supervisor) (c : ℕ) (g : Numbered) → g ≡ step_of s c → g.answer ≡ 0 → s.attempt ≤ 14999
+taken-attempt s c g q z = (legal s (none 1 (ltb 8 c) (state_refusals s) (sym (ap (λ (x : Numbered). x.answer) q) ∙ z)).1).attempt
 
-module _ (g : Answer) (s : Story) (c : ℕ) where
+module _ (g : Numbered) (s : Story) (c : ℕ) where
   -- the three refusals, in order
   pub event-refused : (r : Event) → (g.answer ≡ 0 → ⊥) → r ≡ refused_with s g.answer → r ≡ event_with g s c
   event-refused r h e = simp (ne_eqb g.answer 0 h) (e ∙ sym (kept g.answer (refused_with s g.answer) (told s g.state c) h))
@@ -101,12 +101,12 @@ told_is s t c e o o' u i k n w qe qu qo qo' qw qi qk qn = rw (qk, qn, qi, qw, qu
 
 -- ---- a start
 
-pub start-refused : (g : Answer) (r : Event) → (g.answer ≡ 0 → ⊥) → r ≡ refused_with (beginning g.state) g.answer → r ≡ start_with g
+pub start-refused : (g : Numbered) (r : Event) → (g.answer ≡ 0 → ⊥) → r ≡ refused_with (beginning g.state) g.answer → r ≡ start_with g
 start-refused g r h e =
     e
     ∙ sym (kept g.answer (refused_with (beginning g.state) g.answer)
     (record { answer = 0; kind = 4; code = 0; attempt = 0; ticks = 0; story = beginning g.state }) h)
 
-pub start-told : (g : Answer) → g.answer ≡ 0
+pub start-told : (g : Numbered) → g.answer ≡ 0
     → ◌≡◌ {A = Event} (record { answer = 0; kind = 4; code = 0; attempt = 0; ticks = 0; story = beginning g.state }) (start_with g)
 start-told g z = simp z

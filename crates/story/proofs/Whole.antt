@@ -11,11 +11,11 @@ use lib.ListN.{length, take}
 use lib.Seq.{take-suc, take-length}
 use Rattle.answer.specs.Answer.{answer, held}
 use Rattle.supervisor.specs.declared.Supervisor.{Supervisor}
-use Rattle.supervisor.specs.declared.Answer.{Answer}
+use Rattle.supervisor.specs.Step.{Numbered}
 use Rattle.supervisor.specs.Phases.{in_attempt}
 use Rattle.supervisor.specs.Step.{step_of, state_refusals}
 use Rattle.supervisor.specs.Step.{start_of as supervisor_start}
-use Rattle.startup.specs.declared.Run.{Run}
+use Rattle.startup.specs.Run.{Run}
 use Rattle.startup.specs.Run.{goes_on, opens, ends, noted, taken_of, run_from, begun}
 use Rattle.startup.specs.Run.{event_of as attempt_event}
 use Rattle.startup.specs.Reports.{at, one, upto, count}
@@ -38,7 +38,7 @@ use Rattle.story.proofs.Last.{last_at, entered_by, ended_by, since-by}
 -- ---- code by code
 
 -- the story of a start
-start-story : (g : Answer) → (start_with g).story ≡ beginning g.state
+start-story : (g : Numbered) → (start_with g).story ≡ beginning g.state
 start-story g = go g.answer
   where
     b : Story

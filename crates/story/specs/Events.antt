@@ -2,7 +2,7 @@
 use Rattle.std.specs.Prelude.{ℕ, ◌+◌, cond, not, ◌||◌, List, [], ◌∷◌, leb, ltb, eqb}
 use Rattle.answer.specs.Answer.{Refusal, refuse, answer, held}
 use Rattle.supervisor.specs.declared.Supervisor.{Supervisor}
-use Rattle.supervisor.specs.declared.Answer.{Answer}
+use Rattle.supervisor.specs.Step.{Numbered}
 use Rattle.supervisor.specs.Phases.{in_attempt}
 use Rattle.supervisor.specs.Step.{step_of}
 use Rattle.supervisor.specs.Step.{start_of as supervisor_start}
@@ -92,7 +92,7 @@ abbrev pub refusals : ℕ → Story → List Refusal
 refusals n s = refuse n (not (eqb n 0)) ∷ refuse 4 (leb most s.clock) ∷ refuse 4 (leb most s.attempts) ∷ []
 
 -- the event of a code to which the supervisor's step gave this
-abbrev pub event_with : Answer → Story → ℕ → Event
+abbrev pub event_with : Numbered → Story → ℕ → Event
 event_with g s c =
     held (answer (refusals g.answer s)) (refused_with s (answer (refusals g.answer s))) (told s g.state c)
 
@@ -101,7 +101,7 @@ abbrev pub event_of : Story → ℕ → Event
 event_of s c = event_with (step_of s.state c) s c
 
 -- the start of a story from what the supervisor's start gave: an event too, Ready is entered at tick 0
-abbrev pub start_with : Answer → Event
+abbrev pub start_with : Numbered → Event
 start_with g =
     held g.answer (refused_with (beginning g.state) g.answer)
     (record { answer = 0; kind = 4; code = 0; attempt = 0; ticks = 0; story = beginning g.state })
