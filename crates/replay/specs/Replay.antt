@@ -1,6 +1,6 @@
 -- What the replayer follows: the lines of a log in order, a step for each code of a line, up to the first that is refused.
 use Rattle.std.specs.Prelude.{ℕ, zero, suc, true, cond, List, [], ◌∷◌, ◌++◌, eqb, replicate}
-use Rattle.startlog.specs.declared.Line.{Line}
+use Rattle.startlog.specs.Lines.{Line}
 use Rattle.startlog.specs.Lines.{line_of}
 use Rattle.story.specs.declared.Story.{Story}
 use Rattle.story.specs.declared.Event.{Event}
