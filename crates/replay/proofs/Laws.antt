@@ -10,7 +10,7 @@ use lib.ListN.{length, take, drop, length-drop, drop_of_length-le}
 use lib.Seq.{drop-drop}
 use Rattle.startlog.specs.Lines.{line_of, up_to_end, end_of}
 use Rattle.story.specs.declared.Story.{Story}
-use Rattle.story.specs.declared.Event.{Event}
+use Rattle.story.specs.Events.{Event}
 use Rattle.story.specs.Events.{event_of}
 use Rattle.replay.specs.declared.Ending.{Ending}
 use Rattle.replay.specs.Replay.{repeated, followed, onto, lines_of, ending, ending_from}

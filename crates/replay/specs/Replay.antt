@@ -3,7 +3,7 @@ use Rattle.std.specs.Prelude.{ℕ, zero, suc, true, cond, List, [], ◌∷◌, �
 use Rattle.startlog.specs.Lines.{Line}
 use Rattle.startlog.specs.Lines.{line_of}
 use Rattle.story.specs.declared.Story.{Story}
-use Rattle.story.specs.declared.Event.{Event}
+use Rattle.story.specs.Events.{Event}
 use Rattle.story.specs.Events.{refused_with, event_of}
 use Rattle.replay.specs.declared.Ending.{Ending}
 

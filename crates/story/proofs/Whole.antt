@@ -28,7 +28,7 @@ use Rattle.startup.proofs.Simulates.{after-suc}
 use Rattle.startup.proofs.Three.{open-run, in-run, meant-range, started, answered-either}
 use Rattle.startup.proofs.Agreement.{run-agrees}
 use Rattle.story.specs.declared.Story.{Story}
-use Rattle.story.specs.declared.Event.{Event}
+use Rattle.story.specs.Events.{Event}
 use Rattle.story.specs.Events.{most, story, beginning, refused_with, told, event_of, start_with, start_of, story_of}
 use Rattle.story.specs.Whole.{Tells, TellsEvent}
 use Rattle.story.proofs.Laws.{event-told}
