@@ -54,6 +54,12 @@ pub less_one : (d : ℕ) → negsuc 0 -ℤ pos d ≡ negsuc d
 less_one zero = refl
 less_one (suc d) = ap negsuc (omega arith)
 
+-- the bits that a machine holds of a whole number
+pub cast-twos : (z : ℤ) → SFits w32 z → of_z w32 z ≡ twos_of 32 z
+unfolding twos_of
+cast-twos (pos n) f = omega (arith, f.sfits)
+cast-twos (negsuc n) f = omega (arith, f.sfits)
+
 back : (n : ℕ) → negsuc 0 -ℤ negsuc n ≡ pos n
 back n =
     let e : suc n - 1 ≡ n = omega arith in
