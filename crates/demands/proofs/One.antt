@@ -49,7 +49,7 @@ use Rattle.precoder.proofs.Order.{run-order as precoder-order}
 use Rattle.supervisor.specs.declared.Supervisor.{Supervisor as State}
 use Rattle.supervisor.specs.Step.{state_refusals, step_of}
 use Rattle.supervisor.proofs.One.{start-in-order, step-in-order, state-in-order}
-use Rattle.startup.specs.declared.Run.{Run as StartupRun}
+use Rattle.startup.specs.Run.{Run as StartupRun}
 use Rattle.startup.specs.Run.{event_of, goes_on, opens, ends, noted, taken_of, run_from, begun}
 use Rattle.host.specs.declared.frames.FrameFields.{FrameFields}
 use Rattle.host.specs.declared.scrambling.Scrambled.{Scrambled}
