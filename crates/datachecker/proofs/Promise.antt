@@ -2,17 +2,17 @@
 use mathlib.Core.Path.{◌≡◌, refl, sym, ap, ap₂, ◌∙◌, subst}
 use mathlib.Core.Bool.{Bool, true, false, cond, not}
 use mathlib.Core.List.{List}
-use Prim.Native.Nat.{ℕ, zero, suc, ◌^◌, ◌≤◌}
+use Prim.Native.Nat.{ℕ, ◌^◌, ◌≤◌}
 use native.Mathlib.Omega.{arith}
 use borrow.Author.Tests.{eqb-true, eqb-false, not-false, not-true}
 use lib.Dec.{eqb, leb}
 use lib.ListN.{length}
-use Rattle.answer.specs.Answer.{Refusal, answer}
+use Rattle.answer.specs.Answer.{answer}
 use Rattle.answer.proofs.Laws.{stopped}
 use Rattle.octets.specs.Bits.{value_of, bits_of}
 use Rattle.dataframe.specs.Table.{sync, unused, is_size}
-use Rattle.dataframe.specs.Frame.{carried, stuffed_in, behind, due_of, Due}
-use Rattle.dataframe.specs.Refusals.{is_room, crc_refusals, stuffing_right, frame_refusals, check_refusals}
+use Rattle.dataframe.specs.Frame.{carried, behind, due_of, Due}
+use Rattle.dataframe.specs.Refusals.{is_room, crc_refusals, stuffing_right, frame_refusals}
 use denote.Ref.{Bor}
 use Rattle.std.specs.Prelude.{Ok, Err}
 use Rattle.answer.specs.declared.Refused.{Refused}

@@ -96,7 +96,13 @@ fn stuffing_of(room: Room<'_>, sync: u32, next: u32, due: u32) -> Result<u32, Re
 }
 
 // What is wrong with a frame, or what was found on the way.
-pub fn judge<'a>(form: u32, size: u32, sync: u32, next: u32, frame: &'a [u8]) -> Result<Verdict<'a>, Refused>
+pub fn judge<'a>(
+    form: u32,
+    size: u32,
+    sync: u32,
+    next: u32,
+    frame: &'a [u8],
+) -> Result<Verdict<'a>, Refused>
     ensures { VerdictGiven form size sync next frame.entry result }
 {
     let room = datacrc::room(form, size, frame)?;

@@ -1,14 +1,11 @@
 -- Laws of the six check bits. Assumes nothing.
 use mathlib.Core.Path.{◌≡◌, refl, sym, ap, ap₂, ◌∙◌, subst}
-use mathlib.Core.Bool.{Bool, true, false, not, ◌&&◌, ◌||◌}
 use mathlib.Core.List.{List, [], ◌++◌, append_assoc, reverse}
-use Prim.Native.Nat.{ℕ, zero, suc, ◌+◌, ◌*◌, ◌^◌, ◌≤◌, ◌<◌}
+use Prim.Native.Nat.{ℕ, ◌+◌, ◌*◌, ◌^◌, ◌≤◌}
 use native.Mathlib.Omega.{arith}
-use borrow.Author.Tests.{lt-leb, eq-eqb, ne_eqb}
-use lib.Dec.{eqb, lit≤}
+use lib.Dec.{lit≤}
 use lib.ListN.{length, drop, length-append, length-drop}
 use lib.Seq.{length-take-le}
-use Rattle.answer.specs.Answer.{answer}
 use Rattle.octets.specs.Bits.{digits_of, value_of, bits_of, part}
 use Rattle.octets.proofs.Digits.{Bits, append_bits, digits_value, value-append}
 use Rattle.octets.proofs.Laws.{bits-length, bits-part}
@@ -17,12 +14,9 @@ use Rattle.remainder.proofs.Division.{computed}
 use Rattle.remainder.proofs.Start.{follows}
 use Rattle.dataframe.specs.Table.{crc, end_width}
 use Rattle.dataframe.specs.Frame.{six_generator, carried, covered, due_of, Due}
-use Rattle.dataframe.specs.Refusals.{is_room, crc_refusals}
-use Rattle.dataframe.proofs.Refused.{fit}
-use Rattle.datacrc.specs.declared.Sixes.{Sixes}
-use Rattle.datacrc.specs.Promises.{sixes_of, SixesGiven}
+use Rattle.datacrc.specs.Promises.{SixesGiven}
 use Rattle.dataframe.specs.declared.Room.{Room}
-use Rattle.dataframe.specs.Rooms.{form_in, bits_in, carried_by, DueIn}
+use Rattle.dataframe.specs.Rooms.{form_in, carried_by, DueIn}
 use Rattle.dataframe.proofs.Rooms.{form-known, room-holds}
 use Rattle.dataframe.proofs.Rows.{crc-is, covered-is}
 

@@ -3,7 +3,7 @@ use mathlib.Core.Path.{◌≡◌, sym, ◌∙◌}
 use mathlib.Core.List.{List}
 use Prim.Native.Nat.{ℕ}
 use denote.Ref.{Bor}
-use Rattle.std.specs.Prelude.{Result, Ok, Err}
+use Rattle.std.specs.Prelude.{Result}
 use Rattle.answer.specs.declared.Refused.{Refused}
 use Rattle.answer.proofs.Given.{result-one}
 use Rattle.dataframe.specs.declared.Room.{Room}

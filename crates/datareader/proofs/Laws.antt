@@ -1,7 +1,7 @@
 -- Laws of reading a data-mode frame. Assumes nothing.
 use mathlib.Core.Path.{◌≡◌, sym, ap, ap₂, ◌∙◌, subst}
 use mathlib.Core.List.{List, ◌++◌}
-use Prim.Native.Nat.{ℕ, zero, suc, ◌+◌, ◌*◌, ◌^◌, ◌≤◌}
+use Prim.Native.Nat.{ℕ, ◌+◌, ◌*◌, ◌^◌, ◌≤◌}
 use native.Mathlib.Nat.{add_comm, mul_comm}
 use native.Mathlib.Omega.{arith}
 use lib.ListN.{length, drop, length-append, length-drop}
@@ -11,7 +11,7 @@ use Rattle.octets.proofs.Digits.{Bits, value-append, no_value}
 use Rattle.octets.proofs.Laws.{bits-length, bits-part, laid_next, laid_end}
 use Rattle.remainder.specs.Division.{polynomial}
 use Rattle.dataframe.specs.declared.Overhead.{Overhead}
-use Rattle.dataframe.specs.Table.{indicators, eoc, spare, crc, room_of}
+use Rattle.dataframe.specs.Table.{indicators, eoc, spare, crc}
 use Rattle.dataframe.specs.Frame.{carried, stuffed_in, overhead_in, payload_in}
 use Rattle.dataframe.proofs.Rows.{indicators-are, eoc-is, spare-is, no-spare, payload-is}
 use Rattle.dataframe.specs.declared.Form.{Form}

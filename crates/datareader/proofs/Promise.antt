@@ -2,7 +2,7 @@
 use mathlib.Core.Path.{◌≡◌, sym, ap, ◌∙◌}
 use mathlib.Core.Bool.{not}
 use mathlib.Core.List.{List}
-use Prim.Native.Nat.{ℕ, ◌*◌, ◌≤◌}
+use Prim.Native.Nat.{ℕ, ◌*◌}
 use native.Mathlib.Omega.{arith}
 use denote.Ref.{Bor}
 use borrow.Author.Tests.{eq-eqb, ne_eqb}
@@ -11,12 +11,10 @@ use Rattle.std.specs.Prelude.{Ok, Err}
 use Rattle.answer.specs.declared.Refused.{Refused}
 use Rattle.answer.specs.declared.Refused.TheVariants.{Length}
 use Rattle.answer.specs.Given.{number_of}
-use Rattle.answer.specs.Answer.{Refusal, answer, held}
+use Rattle.answer.specs.Answer.{Refusal, answer}
 use Rattle.answer.proofs.Laws.{refused, passed, kept, given}
 use Rattle.answer.proofs.Given.{refused-number}
 use Rattle.octets.specs.Bits.{bits_of}
-use Rattle.dataframe.specs.declared.Overhead.{Overhead}
-use Rattle.dataframe.specs.declared.Room.{Room}
 use Rattle.dataframe.specs.Frame.{overhead_in, payload_in, Due}
 use Rattle.dataframe.specs.Refusals.{check_refusals, read_refusals}
 use Rattle.dataframe.specs.Rooms.{carried_by, payload_at}

@@ -3,19 +3,17 @@ use mathlib.Core.Path.{◌≡◌, sym, ap, ◌∙◌, subst}
 use native.Mathlib.Omega.{arith}
 use mathlib.Core.Bool.{true, not, ◌&&◌}
 use mathlib.Core.List.{List, ◌++◌}
-use Prim.Native.Nat.{ℕ, zero, suc, ◌*◌, ◌^◌, ◌≤◌}
+use Prim.Native.Nat.{ℕ, ◌*◌, ◌^◌}
 use borrow.Author.Tests.{eq-eqb, ne_eqb, not-false}
 use lib.Dec.{eqb, leb}
 use lib.ListN.{length, drop}
-use Rattle.octets.proofs.Laws.{octets-length}
-use Rattle.answer.specs.Answer.{Refusal, answer, held}
+use Rattle.answer.specs.Answer.{Refusal, answer}
 use Rattle.answer.proofs.Laws.{none, refused, passed, stopped, kept, given as held-given}
 use Rattle.octets.specs.Bits.{bits_of}
 use Rattle.dataframe.specs.declared.Overhead.{Overhead}
-use Rattle.dataframe.specs.Table.{room_of}
-use Rattle.dataframe.specs.Frame.{data_bits, data_octets, due_of, Due}
+use Rattle.dataframe.specs.Frame.{data_octets, due_of, Due}
 use Rattle.dataframe.specs.Refusals.{is_stuffing, crc_refusals, value_refusals, write_refusals}
-use Rattle.dataframe.proofs.Refused.{Fit, fit, fits, behind-is}
+use Rattle.dataframe.proofs.Refused.{behind-is}
 use Rattle.std.specs.Prelude.{Ok, Err}
 use Rattle.answer.specs.declared.Refused.{Refused}
 use Rattle.answer.specs.declared.Refused.TheVariants.{Length}

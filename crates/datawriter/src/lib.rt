@@ -134,11 +134,10 @@ fn put(frame: &mut [u8], rows: Rows, payload: &[u8], n: u32, rest: u32)
 fn end_allowed(form: Form, spare: u32, stuffing: u32) -> Result<(), Refused>
     ensures { answer_of result ≡ answer (end_refusals (form_number form) spare stuffing) }
 {
-    match form {
-        Form::Synchronous if dataframe::FOURS <= spare => Err(Refused::Range),
-        Form::Synchronous if stuffing != 0 => Err(Refused::Stuffing),
-        Form::Plesiochronous if stuffing != 0 && stuffing != dataframe::STUFFING => Err(Refused::Stuffing),
-        _ => Ok(()),
+    match (form, stuffing) {
+        (Form::Synchronous, _) if dataframe::FOURS <= spare => Err(Refused::Range),
+        (_, 0) | (Form::Plesiochronous, dataframe::STUFFING) => Ok(()),
+        _ => Err(Refused::Stuffing),
     }
 }
 
@@ -157,14 +156,7 @@ fn allowed(form: Form, sync: u32, overhead: Overhead) -> Result<(), Refused>
 }
 
 // A frame, and zeros behind it, where all is right.
-fn put_frame(
-    form: Form,
-    size: u32,
-    sync: u32,
-    overhead: Overhead,
-    payload: &[u8],
-    frame: &mut [u8],
-)
+fn put_frame(form: Form, size: u32, sync: u32, overhead: Overhead, payload: &[u8], frame: &mut [u8])
     requires { (size ≤ 289) × (is_stuffing (form_number form) overhead.stuffing ≡ true) × (length payload.now ≡ payload_length size)
         × (length frame.old ≡ room_of (form_number form)) }
     ensures { frame.new ≡ data_octets (form_number form) size sync overhead payload.now }

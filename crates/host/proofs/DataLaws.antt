@@ -1,17 +1,15 @@
 -- What the functions of data-mode frames answer with a Result, as it goes to C. Assumes nothing.
-use mathlib.Core.Path.{◌≡◌, refl, sym, ap, ap₂, ◌∙◌}
+use mathlib.Core.Path.{◌≡◌, refl, ap, ◌∙◌}
 use mathlib.Core.List.{List}
 use Prim.Native.Nat.{ℕ, zero, suc, ◌≤◌}
 use native.Mathlib.Omega.{arith}
 use Rattle.std.specs.Prelude.{Ok, Err}
 use Rattle.answer.specs.declared.Refused.{Refused}
-use Rattle.answer.specs.Answer.{answer}
 use Rattle.answer.specs.Given.{number_of}
 use Rattle.answer.proofs.Given.{refused-number}
 use Rattle.octets.specs.Bits.{bits_of}
 use Rattle.dataframe.specs.declared.Overhead.{Overhead}
 use Rattle.dataframe.specs.Frame.{data_octets}
-use Rattle.dataframe.specs.Refusals.{crc_refusals, write_refusals, read_refusals}
 use Rattle.datacrc.specs.declared.Sixes.{Sixes}
 use Rattle.datacrc.specs.Promises.{CrcGiven}
 use Rattle.datawriter.specs.Promises.{DataWritten}

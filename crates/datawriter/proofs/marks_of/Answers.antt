@@ -1,6 +1,4 @@
 -- `datawriter::marks_of` meets its contract.
-use mathlib.Core.Path.{ap, subst, sym}
-use native.Mathlib.Omega.{arith}
 use Rattle.datawriter.proofs.Laws.{marks-synchronous, marks-plesiochronous}
 use Rattle.datawriter.proofs.marks_of.Goals as goal
 
