@@ -29,12 +29,9 @@ use Rattle.eocunits.specs.Promises.{handed_of}
 use Rattle.eoc.specs.Message.{Message}
 use Rattle.eoc.specs.Reading.{message_in}
 use Rattle.dataframe.proofs.Order.{write-order as data-write-order, crc-order as data-crc-order, check-order as data-check-order, read-order as data-read-order}
-use Rattle.datawriter.specs.declared.Written.{Written}
-use Rattle.datawriter.specs.Promises.{written_of}
-use Rattle.datacrc.specs.declared.Sixes.{Sixes}
-use Rattle.datacrc.specs.Promises.{crc_of}
-use Rattle.datareader.specs.declared.Found.{Found as DataFound}
-use Rattle.datareader.specs.Promises.{found_of as data_found_of, no_overhead}
+use Rattle.host.specs.declared.data.DataSent.{DataSent}
+use Rattle.host.specs.declared.data.DataCrcs.{DataCrcs}
+use Rattle.host.specs.declared.data.DataFields.{DataFields}
 use Rattle.recurrence.specs.declared.Way.{Way}
 use Rattle.recurrence.specs.declared.Way.TheVariants.{Scramble as scramble, Descramble as descramble}
 use Rattle.scrambler.proofs.One.{step-order as bit-order, run-order as scrambler-order, frame-order}
@@ -58,7 +55,7 @@ use Rattle.host.specs.declared.supervising.Stepped.{Stepped}
 use Rattle.host.specs.declared.supervising.Run.{Run}
 use Rattle.host.specs.Supervising.{state_in, state_of, run_fields_of}
 use Rattle.host.specs.Frames.{found_of}
-use Rattle.host.specs.Data.{overhead_of, overhead_for}
+use Rattle.host.specs.Data.{overhead_of, overhead_for, written_of, crc_of, no_overhead, found_of as data_found_of}
 use Rattle.host.specs.Symbols.{encoder}
 use Rattle.host.proofs.One.{frame-send-order, frame-read-order, history-start-order}
 use Rattle.demands.specs.Handed.{Outcome, None, none}
@@ -234,7 +231,7 @@ pub data-found-answer : (n form k : ℕ) (bits : List ℕ) → (data_found_of n 
 data-found-answer zero form k bits = refl
 data-found-answer (suc n) form k bits = refl
 
-data-found-none : (n form k : ℕ) (bits : List ℕ) → (n ≡ 0 → ⊥) → (data_found_of n form k bits).overhead ≡ no_overhead
+data-found-none : (n form k : ℕ) (bits : List ℕ) → (n ≡ 0 → ⊥) → (data_found_of n form k bits).overhead ≡ overhead_for no_overhead
 data-found-none zero form k bits h = absurd (h refl)
 data-found-none (suc n) form k bits h = refl
 
@@ -301,19 +298,19 @@ module _ (x : Library) (k : Keeps x) where
 
   pub data-write-answer : (c : DataWriteCall) → (x.data_write c).answer ≡ answer (data_write_checks c)
   data-write-answer c =
-      ap (λ (w : Written). w.answer) (k.data_write c refl).given ∙ written-answer (answer (data_write_checks c)) c.form c.size _
+      ap (λ (w : DataSent). w.answer) (k.data_write c refl).given ∙ written-answer (answer (data_write_checks c)) c.form c.size _
 
   pub data-crc-answer : (c : DataCrcCall) → (x.data_crc c).answer ≡ answer (data_crc_checks c)
-  data-crc-answer c = ap (λ (s : Sixes). s.answer) (k.data_crc c refl).given ∙ crc-answer (answer (data_crc_checks c)) c.form c.size (bits_of c.frame)
+  data-crc-answer c = ap (λ (s : DataCrcs). s.answer) (k.data_crc c refl).given ∙ crc-answer (answer (data_crc_checks c)) c.form c.size (bits_of c.frame)
 
   pub data-read-answer : (c : DataReadCall) → (x.data_read c).answer ≡ answer (data_read_checks c)
   data-read-answer c =
-      ap (λ (f : DataFound). f.answer) (k.data_read c refl).found ∙ data-found-answer (answer (data_read_checks c)) c.form c.size (bits_of c.frame)
+      ap (λ (f : DataFields). f.answer) (k.data_read c refl).found ∙ data-found-answer (answer (data_read_checks c)) c.form c.size (bits_of c.frame)
 
   data-write-is : Answers x.data_write data_write_checks (λ c. c.frame) 0
   data-write-is =
       data-answers ordered.data_write data-write-answer
-      (λ c h. ap (λ (w : Written). w.crc) (k.data_write c refl).given
+      (λ c h. ap (λ (w : DataSent). w.crc) (k.data_write c refl).given
       ∙ written_none (answer (data_write_checks c)) c.form c.size _ (other (data-write-answer c) h))
       (λ c h. (k.data_write c refl).left ∙ kept (answer (data_write_checks c)) c.frame _ (other (data-write-answer c) h))
 
@@ -328,8 +325,8 @@ module _ (x : Library) (k : Keeps x) where
   data-read-is : Answers x.data_read data_read_checks (λ c. c.payload) (overhead_for no_overhead)
   data-read-is =
       data-answers ordered.data_read data-read-answer
-      (λ c h. ap (λ (f : DataFound). overhead_for f.overhead) (k.data_read c refl).found
-      ∙ ap overhead_for (data-found-none (answer (data_read_checks c)) c.form c.size (bits_of c.frame) (other (data-read-answer c) h)))
+      (λ c h. ap (λ (f : DataFields). f.overhead) (k.data_read c refl).found
+      ∙ data-found-none (answer (data_read_checks c)) c.form c.size (bits_of c.frame) (other (data-read-answer c) h))
       (λ c h. (k.data_read c refl).payload_left ∙ kept (answer (data_read_checks c)) c.payload _ (other (data-read-answer c) h))
 
   receive-start-is : Answers x.receive_start receive_start_checks (λ c. record { end = c; heard = 0; from = 0 }) (record { given = 0; place = 0 })
