@@ -3,7 +3,6 @@ use mathlib.Core.Path.{◌≡◌, refl, sym, ap, ap₂, ◌∙◌}
 use mathlib.Core.List.{List, [], ◌∷◌, ◌++◌, append_assoc, append-nil}
 use Prim.Native.Nat.{ℕ, zero, suc, ◌+◌, ◌-◌, ◌*◌, ◌≤◌, ◌<◌}
 use native.Mathlib.Omega.{arith}
-use borrow.Author.Tests.{eq-eqb, ne_eqb}
 use lib.Dec.{lit≤}
 use lib.ListN.{length, get_or, take, drop, set, replicate, length-set, length-append}
 use lib.Seq.{take-suc-set, lt-length-set, take-length, take_at}
@@ -11,7 +10,7 @@ use Rattle.octets.specs.Bits.{bits_of, part, laid}
 use Rattle.octets.proofs.Laws.{Octets}
 use Rattle.octets.proofs.Whole.{set-octets, copied, cleared, drop_all}
 use Rattle.eoc.proofs.Escapes.{encoded-most, escaped-next}
-use Rattle.eoc.specs.Message.{flag, escape, flag_mark, escape_mark, encoded, escaped, framed, padded, contents_most, form_most}
+use Rattle.eoc.specs.Message.{flag, encoded, escaped, framed, padded, contents_most, form_most}
 
 -- one octet put at a place
 pub one-put : (l : List ℕ) (i j a : ℕ) → i + 1 ≡ j → i < length l → take j (set l i a) ≡ take i l ++ (a ∷ [])
@@ -25,16 +24,6 @@ two-put l i j a b e h =
     one-put (set l i a) (i + 1) j b (omega arith) (lt-length-set l i a h)
     ∙ ap (λ (x : List ℕ). x ++ (b ∷ [])) (one-put l i (i + 1) a refl (omega arith))
     ∙ append_assoc (take i l) (a ∷ []) (b ∷ [])
-
--- an octet as it is encoded
-pub encoded-flag : (o : ℕ) → o ≡ flag → encoded o ≡ escape ∷ flag_mark ∷ []
-encoded-flag o e = simp (eq-eqb o flag e)
-
-pub encoded-escape : (o : ℕ) → (o ≡ flag → ⊥) → o ≡ escape → encoded o ≡ escape ∷ escape_mark ∷ []
-encoded-escape o n e = simp (ne_eqb o flag n, eq-eqb o escape e)
-
-pub encoded-other : (o : ℕ) → (o ≡ flag → ⊥) → (o ≡ escape → ⊥) → encoded o ≡ o ∷ []
-encoded-other o n m = simp (ne_eqb o flag n, ne_eqb o escape m)
 
 -- ---- the octets between the flags
 
