@@ -84,7 +84,7 @@ fn put_form(room: &mut [u8], fields: &[u8]) -> usize
     room[0] = eoc::FLAG;
     let end = put_escaped(room, fields);
     room[end] = eoc::FLAG;
-    octets::clear(room, 8 * (end + 1), 8 * (eoc::FORM - (end + 1)) as u32);
+    room[end + 1..].fill(0);
     end + 1
 }
 
@@ -100,7 +100,7 @@ fn put_message(room: &mut [u8], address: u8, number: u8, contents: &[u8]) -> usi
     let n = 2 + contents.len();
     fields[0] = address;
     fields[1] = number;
-    octets::copy(&mut fields, 16, contents, 0, 8 * contents.len() as u32);
+    fields[2..n].copy_from_slice(contents);
     put_sequence(&mut fields, n);
     put_form(room, &fields[..n + 2])
 }

@@ -15,5 +15,5 @@ returns c =
     let l : length c.put_escaped-end.new.room ≡ length a.room.now = c.put_escaped-end.auto.room ∙ length-set a.room.now 0 126 in (
       omega (arith, e.0, length-append X (flag ∷ [])),
       omega (arith, e.1, c.requires),
-      form-put a.room.now c.put_escaped-end.new.room c.clear.new.s X c.put_escaped-end.result c.requires.1 (λ i. omega (arith, c.slice_known-2-1.given i)) l e.0 (omega (arith, e.1, c.requires)) e.2 c.clear.ensures,
+      form-put a.room.now c.put_escaped-end.new.room c.fill.new.self X c.put_escaped-end.result c.requires.1 l e.0 (omega (arith, e.1, c.requires)) e.2 (c.fill.ensures.after (λ y p. p)),
     )
