@@ -12,11 +12,13 @@ ghost use Rattle.eoclisting.specs.Line.{way_text, message_line, reason_row, refu
 ghost use Rattle.eoclisting.specs.Promises.{Lined};
 ghost use Rattle.eoclisting.specs.Totals.{left_text, count_text, taken_text, Totalled};
 
-// What becomes of a message: the answer of reading it, to whom it goes, and how many octets its line has.
+use answer::Refused;
+use eocreader::Found;
+
+// What becomes of a message: to whom it goes, or why it is refused; and how many octets its line has.
 #[derive(Drop)]
 pub struct Listed {
-    pub answer: u32,
-    pub destination: u32,
+    pub destination: Result<u32, Refused>,
     pub length: usize,
 }
 
@@ -346,7 +348,7 @@ fn put_contents(room: &mut [u8], at: usize, number: u32, contents: &[u8]) -> usi
 // ---- lines
 
 // The line of a message.
-fn put_message(room: &mut [u8], n: u32, found: eocreader::Found, contents: &[u8]) -> usize
+fn put_message(room: &mut [u8], n: u32, found: Found, contents: &[u8]) -> usize
     ensures { Put room.old 0 (message_line n (record {
       source = found.source;
       destination = found.destination;
@@ -355,10 +357,16 @@ fn put_message(room: &mut [u8], n: u32, found: eocreader::Found, contents: &[u8]
     })) result room.new }
 {
     let mut next = forms::put_form(room, 0, b"# ", &[n]);
-    next = put_way(room, next, found.source, found.destination);
-    next = forms::put_form(room, next, b": # ", &[found.number]);
-    next = put_name(room, next, found.number);
-    next = put_contents(room, next, found.number, contents);
+    let number = u32::from(found.number);
+    next = put_way(
+        room,
+        next,
+        u32::from(found.source),
+        u32::from(found.destination),
+    );
+    next = forms::put_form(room, next, b": # ", &[number]);
+    next = put_name(room, next, number);
+    next = put_contents(room, next, number, contents);
     ascii::put(room, next, b'\n')
 }
 
@@ -392,22 +400,15 @@ pub fn line(n: u32, octets: &[u8], room: &mut [u8]) -> Listed
     ensures { Lined n octets.now room.old result room.new }
 {
     let mut contents = [0u8; eoc::CONTENTS];
-    let found = eocreader::read(octets, &mut contents);
-    let no = found.answer;
-    if no != answer::DONE {
-        let length = put_refused(room, n, no);
-        return Listed {
-            answer: no,
-            destination: 0,
-            length,
-        };
-    }
-    let m = found.length as usize;
-    let length = put_message(room, n, found, &contents[..m]);
-    Listed {
-        answer: no,
-        destination: found.destination,
-        length,
+    match eocreader::read(octets, &mut contents) {
+        Ok(found) => Listed {
+            destination: Ok(u32::from(found.destination)),
+            length: put_message(room, n, found, &contents[..usize::from(found.length)]),
+        },
+        Err(no) => Listed {
+            destination: Err(no),
+            length: put_refused(room, n, no.number()),
+        },
     }
 }
 
