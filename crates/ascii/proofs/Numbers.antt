@@ -6,7 +6,7 @@ use Prim.Native.Nat.{ℕ, zero, suc, ◌+◌, ◌*◌, ◌/◌, ◌%◌, ◌^◌
 use native.Mathlib.Omega.{arith}
 use borrow.Author.Tests.{lt-ltb, le-ltb, ltb-true, ltb-false}
 use lib.Dec.{ltb}
-use lib.IntN.{ℤ, pos, negsuc}
+use lib.IntN.{ℤ, pos, negsuc, nat_abs}
 use lib.Signed.{mag, lt_z}
 use native.Mathlib.Nat.{pow-suc}
 use native.Mathlib.Numerals.{add-one}
@@ -90,6 +90,16 @@ pub signed-from : (z : ℤ) → lt_z z (pos 0) ≡ false → decimal (mag z) ≡
 unfolding signed
 signed-from (pos n) e = refl
 signed-from (negsuc n) e = absurd (true≢false e)
+
+pub minus-first : (z : ℤ) → lt_z z (pos 0) ≡ true → text "-" ++ decimal (nat_abs z) ≡ signed z
+unfolding signed
+minus-first (pos n) e = absurd (omega (arith, ltb-true n 0 e))
+minus-first (negsuc n) e = ap (λ (m : ℕ). text "-" ++ decimal m) (omega arith)
+
+pub no-sign : (z : ℤ) → lt_z z (pos 0) ≡ false → decimal (nat_abs z) ≡ signed z
+unfolding signed
+no-sign (pos n) e = refl
+no-sign (negsuc n) e = absurd (true≢false e)
 
 -- ---- how long a number's text is
 

@@ -7,7 +7,8 @@ use native.Mathlib.Omega.{arith}
 use lib.ListN.{length, take, drop, set, length-append}
 use lib.Seq.{sets, length-sets, set_out, take_all, take_at}
 use Rattle.octets.proofs.Laws.{sets-append}
-use Rattle.ascii.specs.Promises.{Put, Told}
+use Rattle.ascii.specs.declared.Text.{Text}
+use Rattle.ascii.specs.Promises.{Put, Puts, Told}
 
 -- past the end nothing is set
 sets-out : (l : List ℕ) (i : ℕ) (vs : List ℕ) → length l ≤ i → sets l i vs ≡ l
@@ -69,6 +70,16 @@ put-more {s} {t} {u} {at} {n} {r} xs ys p q =
 -- text that is another
 pub put_as : {s t : List ℕ} {at n : ℕ} {xs ys : List ℕ} → Put s at xs n t → xs ≡ ys → Put s at ys n t
 put_as {s} {t} {at} {n} p e = rw e at p
+
+-- the same by methods of `Text`
+pub puts-none : (s : Text) → Puts s [] s
+puts-none s = record { lent = refl; put = put-none s.room.now s.at }
+
+pub puts-more : {s t u : Text} {xs ys : List ℕ} → Puts s xs t → Puts t ys u → Puts s (xs ++ ys) u
+puts-more {xs = xs} {ys = ys} p q = record { lent = q.lent ∙ p.lent; put = put-more xs ys p.put q.put }
+
+pub puts_as : {s t : Text} {xs ys : List ℕ} → Puts s xs t → xs ≡ ys → Puts s ys t
+puts_as p e = record { lent = p.lent; put = put_as p.put e }
 
 -- the room keeps its length
 pub put-length : {s t : List ℕ} {at n : ℕ} (xs : List ℕ) → Put s at xs n t → length t ≡ length s

@@ -2,6 +2,7 @@
 -- place `at` on.
 use Rattle.std.specs.Prelude.{◌≡◌, List, ◌++◌, ℕ, ◌+◌, ◌-◌, min, length, take, drop}
 use Rattle.std.proofs.lemmas.List.Edits.{sets}
+use Rattle.ascii.specs.declared.Text.{Text}
 
 -- put_word, put_decimal and the others, each with its own text, from a place on: what would lie past the room's end is left out, and the
 -- next place comes back
@@ -13,3 +14,8 @@ pub record Put (room : List ℕ) (at : ℕ) (text : List ℕ) (next : ℕ) (exit
 pub record Told (text room : List ℕ) (r : ℕ) (exit : List ℕ) : Type 0 where
   pub count : r ≡ min (length text) (length room)
   pub room_left : exit ≡ take r text ++ drop r room
+
+-- a text put by a method of `Text`: into the same room, from its place on
+pub record Puts (old : Text) (text : List ℕ) (new : Text) : Type 0 where
+  pub lent : new.room.ghost_name ≡ old.room.ghost_name
+  pub put : Put old.room.now old.at text new.at new.room.now

@@ -5,8 +5,82 @@
 ghost use Rattle.std.specs.Prelude.{◌≡◌, ◌∷◌, [], ◌<◌, drop};
 ghost use Rattle.ascii.specs.Text.{decimal, signed, hex, hexes};
 ghost use Rattle.ascii.specs.Text.{digit as digit_of};
-ghost use Rattle.ascii.specs.Promises.{Put};
+ghost use Rattle.ascii.specs.Promises.{Put, Puts};
 ghost use Rattle.ascii.specs.Plain.{is_printable, printables, all_zeros, TextLength};
+
+// The character of a digit below 16, capital letters from ten on.
+fn digit(d: u8) -> u8
+    requires { d < 16 }
+    ensures { result ≡ digit_of d }
+{
+    if d < 10 { b'0' + d } else { b'A' + (d - 10) }
+}
+
+// A lent room, and the place in it where the next text goes.
+#[derive(Drop)]
+pub struct Text<'a> {
+    pub room: &'a mut [u8],
+    pub at: usize,
+}
+
+impl<'a> Text<'a> {
+    // One octet of text.
+    pub fn put(&mut self, octet: u8)
+        ensures { Puts self.old (octet ∷ []) self.new }
+    {
+        if self.at < self.room.len() {
+            self.room[self.at] = octet;
+            self.at += 1;
+        }
+    }
+
+    // A word of text.
+    pub fn word(&mut self, word: &[u8])
+        ensures { Puts self.old word.now self.new }
+    {
+        for &octet in word {
+            self.put(octet);
+        }
+    }
+
+    // A number in decimal.
+    pub fn decimal(&mut self, n: u32)
+        ensures { Puts self.old (decimal n) self.new }
+    {
+        if 10 <= n {
+            self.decimal(n / 10);
+        }
+        self.put(digit((n % 10) as u8));
+    }
+
+    // A whole number in decimal, with - in front where it is below zero.
+    pub fn signed(&mut self, v: i32)
+        ensures { Puts self.old (signed v) self.new }
+    {
+        if v < 0 {
+            self.word(b"-");
+        }
+        self.decimal(v.unsigned_abs());
+    }
+
+    // An octet as two hex digits, the high one first.
+    fn hex(&mut self, octet: u8)
+        ensures { Puts self.old (hex octet) self.new }
+    {
+        let (high, low) = (octet / 16, octet % 16);
+        self.put(digit(high));
+        self.put(digit(low));
+    }
+
+    // Octets in order, two hex digits each.
+    pub fn hexes(&mut self, octets: &[u8])
+        ensures { Puts self.old (hexes octets.now) self.new }
+    {
+        for &octet in octets {
+            self.hex(octet);
+        }
+    }
+}
 
 // One octet of text.
 pub fn put(room: &mut [u8], at: usize, octet: u8) -> usize
@@ -31,14 +105,6 @@ pub fn put_word(room: &mut [u8], at: usize, word: &[u8]) -> usize
         k += 1;
     }
     next
-}
-
-// The character of a digit below 16, capital letters from ten on.
-fn digit(d: u8) -> u8
-    requires { d < 16 }
-    ensures { result ≡ digit_of d }
-{
-    if d < 10 { 48 + d } else { 55 + d }
 }
 
 // A number in decimal.

@@ -2,9 +2,9 @@
 #![tactic(auto)]
 
 ghost use Rattle.std.specs.Prelude.{◌%◌, length};
-ghost use Rattle.answer.specs.Answer.{answer};
 ghost use Rattle.fcs.specs.Promises.{Sequenced};
-ghost use Rattle.remainder.specs.Promises.{CheckBits, start_refusals, FromStart};
+ghost use Rattle.remainder.specs.Promises.{CheckBits};
+ghost use Rattle.checktrial.specs.Promises.{Tried};
 
 // The check bits of any range of bits.
 #[unsafe(no_mangle)]
@@ -24,11 +24,9 @@ pub extern "C" fn trial_from_start(
     at: usize,
     n: u32,
 ) -> u32
-    ensures { FromStart generator degree start s.now at n
-        (record { answer = answer (start_refusals generator degree start); remainder = result }) }
+    ensures { Tried generator degree start s.now at n result }
 {
-    let left = remainder::from_start(generator, degree, start, s, at, n);
-    left.remainder
+    remainder::from_start(generator, degree, start, s, at, n).unwrap_or(0)
 }
 
 // The check sequence of octets, up to 65,535 of them.

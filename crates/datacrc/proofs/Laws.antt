@@ -13,8 +13,6 @@ use Rattle.octets.specs.Bits.{digits_of, value_of, bits_of, part}
 use Rattle.octets.proofs.Digits.{Bits, append_bits, digits_value, value-append}
 use Rattle.octets.proofs.Laws.{bits-length, bits-part}
 use Rattle.remainder.specs.Division.{Degree, polynomial, Remainder, RemainderFrom}
-use Rattle.remainder.specs.Promises.{start_refusals, FromStart}
-use Rattle.remainder.specs.declared.Left.{Left}
 use Rattle.remainder.proofs.Division.{computed}
 use Rattle.remainder.proofs.Start.{follows}
 use Rattle.dataframe.specs.Table.{crc, end_width}
@@ -23,14 +21,6 @@ use Rattle.dataframe.specs.Refusals.{is_room, crc_refusals}
 use Rattle.dataframe.proofs.Refused.{fit}
 use Rattle.datacrc.specs.Promises.{crc_of, CrcGiven}
 use Rattle.dataframe.proofs.Rows.{crc-is, covered-is}
-
--- what `from_start` gives for the generator, from a start of six digits
-pub left_is : (start : ℕ) (s : List ℕ) (at n : ℕ) (r : Left) → start < 2 ^ 6 → FromStart 67 6 start s at n r
-    → RemainderFrom 6 six_generator start (part at n (bits_of s)) r.remainder
-left_is start s at n r h f = f.given (f.answered ∙ done)
-  where
-    done : answer (start_refusals 67 6 start) ≡ 0
-    done = simp (lt-leb 64 start h)
 
 -- ---- what is left of four runs of bits, each behind the one before
 

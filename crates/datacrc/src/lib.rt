@@ -10,9 +10,6 @@ ghost use Rattle.dataframe.specs.Frame.{six_generator};
 ghost use Rattle.dataframe.specs.Refusals.{is_room};
 ghost use Rattle.datacrc.specs.Promises.{RoomChecked, CrcGiven};
 
-// X^6 + X + 1, each power a digit.
-const GENERATOR: u32 = 0x43;
-
 // The generator's degree: so many check bits.
 const DEGREE: u32 = 6;
 
@@ -29,7 +26,7 @@ fn left(start: u32, frame: &[u8], at: usize, n: u32) -> u32
     requires { start < 2 ^ 6 }
     ensures { RemainderFrom 6 six_generator start (part at n (bits_of frame.now)) result }
 {
-    remainder::from_start(GENERATOR, DEGREE, start, frame, at, n).remainder
+    remainder::from_start(remainder::SIX, remainder::SIX_DEGREE, start, frame, at, n).unwrap()
 }
 
 // What is left of the covered bits, where a block has n bits and `spare` bits stand behind the last: the bits between sync, the three pairs of

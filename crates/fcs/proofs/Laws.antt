@@ -21,8 +21,7 @@ use Rattle.remainder.specs.Division.{check_bits, RemainderFrom, generator}
 use Rattle.remainder.proofs.Division.{exists, unique, exists-from, unique-from}
 use Rattle.remainder.proofs.Errors.{check_bits_right, generator-degree}
 use Rattle.remainder.proofs.Quotient.{up-over, start-in}
-use Rattle.remainder.specs.declared.Left.{Left}
-use Rattle.remainder.specs.Promises.{WordLeft, FromStart}
+use Rattle.remainder.specs.Promises.{WordLeft}
 use Rattle.remainder.specs.Register.{register_of}
 use Rattle.fcs.specs.Promises.{Sequenced}
 use Rattle.fcs.specs.Sequence.{ones, sent, Sequence, register, sequence_of}
@@ -94,13 +93,12 @@ bits-first s n = pick (dec_le n (length s))
     pick (yes h) = sym (octets-part s 0 n (omega arith))
     pick (no h) = take_all (8 * n) (bits_of s) (omega (arith, bits-length s)) ∙ ap bits_of (sym (take_all n s (omega arith)))
 
--- of the first n octets, by what `from_start` gives
-pub long-is : (s : List ℕ) (n : ℕ) (r : Left) (t : ℕ) → FromStart generator 16 ones s 0 (8 * n) r → t ≡ turn_of 16 r.remainder
-    → t ≡ turn_of 16 (register (take n s))
-long-is s n r t f e =
+-- what is left of the first n octets: the register behind them
+pub long-is : (s : List ℕ) (n x t : ℕ) → RemainderFrom 16 generator ones (part 0 (8 * n) (bits_of s)) x → t ≡ turn_of 16 x → t ≡ turn_of 16 (register (take n s))
+long-is s n x t f e =
     let T = take n s in
-    let d = subst (λ (b : List ℕ). RemainderFrom 16 generator ones b r.remainder) (bits-first s n) (f.given f.answered) in
-    e ∙ ap (turn_of 16) (unique-from 16 generator generator-degree ones (bits_of T) r.remainder (register T) d (register-left T))
+    let d = subst (λ (b : List ℕ). RemainderFrom 16 generator ones b x) (bits-first s n) f in
+    e ∙ ap (turn_of 16) (unique-from 16 generator generator-degree ones (bits_of T) x (register T) d (register-left T))
 
 -- sixteen ones are the same from either end
 ones-turned : ones ≡ turn_of 16 ones

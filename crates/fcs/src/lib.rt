@@ -44,9 +44,10 @@ fn long(s: &[u8], n: u16) -> u32
         ONES,
         s,
         0,
-        8 * (n as u32),
-    );
-    bitfields::turned(remainder::DEGREE, left.remainder)
+        8 * u32::from(n),
+    )
+    .unwrap();
+    bitfields::turned(remainder::DEGREE, left)
 }
 
 // The register after n octets, turned round, the shortest way. Everything else takes the long way through one branch, so that two octets

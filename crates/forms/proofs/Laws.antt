@@ -12,8 +12,9 @@ use borrow.Author.Tests.{eq-eqb, ne_eqb}
 use lib.Dec.{eqb}
 use lib.ListN.{length, get_or, drop, drop_of_length-le}
 use Rattle.ascii.specs.Text.{decimal}
-use Rattle.ascii.specs.Promises.{Put}
-use Rattle.ascii.proofs.Room.{put-none, put-more, put_as}
+use Rattle.ascii.specs.declared.Text.{Text}
+use Rattle.ascii.specs.Promises.{Put, Puts}
+use Rattle.ascii.proofs.Room.{put-none, put-more, put_as, puts-none, puts-more, puts_as}
 use Rattle.forms.specs.Forms.{first_of, formed_by, formed, row_by, row_of}
 
 -- ---- a text put so far
@@ -43,9 +44,33 @@ passed s e = record { done = s.done; put = s.put; is = ap (λ (l : List ℕ). s.
 pub at_last : {whole room exit rest : List ℕ} {at next : ℕ} → Sofar whole room at rest next exit → rest ≡ [] → Put room at whole next exit
 at_last s e = put_as s.put (sym (append-nil s.done) ∙ ap (λ (l : List ℕ). s.done ++ l) (sym e) ∙ s.is)
 
+-- the same by methods of `Text`
+pub record Through (whole : List ℕ) (old : Text) (rest : List ℕ) (new : Text) : Type 0 where
+  pub done : List ℕ
+  pub puts : Puts old done new
+  pub is : done ++ rest ≡ whole
+
+pub through-none : (whole : List ℕ) (old : Text) → Through whole old whole old
+through-none whole old = record { done = []; puts = puts-none old; is = refl }
+
+pub through-more : {whole xs rest rest' : List ℕ} {old mid new : Text} → Through whole old rest mid → Puts mid xs new → rest ≡ xs ++ rest'
+    → Through whole old rest' new
+through-more {xs = xs} {rest' = rest'} s p e =
+    record {
+      done = s.done ++ xs;
+      puts = puts-more s.puts p;
+      is = append_assoc s.done xs rest' ∙ ap (λ (l : List ℕ). s.done ++ l) (sym e) ∙ s.is;
+    }
+
+pub through-same : {whole rest rest' : List ℕ} {old new : Text} → Through whole old rest new → rest ≡ rest' → Through whole old rest' new
+through-same s e = record { done = s.done; puts = s.puts; is = ap (λ (l : List ℕ). s.done ++ l) (sym e) ∙ s.is }
+
+pub through-all : {whole rest : List ℕ} {old new : Text} → Through whole old rest new → rest ≡ [] → Puts old whole new
+through-all s e = puts_as s.puts (sym (append-nil s.done) ∙ ap (λ (l : List ℕ). s.done ++ l) (sym e) ∙ s.is)
+
 -- ---- the rest of a list from a place in it
 
-rest_at : (l : List ℕ) (k : ℕ) → k < length l → drop k l ≡ get_or l k 0 ∷ drop (k + 1) l
+pub rest_at : (l : List ℕ) (k : ℕ) → k < length l → drop k l ≡ get_or l k 0 ∷ drop (k + 1) l
 rest_at l k h = go l k h ∙ ap (λ (n : ℕ). get_or l k 0 ∷ drop n l) (sym (add-one k))
   where
     go : (l : List ℕ) (k : ℕ) → k < length l → drop k l ≡ get_or l k 0 ∷ drop (suc k) l
@@ -78,6 +103,18 @@ module _ (form ns : List ℕ) (k u : ℕ) (h : k < length form) (o : get_or form
       form-at form (drop u ns) k h true (eq-eqb _ _ o)
       ∙ ap (λ (l : List ℕ). first_of l ++ formed (drop (k + 1) form) (drop 1 l)) (drop_of_length-le ns i)
       ∙ ap (formed (drop (k + 1) form)) (sym (drop_of_length-le ns i))
+
+-- a mark, with the numbers that are left
+module _ (form : List ℕ) (k : ℕ) (h : k < length form) (o : get_or form k 0 ≡ 35) where
+  pub form-next : {ns rest : List ℕ} {n : ℕ} → ns ≡ n ∷ rest → formed (drop k form) ns ≡ decimal n ++ formed (drop (k + 1) form) rest
+  unfolding first_of formed_by
+  form-next {ns} e =
+      form-at form ns k h true (eq-eqb _ _ o) ∙ ap (λ (l : List ℕ). first_of l ++ formed (drop (k + 1) form) (drop 1 l)) e
+
+  pub form-over : (ns : List ℕ) → length ns ≡ 0 → formed (drop k form) ns ≡ formed (drop (k + 1) form) ns
+  unfolding first_of formed_by
+  form-over [] e = form-at form [] k h true (eq-eqb _ _ o)
+  form-over (n ∷ ns) e = absurd (omega arith)
 
 pub form-end : (form ns : List ℕ) (k : ℕ) → length form ≤ k → formed (drop k form) ns ≡ []
 unfolding formed

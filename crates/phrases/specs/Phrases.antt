@@ -2,6 +2,7 @@
 use Rattle.std.specs.Prelude.{cond, List, [], ◌∷◌, ◌++◌, ℕ, ◌/◌, ◌%◌, eqb}
 use Rattle.ascii.specs.Text.{text, decimal}
 use Rattle.forms.specs.Forms.{row_of}
+use Rattle.phrases.specs.declared.Phrase.{Phrase}
 
 -- n thousandths with three decimals: "2.800"
 unfoldable pub thousandths : ℕ → List ℕ
@@ -25,3 +26,8 @@ unfoldable pub phrases : List ℕ → List ℕ → List ℕ
 phrases table [] = []
 phrases table (row ∷ []) = []
 phrases table (row ∷ n ∷ said) = phrase_of table row n ++ phrases table said
+
+-- phrases as numbers: the row of each, and its number
+abbrev pub said_of : List Phrase → List ℕ
+said_of [] = []
+said_of (p ∷ ps) = p.row ∷ p.number ∷ said_of ps

@@ -2,11 +2,59 @@
 // would lie past the room's end is left out, and the place behind the text comes back.
 #![tactic(auto)]
 
-ghost use Rattle.ascii.specs.Promises.{Put};
-ghost use Rattle.phrases.specs.Phrases.{thousandths, marked, phrase_of, phrases};
+ghost use Rattle.ascii.specs.Promises.{Put, Puts};
+ghost use Rattle.phrases.specs.Phrases.{thousandths, marked, phrase_of, phrases, said_of};
+
+use ascii::Text;
+
+// A row of a table, and the number for its marks.
+#[derive(Clone, Copy)]
+pub struct Phrase {
+    pub row: u32,
+    pub number: u32,
+}
 
 // Thousandths as a number with three decimals.
-fn put_thousandths(room: &mut [u8], at: usize, n: u32) -> usize
+fn put_thousandths(text: &mut Text<'_>, n: u32)
+    ensures { Puts text.old (thousandths n) text.new }
+{
+    let digits = [n / 1000, n / 100 % 10, n / 10 % 10, n % 10];
+    forms::form(text, b"#.###", &digits);
+}
+
+// An octet of a phrase, or the number that it marks.
+fn put_marked(text: &mut Text<'_>, octet: u8, n: u32)
+    ensures { Puts text.old (marked n octet) text.new }
+{
+    match octet {
+        b'#' => text.decimal(n),
+        b'@' => put_thousandths(text, n),
+        b'$' => text.put(b'\n'),
+        _ => text.put(octet),
+    }
+}
+
+// A row of a table, counted from 0, with a number for its marks.
+fn put_phrase(text: &mut Text<'_>, table: &[u8], row: u32, n: u32)
+    ensures { Puts text.old (phrase_of table.now row n) text.new }
+{
+    let octets = forms::row(table, row);
+    for &octet in octets {
+        put_marked(text, octet, n);
+    }
+}
+
+// Phrases one behind the other.
+pub fn tell(text: &mut Text<'_>, table: &[u8], said: &[Phrase])
+    ensures { Puts text.old (phrases table.now (said_of said.now)) text.new }
+{
+    for &Phrase { row, number } in said {
+        put_phrase(text, table, row, number);
+    }
+}
+
+// Thousandths as a number with three decimals.
+fn old_thousandths(room: &mut [u8], at: usize, n: u32) -> usize
     ensures { Put room.old at (thousandths n) result room.new }
 {
     forms::put_form(
@@ -18,19 +66,19 @@ fn put_thousandths(room: &mut [u8], at: usize, n: u32) -> usize
 }
 
 // An octet of a phrase, or the number that it marks.
-fn put_marked(room: &mut [u8], at: usize, octet: u8, n: u32) -> usize
+fn old_marked(room: &mut [u8], at: usize, octet: u8, n: u32) -> usize
     ensures { Put room.old at (marked n octet) result room.new }
 {
     match octet {
         b'#' => ascii::put_decimal(room, at, n),
-        b'@' => put_thousandths(room, at, n),
+        b'@' => old_thousandths(room, at, n),
         b'$' => ascii::put(room, at, b'\n'),
         _ => ascii::put(room, at, octet),
     }
 }
 
 // A row of a table, counted from 0, with a number for its marks. Each row ends with a newline, which is not put.
-fn put_phrase(room: &mut [u8], at: usize, table: &[u8], row: u32, n: u32) -> usize
+fn old_phrase(room: &mut [u8], at: usize, table: &[u8], row: u32, n: u32) -> usize
     ensures { Put room.old at (phrase_of table.now row n) result room.new }
 {
     let mut next = at;
@@ -49,7 +97,7 @@ fn put_phrase(room: &mut [u8], at: usize, table: &[u8], row: u32, n: u32) -> usi
         if 0 < before {
             continue;
         }
-        next = put_marked(room, next, octet, n);
+        next = old_marked(room, next, octet, n);
     }
     next
 }
@@ -61,7 +109,7 @@ pub fn put_phrases(room: &mut [u8], at: usize, table: &[u8], said: [u32; 14]) ->
     let mut next = at;
     let mut k = 0;
     while k < 13 {
-        next = put_phrase(room, next, table, said[k], said[k + 1]);
+        next = old_phrase(room, next, table, said[k], said[k + 1]);
         k += 2;
     }
     next

@@ -18,7 +18,7 @@ use Rattle.octets.proofs.Digits.{Bits, take-bits, drop_bits, reverse_bits, value
 use Rattle.octets.proofs.Laws.{bits-bits}
 use Rattle.octets.proofs.Xor.{xor_assoc, xor-cancel, shl-xor, mid}
 use Rattle.remainder.specs.Division.{times, polynomial, Degree, Remainder, RemainderFrom, Multiple}
-use Rattle.remainder.specs.Promises.{start_refusals, FromStart}
+use Rattle.remainder.specs.Promises.{start_refusals}
 use Rattle.remainder.specs.Register.{register_of}
 use Rattle.remainder.proofs.Division.{add, distrib, exists-from, small-multiple}
 use Rattle.remainder.proofs.Errors.{polynomial-append, polynomial-lt, unshifted}
@@ -104,19 +104,10 @@ degree-one g j k a b = pick (dec_le k j) (dec_le j k)
     pick (yes l) (no m) = let n : suc k ≤ j = omega arith in absurd (omega (arith, pow_mono n, a.reached, b.within))
     pick (no l) m = let n : suc j ≤ k = omega arith in absurd (omega (arith, pow_mono n, a.within, b.reached))
 
-module _ (g k start : ℕ) (s : List ℕ) (at n : ℕ) where
-  -- what is given where nothing is refused: the register's run
-  pub from-done : (r : ℕ) → answer (start_refusals g k start) ≡ 0 → r ≡ register_of k g start (part at n (bits_of s))
-      → FromStart g k start s at n (record { answer = 0; remainder = r })
-  from-done r z e =
-      let h = start-sound g k start z in
-      let P = part at n (bits_of s) in
-      record {
-        answered = sym z;
-        given = λ o. subst (RemainderFrom k g start P) (sym e)
-            (exists-from k g h.0 h.2 start P (take-bits n (drop at (bits_of s)) (drop_bits at (bits_of s) (bits-bits s))) h.3);
-        none = λ o. never o;
-      }
-    where
-      never : (◌≡◌ {A = ℕ} 0 0 → ⊥) → r ≡ 0
-      never o = absurd (o refl)
+-- what is left where nothing is refused: the register's run
+pub from-done : (g k start : ℕ) (s : List ℕ) (at n r : ℕ) → answer (start_refusals g k start) ≡ 0 → r ≡ register_of k g start (part at n (bits_of s))
+    → RemainderFrom k g start (part at n (bits_of s)) r
+from-done g k start s at n r z e =
+    let h = start-sound g k start z in
+    let P = part at n (bits_of s) in
+    subst (RemainderFrom k g start P) (sym e) (exists-from k g h.0 h.2 start P (take-bits n (drop at (bits_of s)) (drop_bits at (bits_of s) (bits-bits s))) h.3)

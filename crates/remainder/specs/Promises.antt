@@ -1,9 +1,10 @@
 -- What the crate's functions promise.
-use Rattle.std.specs.Prelude.{◌≡◌, List, [], ◌∷◌, reverse, ℕ, suc, ◌%◌, ◌^◌, eqb, leb, ltb}
+use Rattle.std.specs.Prelude.{◌≡◌, List, [], ◌∷◌, reverse, ℕ, suc, ◌%◌, ◌^◌, eqb, leb, ltb, Result, IfOk}
 use Rattle.answer.specs.Answer.{Refusal, refuse, answer}
+use Rattle.answer.specs.Given.{answer_of}
+use Rattle.answer.specs.declared.Refused.{Refused}
 use Rattle.octets.specs.Bits.{digits_of, value_of, bits_of, part}
 use Rattle.remainder.specs.Division.{Remainder, RemainderFrom, generator}
-use Rattle.remainder.specs.declared.Left.{Left}
 
 -- check_bits: the remainder of the n bits from a place on; the register starts at zero and nothing is inverted
 abbrev pub CheckBits : List ℕ → ℕ → ℕ → ℕ → Type 0
@@ -22,7 +23,6 @@ start_refusals g k start =
     ∷ refuse 4 (leb (2 ^ k) start) ∷ []
 
 -- from_start: what is left of the n bits from a place on, behind a start
-pub record FromStart (g k start : ℕ) (s : List ℕ) (at n : ℕ) (r : Left) : Type 0 where
-  pub answered : r.answer ≡ answer (start_refusals g k start)
-  pub given : r.answer ≡ 0 → RemainderFrom k g start (part at n (bits_of s)) r.remainder
-  pub none : (r.answer ≡ 0 → ⊥) → r.remainder ≡ 0
+pub record FromStart (g k start : ℕ) (s : List ℕ) (at n : ℕ) (r : Result ℕ Refused) : Type 0 where
+  pub answered : answer_of r ≡ answer (start_refusals g k start)
+  pub given : IfOk r (λ x. RemainderFrom k g start (part at n (bits_of s)) x)

@@ -4,10 +4,13 @@
 ghost use Rattle.std.specs.Prelude.{◌≡◌, ◌++◌, reverse, ℕ, ◌+◌, ◌*◌, ◌%◌, ◌^◌, ◌<◌, ◌≤◌, min, length};
 ghost use Rattle.std.specs.Int.Bits.{bit_xor};
 ghost use Rattle.answer.specs.Answer.{answer};
+ghost use Rattle.answer.specs.Given.{answer_of};
 ghost use Rattle.octets.specs.Bits.{digits_of, value_of, bits_of, part};
 ghost use Rattle.remainder.specs.Division.{Degree, generator};
 ghost use Rattle.remainder.specs.Register.{step_of, register_of};
 ghost use Rattle.remainder.specs.Promises.{CheckBits, WordLeft, start_refusals, FromStart};
+
+use answer::Refused;
 
 // D^16 + D^12 + D^5 + 1, each power a digit.
 pub const GENERATOR: u32 = 0x11021;
@@ -166,10 +169,10 @@ fn after(start: u32, s: &[u8], at: usize, n: u32) -> u32
 }
 
 // X^6 + X + 1, each power a digit.
-const SIX: u32 = 0x43;
+pub const SIX: u32 = 0x43;
 
 // Its degree.
-const SIX_DEGREE: u32 = 6;
+pub const SIX_DEGREE: u32 = 6;
 
 // X^63 divided by it leaves 1, so 63 digits, the first bit lowest, stand for all bits before them.
 const ROUND: u32 = 63;
@@ -244,65 +247,36 @@ pub fn check_bits(s: &[u8], at: usize, n: u32) -> u32
     after(0, s, at, n)
 }
 
-// What `from_start` gives: the answer, and the remainder.
-#[derive(Drop)]
-pub struct Left {
-    pub answer: u32,
-    pub remainder: u32,
-}
-
-// What `from_start` refuses, or 0.
-fn refusal(generator: u32, degree: u32, start: u32) -> u32
-    ensures { result ≡ answer (start_refusals generator degree start) }
+// Whether `from_start` takes a generator of that degree and a start.
+fn allowed(generator: u32, degree: u32, start: u32) -> Result<(), Refused>
+    ensures { answer_of result ≡ answer (start_refusals generator degree start) }
 {
-    if degree == 0 {
-        return answer::RANGE;
-    }
-    if DEGREE < degree {
-        return answer::RANGE;
+    if degree == 0 || DEGREE < degree {
+        return Err(Refused::Range);
     }
     let size = 1u32 << degree;
-    if generator < size {
-        return answer::RANGE;
+    if generator < size || size * 2 <= generator || generator % 2 == 0 || size <= start {
+        return Err(Refused::Range);
     }
-    if size * 2 <= generator {
-        return answer::RANGE;
-    }
-    if generator % 2 == 0 {
-        return answer::RANGE;
-    }
-    if size <= start {
-        return answer::RANGE;
-    }
-    answer::DONE
+    Ok(())
 }
 
 // The remainder of the n bits from place `at` on by any generator of degree 1 to 16 with a constant term, behind a start: what was left of
 // bits before them, or any number below 2 to the degree. Nothing past the end counts.
-pub fn from_start(generator: u32, degree: u32, start: u32, s: &[u8], at: usize, n: u32) -> Left
+pub fn from_start(
+    generator: u32,
+    degree: u32,
+    start: u32,
+    s: &[u8],
+    at: usize,
+    n: u32,
+) -> Result<u32, Refused>
     ensures { FromStart generator degree start s.now at n result }
 {
-    let no = refusal(generator, degree, start);
-    if no != answer::DONE {
-        return Left {
-            answer: no,
-            remainder: 0,
-        };
-    }
-    if generator == GENERATOR {
-        return Left {
-            answer: answer::DONE,
-            remainder: after(start, s, at, n),
-        };
-    }
-    if generator == SIX {
-        return Left {
-            answer: answer::DONE,
-            remainder: six_after(start, s, at, n),
-        };
-    }
-    Left {
-        answer: answer::DONE,
-        remainder: by_bits(generator, degree, start, s, at, n),
-    }
+    allowed(generator, degree, start)?;
+    Ok(match generator {
+        GENERATOR => after(start, s, at, n),
+        SIX => six_after(start, s, at, n),
+        _ => by_bits(generator, degree, start, s, at, n),
+    })
 }

@@ -1,12 +1,8 @@
-use Prim.Native.Nat.{◌-◌, ◌≤◌}
-use lib.ListN.{length, drop}
-use Rattle.forms.proofs.Laws.{Sofar}
-use Rattle.phrases.specs.Phrases.{phrase_of}
+use Rattle.std.proofs.Common.{drop}
+use Rattle.forms.proofs.Laws.{Through}
+use Rattle.phrases.specs.Phrases.{phrase}
 use Rattle.phrases.proofs.put_phrase.Given as goal
 
-abbrev pub invariant-loop-k : goal.invariant-loop-k
-invariant-loop-k l = (l.k ≤ length l.table)
-    × Sofar (phrase_of l.table l.row l.n) l.initial.room l.at (phrase_of (drop l.k l.table) l.before l.n) l.next l.room
-
-abbrev pub decreases-loop-k : goal.decreases-loop-k
-decreases-loop-k l = length l.table - l.k
+abbrev pub invariant-loop-octet : goal.invariant-loop-octet
+invariant-loop-octet l =
+    Through (phrase l.octets l.n) l.initial.text (phrase (drop l.octet-index l.octets) l.n) l.text

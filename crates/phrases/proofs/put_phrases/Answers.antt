@@ -37,7 +37,7 @@ loop-k-preserved c =
     let l = c.loop-k in let a = c.args in
     let i : l.k + 1 < length a.said = omega arith in (
       omega arith,
-      further (phrase_of a.table.now (get_or a.said l.k 0) (get_or a.said (l.k + 1) 0)) l.invariant.1 c.put_phrase-next.ensures
+      further (phrase_of a.table.now (get_or a.said l.k 0) (get_or a.said (l.k + 1) 0)) l.invariant.1 c.old_phrase-next.ensures
           (phrases-next a.table.now a.said l.k i),
     )
 
