@@ -10,28 +10,18 @@ ghost use Rattle.bitfields.specs.Promises.{FieldRead, FieldPut, SignedRead, Sign
 // The widest field.
 const WIDEST: u32 = 32;
 
-// The last place that a number can name.
-const LAST: usize = 18446744073709551615;
-
-// A width as it counts.
-fn width(w: u32) -> u32
-    ensures { result ≡ min w 32 }
-{
-    if w < WIDEST { w } else { WIDEST }
-}
-
 // The field of w bits from place `at` on, the first bit lowest.
 pub fn field(s: &[u8], at: usize, w: u32) -> u32
     ensures { FieldRead s.now at w result }
 {
-    octets::bits(s, at, 0, width(w)) as u32
+    octets::bits(s, at, 0, w.min(WIDEST)) as u32
 }
 
 // The field of w bits from place `at` on becomes the w low digits of v, the lowest first.
 pub fn put_field(s: &mut [u8], at: usize, w: u32, v: u32)
     ensures { FieldPut s.old at w v s.new }
 {
-    octets::put_bits(s, at, 0, width(w), v as u64);
+    octets::put_bits(s, at, 0, w.min(WIDEST), u64::from(v));
 }
 
 // The field of w bits from place `at` on, in two's complement.
@@ -73,13 +63,6 @@ fn pushed(s: &mut [u8], window: Window, w: u32, v: u32) -> Window
     }
 }
 
-// The number at an index; past the end 0.
-fn number(numbers: &[i32], k: usize) -> i32
-    ensures { result ≡ get_or numbers.now k (pos 0) }
-{
-    if k < numbers.len() { numbers[k] } else { 0 }
-}
-
 // The window that fields from place `at` on begin with: the bits of its octet that lie before it.
 fn opened(s: &[u8], at: usize) -> Window
     ensures { result ≡ record { octet = at / 8; held = value_of (part (8 * (at / 8)) (at % 8) (bits_of s.now)); count = at % 8 } }
@@ -97,13 +80,12 @@ fn opened(s: &[u8], at: usize) -> Window
 pub fn put_signed_fields(s: &mut [u8], at: usize, w: u32, numbers: &[i32], n: u32)
     ensures { SignedFieldsPut s.old at w numbers.now n s.new }
 {
-    let width = width(w);
+    let width = w.min(WIDEST);
     let mut window = opened(s, at);
-    let mut k: u32 = 0;
-    while k < n {
-        let v = octets::twos(number(numbers, k as usize));
+    for k in 0..n {
+        let number = numbers.get(k as usize).copied().unwrap_or(0);
+        let v = octets::twos(number);
         window = pushed(s, window, width, v);
-        k += 1;
     }
     octets::put_front(s, window.octet, window.count, window.held);
 }
@@ -112,14 +94,11 @@ pub fn put_signed_fields(s: &mut [u8], at: usize, w: u32, numbers: &[i32], n: u3
 pub fn turned(w: u32, v: u32) -> u32
     ensures { Turned w v result }
 {
-    let n = width(w);
-    let mut r: u32 = 0;
+    let mut r = 0;
     let mut rest = v;
-    let mut k: u32 = 0;
-    while k < n {
+    for _ in 0..w.min(WIDEST) {
         r = r * 2 + rest % 2;
-        rest = rest / 2;
-        k += 1;
+        rest /= 2;
     }
     r
 }
@@ -128,6 +107,5 @@ pub fn turned(w: u32, v: u32) -> u32
 pub fn behind(at: usize, w: u32) -> usize
     ensures { Behind at w result }
 {
-    let n = width(w) as usize;
-    if LAST - n < at { LAST } else { at + n }
+    at.saturating_add(w.min(WIDEST) as usize)
 }

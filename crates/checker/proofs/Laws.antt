@@ -2,31 +2,34 @@
 use mathlib.Core.Path.{◌≡◌, refl, sym, ap, ap₂, ◌∙◌}
 use mathlib.Core.Bool.{Bool, true, false, cond, not, ◌||◌}
 use mathlib.Core.List.{List, ◌∷◌, reverse}
-use Prim.Native.Nat.{ℕ, zero, suc}
+use Prim.Native.Nat.{ℕ}
 use native.Mathlib.Omega.{arith}
 use borrow.Author.Tests.{eq-eqb, ne_eqb, eqb-true, not-false}
 use lib.Dec.{eqb, lit≤}
 use lib.ListN.{length, drop, length-drop}
 use lib.Seq.{length-take-le}
-use Rattle.answer.specs.Answer.{refuse, answer, held}
-use Rattle.answer.proofs.Laws.{passed, none, kept, given}
+use Rattle.answer.specs.Answer.{refuse, answer}
+use Rattle.std.specs.Prelude.{Result, Ok, Err, IsErr, IsErrAnd}
+use Rattle.answer.specs.declared.Refused.{Refused}
+use Rattle.answer.specs.declared.Refused.TheVariants.{Length}
+use Rattle.answer.specs.Given.{number_of}
+use Rattle.answer.proofs.Laws.{passed, none}
 use Rattle.octets.specs.Bits.{digits_of, value_of, bits_of, part}
 use Rattle.octets.proofs.Digits.{digits_value, take-bits, drop_bits}
 use Rattle.octets.proofs.Laws.{bits-length, bits-bits}
 use Rattle.bitfields.specs.Promises.{FieldRead}
-use Rattle.walk.specs.declared.TakenPair.{TakenPair}
-use Rattle.walk.specs.Promises.{PairTaken}
 use Rattle.remainder.specs.Division.{polynomial, generator}
 use Rattle.remainder.specs.Promises.{CheckBits}
 use Rattle.remainder.proofs.Division.{computed}
 use Rattle.remainder.proofs.Errors.{generator-degree}
-use Rattle.layout.specs.Places.{check_field, pad_field}
+use Rattle.layout.specs.Places.{check_field}
 use Rattle.layout.specs.Frame.{training_sync, final_sync, field_of, message_of, check_of}
 use Rattle.layout.specs.Refusals.{has_sync, bit_refusals, check_refusals}
 use Rattle.layout.proofs.Laws.{training-value, final_value}
 use Rattle.layout.proofs.Check.{check_right, check_wrong}
 use Rattle.checker.specs.declared.Kind.{Kind}
-use Rattle.checker.specs.Promises.{Checked, KindChecked}
+use Rattle.checker.specs.declared.Kind.TheVariants.{Training, Final}
+use Rattle.checker.specs.Promises.{Checked, kind_number, KindChecked}
 
 -- ---- sync, the first field of a frame
 
@@ -71,18 +74,6 @@ checks-is f r c t l d e g =
     ap₂ eqb (check-number f c t l e g)
     (computed 16 generator (lit≤ tt) generator-degree (message_of B) r (take-bits 4197 (drop 14 B) (drop_bits 14 B (bits-bits f))) d)
 
--- ---- check bits and pad, as the last two fields of a frame
-
-module _ (f : List ℕ) (t : TakenPair) (e : PairTaken f 4211 16 5 t) where
-  pub check-is : t.first ≡ value_of (field_of check_field (bits_of f))
-  check-is = ap (λ (x : TakenPair). x.first) e
-
-  pub pad-not : (t.second ≡ 0 → ⊥) → eqb (value_of (field_of pad_field (bits_of f))) 0 ≡ false
-  pad-not h = ne_eqb (value_of (field_of pad_field (bits_of f))) 0 (λ g. h (ap (λ (x : TakenPair). x.second) e ∙ g))
-
-  pub pad-is : t.second ≡ 0 → eqb (value_of (field_of pad_field (bits_of f))) 0 ≡ true
-  pad-is h = eq-eqb (value_of (field_of pad_field (bits_of f))) 0 (sym (ap (λ (x : TakenPair). x.second) e) ∙ h)
-
 -- ---- behind a sync word that is known, a frame is refused for what its end is refused for
 
 end_is : (f : List ℕ) → (has_sync training_sync (bits_of f) || has_sync final_sync (bits_of f)) ≡ true
@@ -111,38 +102,25 @@ checked {frame} {r} e =
     past true f = absurd (omega arith)
     past false f = f
 
--- the answer and the kind, by what is found first: a wrong length
+-- what `?` hands on is the refusal that it was given
+pub handed-on : {A : Type 0} (r : Result A Refused) (e : Refused) → IsErr r × IsErrAnd r (λ x. x ≡ e) → r ≡ Err e
+handed-on (Ok v) e h = absurd h.1
+handed-on (Err x) e h = ap Err h.1
+
+-- a frame that is refused, and one that is right, of the right length: what is refused behind that
 module _ (f : List ℕ) where
-  abbrev kind : ℕ
-  kind = cond (has_sync training_sync (bits_of f)) 0 1
+  pub length-kind : (length f ≡ 529 → ⊥) → KindChecked f (Err Length)
+  length-kind h = record { checked = checked (simp (ne_eqb _ _ h)); kind_is = tt }
 
-  pub length-kind : (length f ≡ 529 → ⊥) → KindChecked f (record { answer = 1; kind = 0 })
-  length-kind h =
-      let e : 1 ≡ answer (check_refusals f) = simp (ne_eqb _ _ h) in
-      record { checked = checked e; kind_is = ap (λ (n : ℕ). held n 0 kind) e }
+  module _ (l : length f ≡ 529) where
+    whole : {n : ℕ} → n ≡ answer (bit_refusals (bits_of f)) → n ≡ answer (check_refusals f)
+    whole e = e ∙ ap (λ (t : Bool). answer (refuse 1 (not t) ∷ bit_refusals (bits_of f))) (sym (eq-eqb (length f) 529 l))
 
-  -- where the length is right, what is refused behind it
-  module _ (l : length f ≡ 529) (n : ℕ) (e : n ≡ answer (bit_refusals (bits_of f))) where
-    bits-kind : (k : ℕ) → k ≡ held n 0 kind → KindChecked f (record { answer = n; kind = k })
-    bits-kind k h =
-        let a = e ∙ ap (λ (t : Bool). answer (refuse 1 (not t) ∷ bit_refusals (bits_of f))) (sym (eq-eqb (length f) 529 l)) in
-        record { checked = checked a; kind_is = h ∙ ap (λ (x : ℕ). held x 0 kind) a }
+    pub refused-kind : (e : Refused) → number_of e ≡ answer (bit_refusals (bits_of f)) → KindChecked f (Err e)
+    refused-kind e h = record { checked = checked (whole h); kind_is = tt }
 
-    -- a refusal
-    pub refused-kind : (n ≡ 0 → ⊥) → KindChecked f (record { answer = n; kind = 0 })
-    refused-kind z = bits-kind 0 (sym (kept n 0 kind z))
-
-    -- a training frame, whose kind is 0 as a refusal's is
-    pub training-kind : has_sync training_sync (bits_of f) ≡ true → KindChecked f (record { answer = n; kind = 0 })
-    training-kind t = bits-kind 0 (either n ∙ ap (λ (b : Bool). held n 0 (cond b 0 1)) (sym t))
-      where
-        either : (m : ℕ) → ◌≡◌ {A = ℕ} 0 (held m 0 0)
-        either zero = refl
-        either (suc m) = refl
-
-    -- a final one
-    pub final-kind : has_sync training_sync (bits_of f) ≡ false → n ≡ 0 → KindChecked f (record { answer = n; kind = 1 })
-    final-kind t z = bits-kind 1 (ap (λ (b : Bool). cond b 0 1) (sym t) ∙ sym (given n 0 kind z))
+    pub known-kind : (k : Kind) → 0 ≡ answer (bit_refusals (bits_of f)) → kind_number k ≡ cond (has_sync training_sync (bits_of f)) 0 1 → KindChecked f (Ok k)
+    known-kind k h e = record { checked = checked (whole h); kind_is = e }
 
 -- ---- what is known of a frame of which nothing is refused
 
@@ -151,20 +129,17 @@ pub right-length : (f : List ℕ) → answer (check_refusals f) ≡ 0 → length
 right-length f z = eqb-true (length f) 529 (not-false _ (none 0 (not (eqb (length f) 529)) (bit_refusals (bits_of f)) z).0)
 
 -- by its kind, its sync
-module _ (f : List ℕ) (r : Kind) (d : KindChecked f r) (z : answer (check_refusals f) ≡ 0) where
-  by-sync : r.kind ≡ cond (has_sync training_sync (bits_of f)) 0 1
-  by-sync = d.kind_is ∙ given _ 0 _ z
-
-  pub kind-training : r.kind ≡ 0 → has_sync training_sync (bits_of f) ≡ true
-  kind-training k = go (has_sync training_sync (bits_of f)) by-sync
+module _ (f : List ℕ) where
+  pub kind-training : KindChecked f (Ok Training) → has_sync training_sync (bits_of f) ≡ true
+  kind-training d = go (has_sync training_sync (bits_of f)) d.kind_is
     where
-      go : (t : Bool) → r.kind ≡ cond t 0 1 → t ≡ true
+      go : (t : Bool) → ◌≡◌ {A = ℕ} 0 (cond t 0 1) → t ≡ true
       go true e = refl
-      go false e = absurd (omega (arith, e, k))
+      go false e = absurd (omega (arith, e))
 
-  pub kind-final : (r.kind ≡ 0 → ⊥) → has_sync training_sync (bits_of f) ≡ false
-  kind-final k = go (has_sync training_sync (bits_of f)) by-sync
+  pub kind-final : KindChecked f (Ok Final) → has_sync training_sync (bits_of f) ≡ false
+  kind-final d = go (has_sync training_sync (bits_of f)) d.kind_is
     where
-      go : (t : Bool) → r.kind ≡ cond t 0 1 → t ≡ false
-      go true e = absurd (k e)
+      go : (t : Bool) → ◌≡◌ {A = ℕ} 1 (cond t 0 1) → t ≡ false
+      go true e = absurd (omega (arith, e))
       go false e = refl

@@ -3,6 +3,7 @@
 
 ghost use Rattle.std.specs.Prelude.{◌≡◌, length, drop, eqb};
 ghost use Rattle.answer.specs.Answer.{answer};
+ghost use Rattle.answer.specs.Given.{answer_of};
 ghost use Rattle.octets.specs.Bits.{value_of, bits_of};
 ghost use Rattle.remainder.specs.Division.{polynomial};
 ghost use Rattle.layout.specs.Places.{frame_length, check_field};
@@ -10,11 +11,13 @@ ghost use Rattle.layout.specs.Frame.{field_of, message_of, check_of};
 ghost use Rattle.layout.specs.Refusals.{bit_refusals};
 ghost use Rattle.checker.specs.Promises.{Checked, KindChecked};
 
-// What checking gives: the answer, and of a frame that is right its kind; with a refusal the kind is 0.
-#[derive(Drop)]
-pub struct Kind {
-    pub answer: u32,
-    pub kind: u32,
+use answer::Refused;
+
+// A frame's kind; its number is specs/Promises.antt's `kind_number`.
+#[derive(Clone, Copy, PartialEq, Eq)]
+pub enum Kind {
+    Training,
+    Final,
 }
 
 // Whether the check bits, as a field, are those of the message.
@@ -26,10 +29,10 @@ fn checks(frame: &[u8], c: u32) -> bool
     bitfields::turned(layout::CHECK_BITS, c) == r
 }
 
-// What is wrong with a frame's end, the check bits and the pad, or 0: all that is checked of a frame behind its sync.
-fn end_wrong(frame: &[u8]) -> u32
+// Whether a frame's check bits and pad are right: all that is checked of a frame behind its sync.
+fn end_right(frame: &[u8]) -> Result<(), Refused>
     requires { length frame.now ≡ frame_length }
-    ensures { result ≡ answer (drop 1 (bit_refusals (bits_of frame.now))) }
+    ensures { answer_of result ≡ answer (drop 1 (bit_refusals (bits_of frame.now))) }
 {
     let end = walk::pair(
         frame,
@@ -38,49 +41,33 @@ fn end_wrong(frame: &[u8]) -> u32
         layout::PAD_BITS,
     );
     if end.second != 0 {
-        return answer::PAD;
+        return Err(Refused::Pad);
     }
     if !checks(frame, end.first) {
-        return answer::CHECK;
+        return Err(Refused::Check);
     }
-    answer::DONE
+    Ok(())
 }
 
-// What is wrong with a frame, or 0 and its kind.
-pub fn kind_of(frame: &[u8]) -> Kind
+// The kind of a frame that is right.
+pub fn kind_of(frame: &[u8]) -> Result<Kind, Refused>
     ensures { KindChecked frame.now result }
 {
     if frame.len() != layout::FRAME_OCTETS {
-        return Kind {
-            answer: answer::LENGTH,
-            kind: 0,
-        };
+        return Err(Refused::Length);
     }
-    match bitfields::field(frame, 0, layout::SYNC_BITS) {
-        layout::TRAINING_SYNC => Kind {
-            answer: end_wrong(frame),
-            kind: layout::TRAINING,
-        },
-        layout::FINAL_SYNC => {
-            let n = end_wrong(frame);
-            if n != answer::DONE {
-                return Kind { answer: n, kind: 0 };
-            }
-            Kind {
-                answer: n,
-                kind: layout::FINAL,
-            }
-        }
-        _ => Kind {
-            answer: answer::SYNC,
-            kind: 0,
-        },
-    }
+    let kind = match bitfields::field(frame, 0, layout::SYNC_BITS) {
+        layout::TRAINING_SYNC => Kind::Training,
+        layout::FINAL_SYNC => Kind::Final,
+        _ => return Err(Refused::Sync),
+    };
+    end_right(frame)?;
+    Ok(kind)
 }
 
-// What is wrong with a frame, or 0.
-pub fn check(frame: &[u8]) -> u32
-    ensures { Checked frame.now result }
+// Whether a frame is right.
+pub fn check(frame: &[u8]) -> Result<(), Refused>
+    ensures { Checked frame.now (answer_of result) }
 {
-    kind_of(frame).answer
+    kind_of(frame).map(|_kind| ())
 }

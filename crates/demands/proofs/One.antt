@@ -49,15 +49,13 @@ use Rattle.supervisor.specs.Step.{state_refusals, step_of}
 use Rattle.supervisor.proofs.One.{start-in-order, step-in-order, state-in-order}
 use Rattle.startup.specs.declared.Run.{Run as StartupRun}
 use Rattle.startup.specs.Run.{event_of, goes_on, opens, ends, noted, taken_of, run_from, begun}
-use Rattle.reader.specs.declared.Found.{Found}
-use Rattle.reader.specs.Promises.{found_of}
 use Rattle.host.specs.declared.frames.FrameFields.{FrameFields}
 use Rattle.host.specs.declared.scrambling.Scrambled.{Scrambled}
 use Rattle.host.specs.declared.scrambling.ScrambledBit.{ScrambledBit}
 use Rattle.host.specs.declared.supervising.Stepped.{Stepped}
 use Rattle.host.specs.declared.supervising.Run.{Run}
 use Rattle.host.specs.Supervising.{state_in, state_of, run_fields_of}
-use Rattle.host.specs.Frames.{fields_of}
+use Rattle.host.specs.Frames.{found_of}
 use Rattle.host.specs.Data.{overhead_of, overhead_for}
 use Rattle.host.specs.Scrambling.{crossing, bit_crossing}
 use Rattle.host.specs.Symbols.{encoder}
@@ -187,7 +185,7 @@ nothing-sent = refl
 pub found-answer : (n : ℕ) (bits : List ℕ) → (found_of n bits).answer ≡ n
 found-answer zero bits = pick (has_sync training_sync bits)
   where
-    pick : (s : Bool) → (cond {A = Found} s (record { answer = 0; kind = 0; a = value_of (field_of a_field bits); b = value_of (field_of b_field bits) })
+    pick : (s : Bool) → (cond {A = FrameFields} s (record { answer = 0; kind = 0; a = value_of (field_of a_field bits); b = value_of (field_of b_field bits) })
         (record { answer = 0; kind = 1; a = 0; b = 0 })).answer ≡ 0
     pick true = refl
     pick false = refl
@@ -409,7 +407,7 @@ module _ (x : Library) (k : Keeps x) where
     check = answers ordered.check (λ c. (k.check c refl).answered) (λ c h. only _) (λ c h. only _);
     read = answers ordered.read read_answer
         (λ c h.
-        let e = (k.read c refl).found ∙ ap fields_of (found_none _ _ (other (read_answer c) h)) in
+        let e = (k.read c refl).found ∙ found_none _ _ (other (read_answer c) h) in
         λ i. record { kind = (e i).kind; a = (e i).a; b = (e i).b })
         (λ c h.
         let z = other (read_answer c) h in

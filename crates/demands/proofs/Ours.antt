@@ -12,7 +12,7 @@ use Rattle.octets.specs.Bits.{bits_of, laid}
 use Rattle.layout.specs.Refusals.{check_refusals}
 use Rattle.numbers.specs.Promises.{numbers_of, number_octets}
 use Rattle.checker.proofs.Laws.{checked}
-use Rattle.reader.specs.Promises.{found_of, vendor_octets, reserved_left}
+use Rattle.reader.specs.Promises.{vendor_octets, reserved_left}
 use Rattle.scrambler.specs.Ends.{tap_of}
 use Rattle.scrambler.specs.Promises.{given, clocked, around}
 use Rattle.recurrence.specs.Run.{scramble, descramble, out_of, next_of, run_of, after_of}
@@ -26,7 +26,7 @@ use Rattle.precoder.proofs.Recipe.{outputs_of, inputs_of}
 use Rattle.precoder.proofs.Back.{runs}
 use Rattle.supervisor.specs.Step.{start_of, step_of}
 use Rattle.startup.specs.Run.{run_of as codes_run}
-use Rattle.host.specs.Frames.{coefficient_octets}
+use Rattle.host.specs.Frames.{found_of, coefficient_octets}
 use Rattle.host.specs.Symbols.{encoder}
 use Rattle.host.specs.Supervising.{state_in, state_of, run_fields_of}
 use Rattle.demands.specs.Handed.{none}

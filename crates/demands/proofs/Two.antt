@@ -30,9 +30,8 @@ use Rattle.host.specs.declared.scrambling.Scrambled.{Scrambled}
 use Rattle.host.specs.declared.scrambling.ScrambledBit.{ScrambledBit}
 use Rattle.host.specs.Scrambling.{crossing, bit_crossing}
 use Rattle.host.specs.declared.frames.FrameFields.{FrameFields}
-use Rattle.host.specs.Frames.{fields_of, coefficient_octets}
-use Rattle.reader.specs.declared.Found.{Found}
-use Rattle.reader.specs.Promises.{found_of, vendor_octets, reserved_octets, reserved_left}
+use Rattle.host.specs.Frames.{found_of, coefficient_octets}
+use Rattle.reader.specs.Promises.{vendor_octets, reserved_octets, reserved_left}
 use Rattle.demands.specs.Handed.{Outcome, None, none, SendCall, ReadCall, Fields, Rooms, BitCall, RunCall, FrameCall, Line}
 use Rattle.demands.specs.Library.{Library}
 use Rattle.demands.specs.Contracts.{Keeps}
@@ -51,7 +50,7 @@ use Rattle.demands.proofs.Fit.{both_right, written-length, written_small, writte
 -- what reading gives, by whether the frame is a training frame
 abbrev read_as : Bool → List ℕ → List ℕ → List ℕ → Outcome Fields Rooms
 read_as s bits old reserved =
-    let f : Found = cond s (record { answer = 0; kind = 0; a = value_of (field_of a_field bits); b = value_of (field_of b_field bits) }) (record { answer = 0; kind = 1; a = 0; b = 0 }) in
+    let f : FrameFields = cond s (record { answer = 0; kind = 0; a = value_of (field_of a_field bits); b = value_of (field_of b_field bits) }) (record { answer = 0; kind = 1; a = 0; b = 0 }) in
     done (record { kind = f.kind; a = f.a; b = f.b })
     (record { coefficients = cond s (number_octets (coefficients_of bits)) old; vendor = vendor_octets bits; reserved = cond s (reserved_octets bits) reserved })
 
@@ -119,7 +118,7 @@ module _ (x : Library) (k : Keeps x) where
         reserved = reserved_left (bits_of c.frame) c.reserved;
       })
   read_done c h =
-      let e = (k.read c refl).found ∙ ap (λ (n : ℕ). fields_of (found_of n (bits_of c.frame))) h in
+      let e = (k.read c refl).found ∙ ap (λ (n : ℕ). found_of n (bits_of c.frame)) h in
       let m = (k.read c refl).coefficients_held ∙ held-given _ _ _ h in
       let v = (k.read c refl).vendor_held ∙ held-given _ _ _ h in
       let s = (k.read c refl).reserved_held ∙ held-given _ _ _ h in

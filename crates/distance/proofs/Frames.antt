@@ -12,7 +12,12 @@ use lib.Dec.{eqb}
 use lib.IntN.{ℤ}
 use lib.ListN.{length, get_or, drop}
 use lib.Seq.{get_or-set_other}
+use Rattle.std.specs.Prelude.{Result, Ok, Err}
 use Rattle.answer.specs.Answer.{answer}
+use Rattle.answer.specs.declared.Refused.{Refused}
+use Rattle.answer.specs.declared.Refused.TheVariants.{Check}
+use Rattle.answer.specs.Given.{answer_of}
+use Rattle.answer.proofs.Given.{result-one}
 use Rattle.answer.proofs.Laws.{none, passed}
 use Rattle.octets.specs.Bits.{bits_of}
 use Rattle.octets.proofs.Digits.{Bits}
@@ -22,7 +27,7 @@ use Rattle.remainder.specs.Errors.{flipped}
 use Rattle.layout.specs.Refusals.{bit_refusals, read_refusals}
 use Rattle.reader.specs.declared.Found.{Found}
 use Rattle.checker.specs.Promises.{Checked}
-use Rattle.reader.specs.Promises.{found_of, Read}
+use Rattle.reader.specs.Promises.{Read}
 use Rattle.distance.specs.Errors.{distance, Few, Burst}
 use Rattle.distance.proofs.Detected.{detected}
 
@@ -39,14 +44,16 @@ module _ (frame frame' : List ℕ) (l : length frame' ≡ 529)
   pub changed-checked : (r : ℕ) → Checked frame' r → r ≡ 7
   changed-checked r g = g.answered ∙ passed 1 (bit_refusals (bits_of frame')) (ap not (eq-eqb _ _ l)) ∙ bits-answer
 
-  pub changed-read : (room room' : List ℤ) (octets octets' reserved reserved' : List ℕ) (r : Found) → length room ≡ 180 → length octets ≡ 16
-      → length reserved ≡ 9 → Read frame' room octets reserved r room' octets' reserved' → r ≡ found_of 7 (bits_of frame')
+  pub changed-read : (room room' : List ℤ) (octets octets' reserved reserved' : List ℕ) (r : Result Found Refused) → length room ≡ 180 → length octets ≡ 16
+      → length reserved ≡ 9 → Read frame' room octets reserved r room' octets' reserved' → r ≡ Err Check
   changed-read room room' octets octets' reserved reserved' r lr lo ls g =
       let R = read_refusals frame' room octets reserved in
-      g.found
-      ∙ ap (λ (n : ℕ). found_of n (bits_of frame'))
-      (passed 1 (drop 1 R) (ap not (eq-eqb _ _ l)) ∙ passed 1 (drop 2 R) (ap not (eq-eqb _ _ lr))
-      ∙ passed 1 (drop 3 R) (ap not (eq-eqb _ _ lo)) ∙ passed 1 (drop 4 R) (ap not (eq-eqb _ _ ls)) ∙ bits-answer)
+      result-one r (Err Check)
+      (g.answered ∙ passed 1 (drop 1 R) (ap not (eq-eqb _ _ l)) ∙ passed 1 (drop 2 R) (ap not (eq-eqb _ _ lr))
+      ∙ passed 1 (drop 3 R) (ap not (eq-eqb _ _ lo)) ∙ passed 1 (drop 4 R) (ap not (eq-eqb _ _ ls)) ∙ bits-answer) (λ v w p q. absurd (ok≢err q))
+    where
+      ok≢err : {w : Found} → ◌≡◌ {A = Result Found Refused} (Err Check) (Ok w) → ⊥
+      ok≢err e = absurd (omega (arith, ap (λ (x : Result Found Refused). answer_of x) e))
 
 -- ---- one bit turned over
 

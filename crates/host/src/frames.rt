@@ -1,6 +1,11 @@
 // Activation frames for C, as they are once descrambled: coefficients are 720 octets, four each, low octet first.
+ghost use Rattle.std.specs.Prelude.{◌≡◌};
 ghost use Rattle.host.specs.Frames.{FrameRead};
 ghost use Rattle.checker.specs.Promises.{Checked};
+ghost use Rattle.answer.specs.Given.{number_of};
+
+use answer::Refused;
+use reader::Found;
 
 // What reading a frame gives.
 #[repr(C)]
@@ -12,11 +17,26 @@ pub struct FrameFields {
     pub b: u32,
 }
 
+// A refusal, with 0 for every other number.
+fn refused(no: Refused) -> FrameFields
+    ensures { result ≡ record { answer = number_of no; kind = 0; a = 0; b = 0 } }
+{
+    FrameFields {
+        answer: no.number(),
+        kind: 0,
+        a: 0,
+        b: 0,
+    }
+}
+
 // What is wrong with a frame, or 0.
 pub fn sdsl_frame_check(frame: &[u8]) -> u32
     ensures { Checked frame.now result }
 {
-    checker::check(frame)
+    match checker::check(frame) {
+        Ok(()) => 0,
+        Err(no) => no.number(),
+    }
 }
 
 // Reads a frame: its kind, and into lent memory vendor data and, of a training frame, the coefficients and the reserved bits.
@@ -30,24 +50,25 @@ pub fn sdsl_frame_read(
         coefficients.new vendor.new reserved.new }
 {
     if coefficients.len() != numbers::COEFFICIENT_OCTETS {
-        return FrameFields {
-            answer: answer::LENGTH,
-            kind: 0,
-            a: 0,
-            b: 0,
-        };
+        return refused(Refused::Length);
     }
     let mut cs = [0i32; 180];
-    let found = reader::read(frame, &mut cs, vendor, reserved);
-    if found.answer == answer::DONE {
-        if found.kind == layout::TRAINING {
+    match reader::read(frame, &mut cs, vendor, reserved) {
+        Ok(Found::Training { a, b }) => {
             numbers::put_numbers(coefficients, &cs);
-        }
-    }
-    FrameFields {
-        answer: found.answer,
-        kind: found.kind,
-        a: found.a,
-        b: found.b,
+            FrameFields {
+                answer: 0,
+                kind: layout::TRAINING,
+                a,
+                b,
+            }
+        },
+        Ok(Found::Final) => FrameFields {
+            answer: 0,
+            kind: layout::FINAL,
+            a: 0,
+            b: 0,
+        },
+        Err(no) => refused(no),
     }
 }

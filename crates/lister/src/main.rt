@@ -144,7 +144,7 @@ fn say(rt: &HostRuntime, octets: &[u8]) {
 
 // Says why a frame is refused; and of a good one vendor data, where somebody is looking.
 fn explain(rt: &HostRuntime, octets: &[u8]) -> u8 {
-    if checker::check(octets) != answer::DONE {
+    if checker::check(octets).is_err() {
         say(rt, octets);
         return REFUSED;
     }

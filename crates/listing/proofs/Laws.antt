@@ -2,25 +2,29 @@
 use mathlib.Core.Path.{◌≡◌, refl, sym, ap, ap₂, ◌∙◌}
 use mathlib.Core.Bool.{Bool, true, false, cond}
 use mathlib.Core.List.{List, [], ◌∷◌, ◌++◌, append-nil, append_assoc, reverse}
-use Prim.Native.Nat.{ℕ, zero, suc, ◌+◌, ◌<◌}
+use Prim.Native.Nat.{ℕ, zero, suc, ◌+◌, ◌<◌, ◌≤◌}
 use native.Mathlib.Nat.{add-zero}
 use native.Mathlib.Numerals.{add-one}
 use native.Mathlib.Omega.{arith}
-use lib.Dec.{eqb}
 use lib.IntN.{ℤ, pos}
 use lib.ListN.{length, get_or, take}
 use lib.Seq.{take-suc, length-take-le}
-use Rattle.answer.specs.Answer.{answer}
 use Rattle.octets.specs.Bits.{digits_of, value_of, bits_of}
 use Rattle.octets.proofs.Digits.{turned_lt}
 use Rattle.remainder.specs.Division.{polynomial}
 use Rattle.layout.specs.Places.{a_field, b_field, check_field}
 use Rattle.layout.specs.Frame.{training_sync, field_of, coefficients_of}
-use Rattle.layout.specs.Refusals.{has_sync, check_refusals}
+use Rattle.layout.specs.Refusals.{has_sync}
 use Rattle.reader.specs.declared.Found.{Found}
+use Rattle.reader.specs.declared.Found.TheVariants.{Final}
+use Rattle.std.specs.Prelude.{Ok, Err}
+use Rattle.answer.specs.declared.Refused.{Refused}
+use Rattle.answer.specs.Given.{number_of}
+use Rattle.answer.proofs.Given.{refused-number}
+use Rattle.listing.specs.Listing.{kind_lines}
 use Rattle.reader.proofs.Laws.{Rooms}
-use Rattle.reader.proofs.Given.{found, none-applies, coefficients-are, vendor-is, found-is}
-use Rattle.reader.specs.Promises.{found_of, vendor_octets, Read}
+use Rattle.reader.proofs.Given.{refused-with, none-applies, coefficients-are, vendor-is, found-is}
+use Rattle.reader.specs.Promises.{words_in, vendor_octets, Read}
 use Rattle.ascii.specs.Text.{text, decimal}
 use Rattle.forms.specs.Forms.{first_of, formed_by, formed}
 use Rattle.listing.specs.Listing.{number_line, coefficient_line, coefficient_lines, vendor_line, check_line, training_lines, training_text, final_text, listed, listing}
@@ -68,58 +72,49 @@ check-small c t e = omega (arith, turned_lt 16 c)
 
 -- ---- the listing, of what reading gives
 
-module _ (f : List ℕ) (cs : List ℤ) (v s : List ℕ) (rooms : Rooms cs v s) (r : Found) (cs' : List ℤ) (v' s' : List ℕ)
-    (d : Read f cs v s r cs' v' s') where
+module _ (f : List ℕ) (cs : List ℤ) (v s : List ℕ) (rooms : Rooms cs v s) (cs' : List ℤ) (v' s' : List ℕ) where
   abbrev B : List ℕ
   B = bits_of f
 
-  -- a training frame's numbers and a final one's
-  abbrev T : Found
-  T = record { answer = 0; kind = 0; a = value_of (field_of a_field B); b = value_of (field_of b_field B) }
-
-  abbrev F : Found
-  F = record { answer = 0; kind = 1; a = 0; b = 0 }
-
   -- a refusal
-  pub refused-text : (r.answer ≡ 0 → ⊥) → number_line "refused " r.answer ≡ listing f
+  pub refused-text : (e : Refused) → Read f cs v s (Err e) cs' v' s' → number_line "refused " (number_of e) ≡ listing f
   unfolding listing listed
-  refused-text h = go (answer (check_refusals f)) (found f cs v s rooms r cs' v' s' d)
+  refused-text e d = go (number_of e) (refused-number e) ∙ ap (λ (n : ℕ). listed n B) (refused-with f cs v s rooms cs' v' s' e d)
     where
-      done : (t : Bool) → (cond {A = Found} t T F).answer ≡ 0
-      done true = refl
-      done false = refl
+      go : (n : ℕ) → 1 ≤ n → number_line "refused " n ≡ listed n B
+      go zero h = absurd (omega (arith, h))
+      go (suc n) h = refl
 
-      go : (n : ℕ) → r ≡ found_of n B → number_line "refused " r.answer ≡ listed n B
-      go zero e = absurd (h (ap (λ (x : Found). x.answer) e ∙ done (has_sync training_sync B)))
-      go (suc n) e = ap (λ (x : Found). number_line "refused " x.answer) e
-
-  module _ (z : r.answer ≡ 0) where
+  module _ (r : Found) (d : Read f cs v s (Ok r) cs' v' s') where
     -- what is printed where nothing is wrong
     listing-is : listed 0 B ≡ listing f
     unfolding listing
-    listing-is = ap (λ (n : ℕ). listed n B) (sym (none-applies f cs v s rooms r cs' v' s' d z))
+    listing-is = ap (λ (n : ℕ). listed n B) (sym (none-applies f cs v s rooms cs' v' s' r d))
 
     module _ (c : ℕ) (e : c ≡ polynomial (field_of check_field B)) where
+      abbrev A : ℕ
+      A = value_of (field_of a_field B)
+
+      abbrev W : ℕ
+      W = value_of (field_of b_field B)
+
       abbrev training : List ℕ
-      training = training_text (coefficients_of B) T.a T.b (vendor_octets B) (polynomial (field_of check_field B))
+      training = training_text (coefficients_of B) A W (vendor_octets B) (polynomial (field_of check_field B))
 
       abbrev final : List ℕ
       final = final_text (vendor_octets B) (polynomial (field_of check_field B))
 
-      -- the kind's lines, of what was read
-      abbrev kind_lines : Found → List ℤ → List ℕ
-      kind_lines x l = cond (eqb x.kind 0) (training_lines l x.a x.b) (text "kind final\n")
-
       pub read-text : kind_lines r cs' ++ (vendor_line v' ++ check_line c) ≡ listing f
       unfolding listed training_text final_text
-      read-text = go (has_sync training_sync B) (found-is f cs v s rooms r cs' v' s' d z) (coefficients-are f cs v s rooms r cs' v' s' d z) ∙ listing-is
+      read-text = go (has_sync training_sync B) (found-is f cs v s rooms cs' v' s' r d) (coefficients-are f cs v s rooms cs' v' s' r d) ∙ listing-is
         where
-          go : (t : Bool) → r ≡ cond t T F → cs' ≡ cond t (coefficients_of B) cs → kind_lines r cs' ++ (vendor_line v' ++ check_line c) ≡ cond t training final
+          go : (t : Bool) → r ≡ cond t (words_in B) Final → cs' ≡ cond t (coefficients_of B) cs
+              → kind_lines r cs' ++ (vendor_line v' ++ check_line c) ≡ cond t training final
           go true p q =
               ap₂ (λ (x : Found) (l : List ℤ). kind_lines x l ++ (vendor_line v' ++ check_line c)) p q
-              ∙ sym (append_assoc (training_lines (coefficients_of B) T.a T.b) (vendor_line v') (check_line c))
-              ∙ ap₂ (training_text (coefficients_of B) T.a T.b) (vendor-is f cs v s rooms r cs' v' s' d z) e
+              ∙ sym (append_assoc (training_lines (coefficients_of B) A W) (vendor_line v') (check_line c))
+              ∙ ap₂ (training_text (coefficients_of B) A W) (vendor-is f cs v s rooms cs' v' s' r d) e
           go false p q =
               ap (λ (x : Found). kind_lines x cs' ++ (vendor_line v' ++ check_line c)) p
               ∙ sym (append_assoc (text "kind final\n") (vendor_line v') (check_line c))
-              ∙ ap₂ final_text (vendor-is f cs v s rooms r cs' v' s' d z) e
+              ∙ ap₂ final_text (vendor-is f cs v s rooms cs' v' s' r d) e

@@ -8,15 +8,15 @@ use borrow.Author.Tests.{ne_eqb, lt-ltb, le-ltb, ltb-false}
 use lib.Dec.{eqb, ltb}
 use lib.IntN.{ℤ}
 use lib.ListN.{length, take}
-use Rattle.answer.specs.Answer.{answer}
-use Rattle.octets.specs.Bits.{bits_of}
 use Rattle.layout.specs.Places.{frame_length}
-use Rattle.layout.specs.Frame.{training_sync}
-use Rattle.layout.specs.Refusals.{has_sync, check_refusals}
 use Rattle.reader.specs.declared.Found.{Found}
-use Rattle.reader.specs.Promises.{found_of, Read}
+use Rattle.std.specs.Prelude.{Ok, Err}
+use Rattle.answer.specs.declared.Refused.{Refused}
+use Rattle.answer.specs.Given.{number_of}
+use Rattle.answer.proofs.Given.{refused-number}
+use Rattle.reader.specs.Promises.{Read}
 use Rattle.reader.proofs.Laws.{Rooms}
-use Rattle.reader.proofs.Given.{found, none-applies, vendor-is}
+use Rattle.reader.proofs.Given.{refused-with, none-applies, vendor-is}
 use Rattle.ascii.specs.Text.{text, decimal}
 use Rattle.ascii.specs.Plain.{text_length}
 use Rattle.forms.specs.Forms.{first_of, formed_by, formed, row_of, row_by}
@@ -97,21 +97,16 @@ vendor-some v n e h =
 
 -- ---- of what reading gives
 
-module _ (f : List ℕ) (cs : List ℤ) (v s : List ℕ) (rooms : Rooms cs v s) (r : Found) (cs' : List ℤ) (v' s' : List ℕ)
-    (d : Read f cs v s r cs' v' s') where
-  pub refused-words : (r.answer ≡ 0 → ⊥) → refusal_words r.answer (length f) ≡ words_of f
+module _ (f : List ℕ) (cs : List ℤ) (v s : List ℕ) (rooms : Rooms cs v s) (cs' : List ℤ) (v' s' : List ℕ) where
+  pub refused-words : (e : Refused) → Read f cs v s (Err e) cs' v' s' → refusal_words (number_of e) (length f) ≡ words_of f
   unfolding words_of worded
-  refused-words h = go (answer (check_refusals f)) (found f cs v s rooms r cs' v' s' d)
+  refused-words e d = go (number_of e) (refused-number e) ∙ ap (λ (n : ℕ). worded n f) (refused-with f cs v s rooms cs' v' s' e d)
     where
-      done : (t : Bool) (x y : Found) → x.answer ≡ 0 → y.answer ≡ 0 → (cond {A = Found} t x y).answer ≡ 0
-      done true x y p q = p
-      done false x y p q = q
+      go : (n : ℕ) → 1 ≤ n → refusal_words n (length f) ≡ worded n f
+      go zero h = absurd (omega (arith, h))
+      go (suc n) h = refl
 
-      go : (n : ℕ) → r ≡ found_of n (bits_of f) → refusal_words r.answer (length f) ≡ worded n f
-      go zero e = absurd (h (ap (λ (x : Found). x.answer) e ∙ done (has_sync training_sync (bits_of f)) _ _ refl refl))
-      go (suc n) e = ap (λ (x : Found). refusal_words x.answer (length f)) e
-
-  pub vendor-words : r.answer ≡ 0 → vendor_words v' ≡ words_of f
+  pub vendor-words : (r : Found) → Read f cs v s (Ok r) cs' v' s' → vendor_words v' ≡ words_of f
   unfolding words_of worded
-  vendor-words z =
-      ap vendor_words (vendor-is f cs v s rooms r cs' v' s' d z) ∙ ap (λ (n : ℕ). worded n f) (sym (none-applies f cs v s rooms r cs' v' s' d z))
+  vendor-words r d =
+      ap vendor_words (vendor-is f cs v s rooms cs' v' s' r d) ∙ ap (λ (n : ℕ). worded n f) (sym (none-applies f cs v s rooms cs' v' s' r d))

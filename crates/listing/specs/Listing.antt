@@ -7,6 +7,8 @@ use Rattle.remainder.specs.Division.{polynomial}
 use Rattle.layout.specs.Places.{a_field, b_field, check_field}
 use Rattle.layout.specs.Frame.{training_sync, field_of, coefficients_of}
 use Rattle.layout.specs.Refusals.{has_sync, check_refusals}
+use Rattle.reader.specs.declared.Found.{Found}
+use Rattle.reader.specs.declared.Found.TheVariants.{Training, Final}
 use Rattle.reader.specs.Promises.{vendor_octets}
 use Rattle.highest.specs.Highest.{highest}
 use Rattle.ascii.specs.Text.{text, decimal, signed, hex, hexes}
@@ -36,6 +38,11 @@ check_line c = text "check " ++ hex (c / 256) ++ hex (c % 256) ++ text "\n"
 unfoldable pub training_lines : List ℤ → ℕ → ℕ → List ℕ
 training_lines cs a b =
     text "kind training\n" ++ number_line "coefficients " (highest cs) ++ coefficient_lines 1 (take (highest cs) cs) ++ number_line "A " a ++ number_line "B " b
+
+-- a frame before vendor data, by what reading gives of it
+abbrev pub kind_lines : Found → List ℤ → List ℕ
+kind_lines (Training a b) cs = training_lines cs a b
+kind_lines Final cs = text "kind final\n"
 
 -- a training frame: those lines, vendor data, check bits
 unfoldable pub training_text : List ℤ → ℕ → ℕ → List ℕ → ℕ → List ℕ

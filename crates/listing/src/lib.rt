@@ -6,11 +6,13 @@ ghost use Rattle.octets.specs.Bits.{bits_of};
 ghost use Rattle.remainder.specs.Division.{polynomial};
 ghost use Rattle.layout.specs.Places.{frame_length, check_field};
 ghost use Rattle.layout.specs.Frame.{field_of};
-ghost use Rattle.ascii.specs.Text.{text, hexes};
+ghost use Rattle.ascii.specs.Text.{hexes};
 ghost use Rattle.ascii.specs.Promises.{Put};
-ghost use Rattle.listing.specs.Listing.{number_line, coefficient_line, coefficient_lines, vendor_line, check_line, training_lines};
+ghost use Rattle.listing.specs.Listing.{number_line, coefficient_line, coefficient_lines, vendor_line, check_line, training_lines, kind_lines};
 ghost use Rattle.listing.specs.Promises.{Listed};
 ghost use Rattle.listing.specs.Words.{length_words, reason_words, refusal_words, vendor_words, Worded};
+
+use reader::Found;
 
 // The line of coefficient number k.
 fn put_coefficient_line(room: &mut [u8], at: usize, k: u32, c: i32) -> usize
@@ -70,15 +72,14 @@ fn put_training(room: &mut [u8], cs: &[i32], a: u32, b: u32) -> usize
     forms::put_form(room, at, b"A #\nB #\n", &[a, b])
 }
 
-// The lines of a frame of this kind before vendor data.
-fn put_kind(room: &mut [u8], kind: u32, cs: &[i32], a: u32, b: u32) -> usize
+// The lines of a frame before vendor data.
+fn put_kind(room: &mut [u8], found: Found, cs: &[i32]) -> usize
     requires { length cs.now ≡ 180 }
-    ensures { Put room.old 0 (cond (eqb kind 0) (training_lines cs.now a b) (text "kind final\n")) result room.new }
+    ensures { Put room.old 0 (kind_lines found cs.now) result room.new }
 {
-    if kind == layout::TRAINING {
-        put_training(room, cs, a, b)
-    } else {
-        ascii::put_word(room, 0, b"kind final\n")
+    match found {
+        Found::Training { a, b } => put_training(room, cs, a, b),
+        Found::Final => ascii::put_word(room, 0, b"kind final\n"),
     }
 }
 
@@ -105,12 +106,13 @@ pub fn list(frame: &[u8], room: &mut [u8]) -> usize
     let mut cs = [0i32; layout::COEFFICIENTS];
     let mut vendor = [0u8; layout::VENDOR_OCTETS];
     let mut reserved = [0u8; layout::RESERVED_OCTETS];
-    let found = reader::read(frame, &mut cs, &mut vendor, &mut reserved);
-    if found.answer != answer::DONE {
-        return put_refused(room, found.answer);
+    match reader::read(frame, &mut cs, &mut vendor, &mut reserved) {
+        Ok(found) => {
+            let at = put_kind(room, found, &cs);
+            put_tail(room, at, &vendor, check_of(frame))
+        },
+        Err(no) => put_refused(room, no.number()),
     }
-    let at = put_kind(room, found.kind, &cs, found.a, found.b);
-    put_tail(room, at, &vendor, check_of(frame))
 }
 
 // The rows of the words for a file's length: it has more octets than a frame; one; fewer, which is told by a form.
@@ -207,10 +209,8 @@ pub fn words(frame: &[u8], room: &mut [u8]) -> usize
     let mut cs = [0i32; layout::COEFFICIENTS];
     let mut vendor = [0u8; layout::VENDOR_OCTETS];
     let mut reserved = [0u8; layout::RESERVED_OCTETS];
-    let found = reader::read(frame, &mut cs, &mut vendor, &mut reserved);
-    if found.answer == answer::DONE {
-        put_vendor(room, &vendor)
-    } else {
-        put_refusal(room, found.answer, frame.len())
+    match reader::read(frame, &mut cs, &mut vendor, &mut reserved) {
+        Ok(_) => put_vendor(room, &vendor),
+        Err(no) => put_refusal(room, no.number(), frame.len()),
     }
 }

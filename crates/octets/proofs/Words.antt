@@ -12,9 +12,12 @@ use lib.Pow.{field, high, low, mod-mod-pow, mod-pow-add, pow_pos, pow_mono, pow-
 use lib.Bits.{bit_and, bit_or, and_le_l, and_le_r, and_mask, or_add_and, or_shifted}
 use lib.ListN.{length, get_or, take, drop, set, replicate, length-replicate, replicate-append-replicate, length-append, length-drop, take-append-drop, drop_of_length-le, get_or-eq_default}
 use lib.Seq.{length-take-le, take-nil, take_at, drop_at, take-take, drop-drop, take-add, take-append-le, drop-append-le, drop-cons, get_or-take, get_or-drop, set_out, set-get_or, sets, length-sets, sets-eq}
+use borrow.Rule.Slice.PartMut.{put_mid}
+use Rattle.std.proofs.lemmas.Slice.{put_mid-paste}
+use Rattle.std.proofs.lemmas.List.Edits.{paste_all}
 use Rattle.octets.specs.Bits.{digits_of, value_of, bits_of, octets_of, part, laid}
 use Rattle.octets.proofs.Digits.{Bits, take-bits, drop_bits, zeros-bits, digits-length, digits-bits, digits-at, digits-take, digits-mod-pow, digits_value, shr-suc, value-append, value-digits, value-part}
-use Rattle.octets.proofs.Laws.{Octets, bits-length, bits-bits, octets-are, octets-bits, octets-length, bits-octets, laid_next, sets_below, sets-append, sets-other, clear_both}
+use Rattle.octets.proofs.Laws.{Octets, bits-length, part-lt, bits-bits, octets-are, octets-bits, octets-length, bits-octets, laid_next, sets_below, sets-append, sets-other, clear_both}
 
 -- ---- digits in parts
 
@@ -386,6 +389,22 @@ value-octet s j m o = pick (dec_le (length s) j)
         ∙ value-append (digits_of 8 (get_or s j 0)) P
         ∙ ap₂ (λ (k x : ℕ). value_of P * 2 ^ k + x) (digits-length 8 (get_or s j 0)) (value-digits 8 (get_or s j 0) ∙ mod-eq_of_lt (o j)))
 
+-- one octet more before the last n, as the code takes it in
+pub octet-more : (s : List ℕ) (n m v o : ℕ) → Octets s → length s ≤ 8 → n < length s → m ≡ n + 1 → o ≡ get_or s (length s - 1 - n) 0
+    → v ≡ value_of (part (8 * (length s - n)) (8 * n) (bits_of s))
+    → bit_or (v * 2 ^ 8 % 2 ^ 64) o ≡ value_of (part (8 * (length s - m)) (8 * m) (bits_of s))
+octet-more s n m v o ok few l e d f =
+    let j = length s - 1 - n in
+    let k = 8 * n in
+    let p : 8 * (length s - n) ≡ 8 * (j + 1) = omega arith in
+    let q : k + 8 ≡ 8 * m = omega arith in
+    let r : 8 * j ≡ 8 * (length s - m) = omega arith in
+    let lv : v < 2 ^ k = subst (λ (x : ℕ). x < 2 ^ k) (sym f) (part-lt s (8 * (length s - n)) k) in
+    let lo : o < 2 ^ 8 = subst (λ (x : ℕ). x < 2 ^ 8) (sym d) (ok j) in
+    ap (λ (x : ℕ). bit_or x o) (shl_exact k 8 64 lv (omega arith)) ∙ or_shifted v 8 o lo
+    ∙ ap₂ (λ (x y : ℕ). x * 2 ^ 8 + y) (f ∙ ap (λ (x : ℕ). value_of (part x k (bits_of s))) p) d
+    ∙ value-octet s j k ok ∙ ap₂ (λ (x y : ℕ). value_of (part x y (bits_of s))) r q
+
 -- one octet more of those that may all be 0, behind m of them
 pub clear-octet : (s : List ℕ) (i m k all : ℕ) → Octets s → i + m ≡ k → min all 1 ≡ min (value_of (part (8 * i) (8 * m) (bits_of s))) 1
     → min (bit_or all (get_or s k 0)) 1 ≡ min (value_of (part (8 * i) (8 * m + 8) (bits_of s))) 1
@@ -409,12 +428,14 @@ octets-zeros (suc n) =
     let e : 8 * suc n ≡ suc (suc (suc (suc (suc (suc (suc (suc (8 * n)))))))) = omega arith in
     ap (λ (k : ℕ). octets_of (suc n) (replicate k 0)) e ∙ ap (λ (l : List ℕ). 0 ∷ l) (octets-zeros n)
 
--- one more, behind m
-pub zero_more : (s₀ : List ℕ) (i m k : ℕ) {s : List ℕ} → i + m ≡ k → s ≡ sets s₀ i (replicate m 0) → set s k 0 ≡ sets s₀ i (replicate (m + 1) 0)
-zero_more s₀ i m k e g =
-    ap₂ (λ (l : List ℕ) (j : ℕ). set l j 0) g (sym (ap (λ (j : ℕ). i + j) (length-replicate m 0) ∙ e))
-    ∙ sym (sets-append s₀ i (replicate m 0) (0 ∷ []))
-    ∙ ap (sets s₀ i) (replicate-append-replicate m 1 0)
+-- m octets from octet i on become 0
+pub filled : (s : List ℕ) (i m : ℕ) (ys : List ℕ) → i + m ≤ length s → ys ≡ replicate m 0 → put_mid i m s ys ≡ sets s i (replicate m 0)
+filled s i m ys h e =
+    let zs = replicate m 0 in
+    put_mid-paste i m s ys zs m e refl (sym (length-replicate {A = ℕ} m 0)) ∙ paste_all s i zs m (sym (length-replicate {A = ℕ} m 0))
+    ∙ sym (append_assoc (take i s) zs (drop (i + m) s))
+    ∙ ap (λ (n : ℕ). take i s ++ zs ++ drop (i + n) s) (sym (length-replicate {A = ℕ} m 0))
+    ∙ sym (sets-eq zs s i (omega (arith, length-replicate {A = ℕ} m 0)))
 
 -- n of them are zero bits laid, where m are all that are there
 pub zeros-laid : (s : List ℕ) (i m n : ℕ) → Octets s → m ≤ n → (m < n → length s ≤ i + m) → sets s i (replicate m 0) ≡ laid s (8 * i) (replicate (8 * n) 0)

@@ -19,34 +19,30 @@ pub fn has(s: &[u8], at: usize, k: u32) -> bool
 fn starts(s: &[u8]) -> usize
     ensures { result ≡ length s.now - 7 }
 {
-    if s.len() < 7 { 0 } else { s.len() - 7 }
+    s.len().saturating_sub(7)
 }
 
-// The octets from octet i to before octet `end` as one number, the first lowest. Of eight octets the compiler makes one load.
-fn by_octets(s: &[u8], i: usize, end: usize) -> u64
-    requires { (i ≤ end) × (end ≡ min (i + 8) (length s.now)) }
-    ensures { WordRead s.now i result }
+// Octets as one number, the first lowest. Of eight octets the compiler makes one load.
+fn by_octets(s: &[u8]) -> u64
+    requires { length s.now ≤ 8 }
+    ensures { result ≡ value_of (bits_of s.now) }
 {
-    let mut v: u64 = 0;
-    let mut k = end;
-    while k != i {
-        k -= 1;
-        v = (v << 8) | (s[k] as u64);
+    let mut v = 0u64;
+    for &octet in s.iter().rev() {
+        v = (v << 8) | u64::from(octet);
     }
     v
 }
 
-// Those octets become the low ones of v. Of eight octets the compiler makes one store.
+// The octets from octet i to before octet `end` become the low ones of v. Of eight octets the compiler makes one store.
 fn put_octets(s: &mut [u8], i: usize, end: usize, v: u64)
     requires { end ≡ min (i + 8) (length s.old) }
     ensures { s.new ≡ sets s.old i (octets_of 8 (digits_of 64 v)) }
 {
     let mut rest = v;
-    let mut k = i;
-    while k < end {
+    for k in i..end {
         s[k] = (rest & 0xff) as u8;
-        rest = rest >> 8;
-        k += 1;
+        rest >>= 8;
     }
 }
 
@@ -55,12 +51,12 @@ pub fn word(s: &[u8], i: usize) -> u64
     ensures { WordRead s.now i result }
 {
     if i < starts(s) {
-        return by_octets(s, i, i + 8);
+        return by_octets(&s[i..i + 8]);
     }
     if s.len() <= i {
         return 0;
     }
-    by_octets(s, i, s.len())
+    by_octets(&s[i..])
 }
 
 // The 64 bits from octet i on become those of v: one store where there are eight octets.
@@ -82,13 +78,6 @@ const LONGEST: u32 = 56;
 
 // The widest number in two's complement.
 const WIDEST: u32 = 32;
-
-// The lesser of two numbers.
-fn least(n: u32, most: u32) -> u32
-    ensures { result ≡ min n most }
-{
-    if n < most { n } else { most }
-}
 
 // The 64 digits of x, where those of v stand from place r on, n of them.
 fn replaced(x: u64, r: u32, n: u32, v: u64) -> u64
@@ -126,7 +115,7 @@ fn put_part(s: &mut [u8], i: usize, r: u32, n: u32, v: u64)
 pub fn bits(s: &[u8], at: usize, k: u32, n: u32) -> u64
     ensures { BitsRead s.now at k n result }
 {
-    let m = least(n, LONGEST);
+    let m = n.min(LONGEST);
     let j = at % 8 + (k as usize);
     let x = word(s, at / 8 + j / 8) >> (j % 8);
     x % (1u64 << m)
@@ -152,14 +141,14 @@ fn put_at(s: &mut [u8], at: usize, k: u32, n: u32, v: u64)
 pub fn put_bits(s: &mut [u8], at: usize, k: u32, n: u32, v: u64)
     ensures { BitsPut s.old at k n v s.new }
 {
-    put_at(s, at, k, least(n, LONGEST), v);
+    put_at(s, at, k, n.min(LONGEST), v);
 }
 
 // The n bits from octet i on become the low digits of v, the lowest first; no more than 64.
 pub fn put_front(s: &mut [u8], i: usize, n: u32, v: u64)
     ensures { FrontPut s.old i n v s.new }
 {
-    put_part(s, i, 0, least(n, WORD), v);
+    put_part(s, i, 0, n.min(WORD), v);
 }
 
 // The 64 bits from the one k places behind place `at` on as one number, the first lowest.
@@ -190,11 +179,7 @@ fn step(at: usize, k: u32, n: u32) -> u32
     ensures { (result ≤ n) × (min n 1 ≤ result) × ((at + k) % 8 + result ≤ 64 - min ((at + k) % 8) 1) }
 {
     let r = ((at % 8 + (k as usize)) % 8) as u32;
-    if r == 0 {
-        least(n, WORD)
-    } else {
-        least(n, 8 - r)
-    }
+    if r == 0 { n.min(WORD) } else { n.min(8 - r) }
 }
 
 // The n bits from place `at` on become those of the source from place `from` on, 64 at a time; past the source's end they stay.
@@ -215,11 +200,7 @@ fn copy_octets(s: &mut [u8], i: usize, source: &[u8], j: usize, count: usize)
     requires { (i + count ≤ length s.old) × (j + count ≤ length source.now) }
     ensures { s.new ≡ paste s.old i (drop j source.now) count }
 {
-    let mut k = 0;
-    while k < count {
-        s[i + k] = source[j + k];
-        k += 1;
-    }
+    s[i..i + count].copy_from_slice(&source[j..j + count]);
 }
 
 // Whether n bits from a place of each on are whole octets that are there.
@@ -227,13 +208,9 @@ fn in_octets(s: &[u8], at: usize, source: &[u8], from: usize, n: u32) -> bool
     ensures { result ≡ true → (at % 8 ≡ 0) × (from % 8 ≡ 0) × (n % 8 ≡ 0) × (at / 8 + n / 8 ≤ length s.now)
         × (from / 8 + n / 8 ≤ length source.now) }
 {
-    if at % 8 + from % 8 + (n % 8) as usize != 0 {
-        return false;
-    }
-    if s.len() < at / 8 + (n / 8) as usize {
-        return false;
-    }
-    from / 8 + (n / 8) as usize <= source.len()
+    at % 8 + from % 8 + (n % 8) as usize == 0
+        && at / 8 + (n / 8) as usize <= s.len()
+        && from / 8 + (n / 8) as usize <= source.len()
 }
 
 // The n bits from place `at` on become those of the source from place `from` on; past the source's end they stay. Whole octets that are all
@@ -252,25 +229,16 @@ pub fn copy(s: &mut [u8], at: usize, source: &[u8], from: usize, n: u32)
 fn leading(at: usize, n: u32) -> u32
     ensures { result ≡ min n ((8 - at % 8) % 8) }
 {
-    least(n, ((8 - at % 8) % 8) as u32)
-}
-
-// How many octets before octet `end` are there.
-fn within(s: &[u8], end: usize) -> usize
-    ensures { result ≡ min end (length s.now) }
-{
-    if end < s.len() { end } else { s.len() }
+    n.min(((8 - at % 8) % 8) as u32)
 }
 
 // The octets from octet i to before octet `end` become 0, those that are there. The compiler fills them as one piece of memory.
 fn fill(s: &mut [u8], i: usize, end: usize)
     ensures { s.new ≡ laid s.old (8 * i) (replicate (8 * (end - i)) 0) }
 {
-    let last = within(s, end);
-    let mut k = i;
-    while k < last {
-        s[k] = 0;
-        k += 1;
+    let last = end.min(s.len());
+    if i < last {
+        s[i..last].fill(0);
     }
 }
 
@@ -300,12 +268,10 @@ pub fn clear(s: &mut [u8], at: usize, n: u32)
 fn octets_clear(s: &[u8], i: usize, end: usize) -> bool
     ensures { result ≡ eqb (value_of (part (8 * i) (8 * (end - i)) (bits_of s.now))) 0 }
 {
-    let last = within(s, end);
-    let mut all: u8 = 0;
-    let mut k = i;
-    while k < last {
-        all = all | s[k];
-        k += 1;
+    let last = end.min(s.len());
+    let mut all = 0u8;
+    for k in i..last {
+        all |= s[k];
     }
     all == 0
 }
@@ -316,21 +282,17 @@ pub fn is_clear(s: &[u8], at: usize, n: u32) -> bool
 {
     let head = leading(at, n);
     let last = (n - head) % 8;
-    if bits(s, at, 0, head) != 0 {
-        return false;
-    }
-    if bits(s, at, n - last, last) != 0 {
-        return false;
-    }
     let i = at / 8 + (at % 8 + 7) / 8;
-    octets_clear(s, i, i + ((n - head) / 8) as usize)
+    bits(s, at, 0, head) == 0
+        && bits(s, at, n - last, last) == 0
+        && octets_clear(s, i, i + ((n - head) / 8) as usize)
 }
 
 // The whole number that the w low digits of n stand for in two's complement; a width over 32 counts as 32.
 pub fn signed(w: u32, n: u32) -> i32
     ensures { Signed w n result }
 {
-    let size = 1u64 << least(w, WIDEST);
+    let size = 1u64 << w.min(WIDEST);
     let v = (n as u64) % size;
     if v + v < size {
         return v as i32;
@@ -342,9 +304,5 @@ pub fn signed(w: u32, n: u32) -> i32
 pub fn twos(v: i32) -> u32
     ensures { Twos v result }
 {
-    if v < 0 {
-        4294967295 - ((-1 - v) as u32)
-    } else {
-        v as u32
-    }
+    v.cast_unsigned()
 }

@@ -2,15 +2,14 @@
 use mathlib.Core.Path.{◌≡◌, refl, ap, ◌∙◌}
 use mathlib.Core.Bool.{Bool, true, false, ◌&&◌, and-true, false≢true}
 use mathlib.Core.List.{List, [], ◌∷◌, ◌++◌}
-use Prim.Native.Nat.{ℕ, zero, suc, ◌+◌, ◌≤◌, ◌<◌, zero-le}
-use native.Mathlib.Numerals.{add-one}
+use Prim.Native.Nat.{ℕ, zero, suc, ◌≤◌, ◌<◌, zero-le}
 use native.Mathlib.Nat.{not-suc-le-zero, le_of_suc-le-suc}
-use borrow.Author.Tests.{le-leb, lt-leb, leb-true, ltb-true, ltb-false}
+use borrow.Author.Tests.{le-leb, leb-true}
 use lib.Dec.{leb}
 use lib.IntN.{ℤ, pos, negsuc}
-use lib.ListN.{length, get_or, take, drop, replicate, drop_of_length-le}
-use lib.Seq.{drop-cons}
-use lib.Signed.{mag, lt_z, le_z}
+use lib.ListN.{length, get_or, take, replicate}
+use lib.Signed.{mag}
+use Rattle.std.specs.List.{list_all}
 use Rattle.ranges.specs.Ranges.{between, every}
 
 -- two tests that both hold
@@ -19,28 +18,6 @@ both true t e = (refl, e)
 both false t e = absurd (false≢true e)
 
 -- ---- one number
-
-less : (a b : ℤ) → lt_z b a ≡ true → le_z a b ≡ false
-less (pos a) (pos b) e = lt-leb a b (ltb-true b a e)
-less (pos a) (negsuc b) e = refl
-less (negsuc a) (pos b) e = let z : ◌≡◌ {A = Bool} false true = e in cc
-less (negsuc a) (negsuc b) e = lt-leb b a (ltb-true a b e)
-
-more : (a b : ℤ) → lt_z b a ≡ false → le_z a b ≡ true
-more (pos a) (pos b) e = le-leb a b (ltb-false b a e)
-more (pos a) (negsuc b) e = let z : ◌≡◌ {A = Bool} true false = e in cc
-more (negsuc a) (pos b) e = refl
-more (negsuc a) (negsuc b) e = le-leb b a (ltb-false a b e)
-
--- the code's two tests decide the range
-pub below_out : (low high z : ℤ) → lt_z z low ≡ true → between low high z ≡ false
-below_out low high z e = rw (less low z e)
-
-pub above-out : (low high z : ℤ) → lt_z z low ≡ false → lt_z high z ≡ true → between low high z ≡ false
-above-out low high z e f = rw (more low z e, less z high f)
-
-pub inside : (low high z : ℤ) → lt_z z low ≡ false → lt_z high z ≡ false → between low high z ≡ true
-inside low high z e f = rw (more low z e, more z high f)
 
 -- from -(h + 1) to h, and back
 pub range-mag : (h : ℕ) (z : ℤ) → between (negsuc h) (pos h) z ≡ true → mag z ≤ h
@@ -53,18 +30,11 @@ mag-range h (negsuc n) l = and-true (leb n h) ∙ le-leb n h l
 
 -- ---- a list
 
-pub every-next : (test : ℤ → Bool) (zs : List ℤ) (i : ℕ) → i < length zs → test (get_or zs i (pos 0)) ≡ true
-    → every test (drop i zs) ≡ every test (drop (i + 1) zs)
+-- the test of every number, as an iterator makes it
+pub every-all : (test : ℤ → Bool) (zs : List ℤ) → list_all test zs ≡ every test zs
 unfolding every
-every-next test zs i h e = rw (add-one i, drop-cons zs i (pos 0) h, e)
-
-pub every-out : (test : ℤ → Bool) (zs : List ℤ) (i : ℕ) → i < length zs → test (get_or zs i (pos 0)) ≡ false → every test (drop i zs) ≡ false
-unfolding every
-every-out test zs i h e = rw (drop-cons zs i (pos 0) h, e)
-
-pub every-end : (test : ℤ → Bool) (zs : List ℤ) (i : ℕ) → length zs ≤ i → every test (drop i zs) ≡ true
-unfolding every
-every-end test zs i h = ap (every test) (drop_of_length-le zs h)
+every-all test [] = refl
+every-all test (z ∷ zs) = ap (λ (t : Bool). test z && t) (every-all test zs)
 
 pub every-at : (test : ℤ → Bool) (zs : List ℤ) (i : ℕ) → i < length zs → every test zs ≡ true → test (get_or zs i (pos 0)) ≡ true
 unfolding every

@@ -24,25 +24,12 @@ pub const HIGHEST_WORD: u32 = 2_097_151;
 pub fn in_range(z: i32, low: i32, high: i32) -> bool
     ensures { result ≡ between low high z }
 {
-    if z < low {
-        return false;
-    }
-    if high < z {
-        return false;
-    }
-    true
+    (low..=high).contains(&z)
 }
 
 // Whether all numbers lie from low to high.
 pub fn all_in_range(values: &[i32], low: i32, high: i32) -> bool
     ensures { result ≡ every (between low high) values.now }
 {
-    let mut k = 0;
-    while k < values.len() {
-        if !in_range(values[k], low, high) {
-            return false;
-        }
-        k += 1;
-    }
-    true
+    values.iter().all(|&z| in_range(z, low, high))
 }

@@ -2,14 +2,18 @@
 use mathlib.Core.Path.{◌≡◌, refl, sym, ap, ap₂, ◌∙◌}
 use mathlib.Core.Bool.{Bool, true, false, cond, not, ◌&&◌, true≢false}
 use mathlib.Core.List.{List, ◌∷◌}
-use Prim.Native.Nat.{ℕ, zero, suc}
+use Prim.Native.Nat.{ℕ}
 use native.Mathlib.Omega.{arith}
 use borrow.Author.Tests.{eq-eqb, eqb-true, not-true, not-false}
 use lib.Dec.{eqb, lit≤}
 use lib.IntN.{ℤ}
 use lib.ListN.{length, drop, length-drop}
 use lib.Seq.{length-take-le}
+use Rattle.std.specs.Prelude.{Ok, Err}
 use Rattle.answer.specs.Answer.{refuse, answer}
+use Rattle.answer.specs.declared.Refused.{Refused}
+use Rattle.answer.specs.Given.{number_of}
+use Rattle.answer.proofs.Given.{refused-number}
 use Rattle.answer.proofs.Laws.{kept, given}
 use Rattle.answer.proofs.Order.{both}
 use Rattle.octets.specs.Bits.{value_of, bits_of, octets_of, part, laid}
@@ -23,7 +27,8 @@ use Rattle.layout.specs.Places.{a_field, b_field}
 use Rattle.layout.specs.Frame.{training_sync, field_of, coefficients_of}
 use Rattle.layout.specs.Refusals.{has_sync, bit_refusals, check_refusals, read_refusals}
 use Rattle.reader.specs.declared.Found.{Found}
-use Rattle.reader.specs.Promises.{found_of, coefficients_left, vendor_octets, reserved_octets, reserved_left, Read}
+use Rattle.reader.specs.declared.Found.TheVariants.{Final}
+use Rattle.reader.specs.Promises.{words_in, coefficients_left, vendor_octets, reserved_octets, reserved_left, Read}
 
 -- ---- the walk of a training frame: coefficients from behind sync on, A and B behind those
 
@@ -95,21 +100,18 @@ module _ (f : List ℕ) (cs : List ℤ) (v s : List ℕ) where
   B = bits_of f
 
   -- a refusal
-  pub refusing : (n : ℕ) (r : Found) → n ≡ A → (n ≡ 0 → ⊥) → r ≡ record { answer = n; kind = 0; a = 0; b = 0 } → Read f cs v s r cs v s
-  refusing n r e z g =
+  pub refusing : (e : Refused) → number_of e ≡ A → Read f cs v s (Err e) cs v s
+  refusing e h =
       record {
-        found = g ∙ same n z ∙ ap (λ (k : ℕ). found_of k B) e;
+        answered = h;
+        found = tt;
         coefficients_held = sym (kept A cs (coefficients_left B cs) y);
         vendor_held = sym (kept A v (vendor_octets B) y);
         reserved_held = sym (kept A s (reserved_left B s) y);
       }
     where
-      same : (n : ℕ) → (n ≡ 0 → ⊥) → record { answer = n; kind = 0; a = 0; b = 0 } ≡ found_of n B
-      same zero z = absurd (z refl)
-      same (suc n) z = refl
-
       y : A ≡ 0 → ⊥
-      y h = z (e ∙ h)
+      y z = let p = refused-number e in omega (arith, p, h, z)
 
   -- the room for the reserved bits after a training frame, and after a final one
   handed : has_sync training_sync B ≡ true → reserved_left B s ≡ reserved_octets B
@@ -121,29 +123,22 @@ module _ (f : List ℕ) (cs : List ℤ) (v s : List ℕ) where
   module _ (z : A ≡ 0) where
     -- a training frame
     pub training-read : (r : Found) (cs' : List ℤ) (v' s' : List ℕ) → has_sync training_sync B ≡ true
-        → r ≡ record { answer = 0; kind = 0; a = value_of (field_of a_field B); b = value_of (field_of b_field B) } → cs' ≡ coefficients_of B → v' ≡ vendor_octets B
-        → s' ≡ reserved_octets B → Read f cs v s r cs' v' s'
+        → r ≡ words_in B → cs' ≡ coefficients_of B → v' ≡ vendor_octets B → s' ≡ reserved_octets B → Read f cs v s (Ok r) cs' v' s'
     training-read r cs' v' s' t e g h k =
         record {
-          found =
-              e
-              ∙ ap (λ (k : Bool). cond k (record { answer = 0; kind = 0; a = value_of (field_of a_field B); b = value_of (field_of b_field B) })
-              (record { answer = 0; kind = 1; a = 0; b = 0 })) (sym t)
-              ∙ ap (λ (k : ℕ). found_of k B) (sym z);
+          answered = sym z;
+          found = e ∙ ap (λ (k : Bool). cond k (words_in B) Final) (sym t);
           coefficients_held = g ∙ ap (λ (k : Bool). cond k (coefficients_of B) cs) (sym t) ∙ sym (given A cs (coefficients_left B cs) z);
           vendor_held = h ∙ sym (given A v (vendor_octets B) z);
           reserved_held = k ∙ sym (handed t) ∙ sym (given A s (reserved_left B s) z);
         }
 
     -- a final frame
-    pub final-read : (v' : List ℕ) → has_sync training_sync B ≡ false → v' ≡ vendor_octets B
-        → Read f cs v s (record { answer = 0; kind = 1; a = 0; b = 0 }) cs v' s
+    pub final-read : (v' : List ℕ) → has_sync training_sync B ≡ false → v' ≡ vendor_octets B → Read f cs v s (Ok Final) cs v' s
     final-read v' t h =
         record {
-          found =
-              ap (λ (k : Bool). cond k (record { answer = 0; kind = 0; a = value_of (field_of a_field B); b = value_of (field_of b_field B) })
-              (record { answer = 0; kind = 1; a = 0; b = 0 })) (sym t)
-              ∙ ap (λ (k : ℕ). found_of k B) (sym z);
+          answered = sym z;
+          found = ap (λ (k : Bool). cond k (words_in B) Final) (sym t);
           coefficients_held = ap (λ (k : Bool). cond k (coefficients_of B) cs) (sym t) ∙ sym (given A cs (coefficients_left B cs) z);
           vendor_held = h ∙ sym (given A v (vendor_octets B) z);
           reserved_held = sym (left_alone t) ∙ sym (given A s (reserved_left B s) z);

@@ -1,6 +1,6 @@
 -- Laws for the functions. Assumes nothing.
 use mathlib.Core.Path.{◌≡◌, refl, sym, ap, ap₂, subst, ◌∙◌}
-use mathlib.Core.Bool.{Bool, true, false, cond, not, ◌||◌, ◌&&◌}
+use mathlib.Core.Bool.{Bool, true, false, cond, not, ◌||◌, ◌&&◌, false≢true}
 use mathlib.Core.Logic.{◌⊎◌, inl, inr}
 use mathlib.Core.List.{List, [], ◌++◌, reverse, append-nil}
 use Prim.Native.Nat.{ℕ, ◌+◌, ◌-◌, ◌*◌, ◌/◌, ◌%◌, ◌^◌, ◌≤◌, ◌<◌, min, max}
@@ -11,6 +11,10 @@ use lib.Bits.{bit_and, bit_xor, and_step, xor_add_and, and_shr, xor_shr}
 use lib.Dec.{eqb, leb}
 use lib.ListN.{length, take, drop, replicate, length-append, length-drop, length-replicate, replicate-append-replicate}
 use lib.Seq.{length-take-le, take_all, drop_at, sets, sets-eq}
+use Rattle.std.specs.Prelude.{Result, Ok, Err, is_err}
+use Rattle.answer.specs.declared.Refused.{Refused}
+use Rattle.answer.specs.Given.{answer_of}
+use Rattle.answer.proofs.Given.{refused-number}
 use Rattle.answer.specs.Answer.{answer}
 use Rattle.answer.proofs.Laws.{given, passed}
 use Rattle.octets.specs.Bits.{digits_of, value_of, bits_of, octets_of, part, laid}
@@ -257,6 +261,15 @@ is_read end B at e f z = sym (eq-eqb _ _ (ap (λ (t : List ℕ). answer (check_r
 
 pub not-read : (end : ℕ) (B : List ℕ) (at : ℕ) {n : ℕ} {plain : List ℕ} → plain ≡ frame_at end B at → n ≡ answer (check_refusals plain) → (n ≡ 0 → ⊥) → false ≡ reads end B at
 not-read end B at e f z = sym (ne_eqb _ _ (λ k. z (f ∙ ap (λ (t : List ℕ). answer (check_refusals t)) e ∙ k)))
+
+-- checking refuses where it gives an error, and only there
+pub is-refused : {A : Type 0} (r : Result A Refused) → is_err r ≡ true → answer_of r ≡ 0 → ⊥
+is-refused (Ok v) e z = absurd (false≢true e)
+is-refused (Err x) e z = let p = refused-number x in omega (arith, p, z)
+
+pub is-right : {A : Type 0} (r : Result A Refused) → is_err r ≡ false → answer_of r ≡ 0
+is-right (Ok v) e = refl
+is-right (Err x) e = absurd (false≢true (sym e))
 
 -- a frame is 529 octets
 pub frame-size : (end : ℕ) (B : List ℕ) (at : ℕ) → length (frame_at end B at) ≡ 529

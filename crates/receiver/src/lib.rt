@@ -149,7 +149,7 @@ fn taken(end: u32, s: &[u8], at: usize, frame: &mut [u8]) -> bool
 {
     let mut plain = [0u8; layout::FRAME_OCTETS];
     descrambled(end, s, at, &mut plain);
-    if checker::check(&plain) != answer::DONE {
+    if checker::check(&plain).is_err() {
         return false;
     }
     octets::copy(frame, 0, &plain, 0, 8 * layout::FRAME_OCTETS as u32);

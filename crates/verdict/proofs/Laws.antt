@@ -1,21 +1,25 @@
 -- Laws of the verdict. Assumes nothing.
-use mathlib.Core.Path.{◌≡◌, refl, sym, ap, ap₂, ◌∙◌}
+use mathlib.Core.Path.{◌≡◌, refl, sym, ap, ap₂, subst, ◌∙◌}
 use mathlib.Core.Bool.{Bool, true, false, cond}
 use mathlib.Core.List.{List}
-use Prim.Native.Nat.{ℕ, zero, suc}
+use Prim.Native.Nat.{ℕ, zero, suc, ◌≤◌}
 use native.Mathlib.Omega.{arith}
 use borrow.Author.Tests.{eq-eqb, ne_eqb}
 use lib.IntN.{ℤ}
-use Rattle.answer.specs.Answer.{answer}
 use Rattle.octets.specs.Bits.{value_of, bits_of}
 use Rattle.layout.specs.Places.{a_field, b_field}
 use Rattle.layout.specs.Frame.{training_sync, field_of, coefficients_of}
-use Rattle.layout.specs.Refusals.{has_sync, check_refusals}
+use Rattle.layout.specs.Refusals.{has_sync}
 use Rattle.reader.specs.declared.Found.{Found}
-use Rattle.reader.specs.Promises.{found_of, Read}
+use Rattle.reader.specs.declared.Found.TheVariants.{Training, Final}
+use Rattle.std.specs.Prelude.{Ok, Err}
+use Rattle.answer.specs.declared.Refused.{Refused}
+use Rattle.answer.specs.Given.{number_of}
+use Rattle.answer.proofs.Given.{refused-number}
+use Rattle.reader.specs.Promises.{words_in, Read}
 use Rattle.highest.specs.Highest.{highest}
 use Rattle.reader.proofs.Laws.{Rooms}
-use Rattle.reader.proofs.Given.{found, found-is, none-applies, coefficients-are, vendor-is}
+use Rattle.reader.proofs.Given.{refused-with, found-is, none-applies, coefficients-are, vendor-is}
 use Rattle.verdict.specs.declared.Customer.{Customer}
 use Rattle.card.specs.declared.Verdict.{Verdict}
 use Rattle.verdict.specs.Ranks.{training_rank, final_rank}
@@ -37,70 +41,82 @@ like-turned given x y g n e = simp (g, ne_eqb x y n, eq-eqb x (last_first y) e)
 pub like-other : (given : Bool) (x y : ℕ) → given ≡ true → (x ≡ y → ⊥) → (x ≡ last_first y → ⊥) → 3 ≡ like_of given x y
 like-other given x y g n m = simp (g, ne_eqb x y n, ne_eqb x (last_first y) m)
 
+-- ---- what is found: the words of a training frame
+
+a_of : Found → ℕ
+a_of (Training a b) = a
+a_of Final = 0
+
+b_of : Found → ℕ
+b_of (Training a b) = b
+b_of Final = 0
+
+-- a final frame is no training frame
+not-final : {a b : ℕ} → ◌≡◌ {A = Found} Final (Training a b) → ⊥
+not-final {a} {b} e = absurd (omega (arith, ap kind_of e))
+  where
+    kind_of : Found → ℕ
+    kind_of (Training a b) = 0
+    kind_of Final = 1
+
 -- ---- the verdict, of what reading gives
 
-module _ (f : List ℕ) (cs : List ℤ) (v s : List ℕ) (rooms : Rooms cs v s) (r : Found) (cs' : List ℤ) (v' s' : List ℕ)
-    (d : Read f cs v s r cs' v' s') (k : Customer) where
+module _ (f : List ℕ) (cs : List ℤ) (v s : List ℕ) (rooms : Rooms cs v s) (cs' : List ℤ) (v' s' : List ℕ) (k : Customer) where
   abbrev B : List ℕ
   B = bits_of f
 
-  -- a training frame's numbers and a final one's
-  abbrev T : Found
-  T = record { answer = 0; kind = 0; a = value_of (field_of a_field B); b = value_of (field_of b_field B) }
-
-  abbrev F : Found
-  F = record { answer = 0; kind = 1; a = 0; b = 0 }
-
-  pub refused-is : (r.answer ≡ 0 → ⊥) → (o : ℕ) → o ≡ octets_of f → refused_verdict r.answer o k ≡ verdict_of f k
+  pub refused-is : (e : Refused) → Read f cs v s (Err e) cs' v' s' → (o : ℕ) → o ≡ octets_of f → refused_verdict (number_of e) o k ≡ verdict_of f k
   unfolding verdict_of judged
-  refused-is h o eo =
-      go (answer (check_refusals f)) (found f cs v s rooms r cs' v' s' d) ∙ ap (λ (x : ℕ). judged (answer (check_refusals f)) x B k) eo
+  refused-is e d o eo =
+      go (number_of e) (refused-number e) ∙ ap₂ (λ (n x : ℕ). judged n x B k) (refused-with f cs v s rooms cs' v' s' e d) eo
     where
-      done : (t : Bool) → (cond {A = Found} t T F).answer ≡ 0
-      done true = refl
-      done false = refl
+      go : (n : ℕ) → 1 ≤ n → refused_verdict n o k ≡ judged n o B k
+      go zero h = absurd (omega (arith, h))
+      go (suc n) h = refl
 
-      go : (n : ℕ) → r ≡ found_of n B → refused_verdict r.answer o k ≡ judged n o B k
-      go zero e = absurd (h (ap (λ (x : Found). x.answer) e ∙ done (has_sync training_sync B)))
-      go (suc n) e = ap (λ (x : Found). refused_verdict x.answer o k) e
+  judged-is : (r : Found) → Read f cs v s (Ok r) cs' v' s' → (o : ℕ) → o ≡ octets_of f → judged 0 o B k ≡ verdict_of f k
+  unfolding verdict_of
+  judged-is r d o eo = ap₂ (λ (n x : ℕ). judged n x B k) (sym (none-applies f cs v s rooms cs' v' s' r d)) eo
 
-  module _ (z : r.answer ≡ 0) (o : ℕ) (eo : o ≡ octets_of f) where
-    judged-is : judged 0 o B k ≡ verdict_of f k
-    unfolding verdict_of
-    judged-is = ap₂ (λ (n x : ℕ). judged n x B k) (sym (none-applies f cs v s rooms r cs' v' s' d z)) eo
+  module _ (r : Found) (read : Read f cs v s (Ok r) cs' v' s') (a b : ℕ) (er : r ≡ Training a b) (o : ℕ) (eo : o ≡ octets_of f) where
+    d : Read f cs v s (Ok (Training a b)) cs' v' s'
+    d = subst (λ (x : Found). Read f cs v s (Ok x) cs' v' s') er read
 
-    training-is : r.kind ≡ 0 → training_by o (highest cs') r.a r.b v' k ≡ verdict_of f k
-    unfolding judged
-    training-is e =
-        go (has_sync training_sync B) (found-is f cs v s rooms r cs' v' s' d z) (coefficients-are f cs v s rooms r cs' v' s' d z) ∙ judged-is
+    training-is : training_by o (highest cs') a b v' k ≡ verdict_of f k
+    unfolding judged a_of b_of
+    training-is =
+        go (has_sync training_sync B) (found-is f cs v s rooms cs' v' s' (Training a b) d) (coefficients-are f cs v s rooms cs' v' s' (Training a b) d)
+        ∙ judged-is (Training a b) d o eo
       where
-        go : (t : Bool) → r ≡ cond t T F → cs' ≡ cond t (coefficients_of B) cs
-            → training_by o (highest cs') r.a r.b v' k ≡ cond t (training_verdict o B k) (final_verdict o B k)
+        go : (t : Bool) → Training a b ≡ cond t (words_in B) Final → cs' ≡ cond t (coefficients_of B) cs
+            → training_by o (highest cs') a b v' k ≡ cond t (training_verdict o B k) (final_verdict o B k)
         go true p q =
-            ap (λ (x : List ℤ). training_by o (highest x) r.a r.b v' k) q
-            ∙ ap (λ (x : Found). training_by o (highest (coefficients_of B)) x.a x.b v' k) p
-            ∙ ap (λ (x : List ℕ). training_by o (highest (coefficients_of B)) T.a T.b x k) (vendor-is f cs v s rooms r cs' v' s' d z)
-        go false p q =
-            let kind_is : ◌≡◌ {A = ℕ} 0 1 = sym e ∙ ap (λ (x : Found). x.kind) p in
-            absurd (omega arith)
+            ap (λ (x : List ℤ). training_by o (highest x) a b v' k) q
+            ∙ ap (λ (x : Found). training_by o (highest (coefficients_of B)) (a_of x) (b_of x) v' k) p
+            ∙ ap (λ (x : List ℕ). training_by o (highest (coefficients_of B)) (value_of (field_of a_field B)) (value_of (field_of b_field B)) x k)
+            (vendor-is f cs v s rooms cs' v' s' (Training a b) d)
+        go false p q = absurd (not-final (sym p))
 
     -- as the code makes it
-    pub training-made : (w u l m : ℕ) → u ≡ highest cs' → l ≡ like_of k.given r.a k.a → m ≡ like_of k.given r.b k.b
-        → w ≡ training_rank l m → r.kind ≡ 0
-        → record { rank = w; octets = o; answer = 0; kind = 0; used = u; a = r.a; b = r.b; alike = l; blike = m; vendor = v' } ≡ verdict_of f k
-    training-made w u l m qu ql qm qw e = rw (qw, qu, ql, qm) (training-is e)
+    pub training-made : (w u l m : ℕ) → u ≡ highest cs' → l ≡ like_of k.given a k.a → m ≡ like_of k.given b k.b → w ≡ training_rank l m
+        → record { rank = w; octets = o; answer = 0; kind = 0; used = u; a = a; b = b; alike = l; blike = m; vendor = v' } ≡ verdict_of f k
+    training-made w u l m qu ql qm qw = rw (qw, qu, ql, qm) training-is
 
-    final-is : (r.kind ≡ 0 → ⊥) → final_by o v' k ≡ verdict_of f k
+  module _ (r : Found) (read : Read f cs v s (Ok r) cs' v' s') (er : r ≡ Final) (o : ℕ) (eo : o ≡ octets_of f) where
+    g : Read f cs v s (Ok Final) cs' v' s'
+    g = subst (λ (x : Found). Read f cs v s (Ok x) cs' v' s') er read
+
+    final-is : final_by o v' k ≡ verdict_of f k
     unfolding judged
-    final-is n = go (has_sync training_sync B) (found-is f cs v s rooms r cs' v' s' d z) ∙ judged-is
+    final-is = go (has_sync training_sync B) (found-is f cs v s rooms cs' v' s' Final g) ∙ judged-is Final g o eo
       where
-        go : (t : Bool) → r ≡ cond t T F → final_by o v' k ≡ cond t (training_verdict o B k) (final_verdict o B k)
-        go true p = absurd (n (ap (λ (x : Found). x.kind) p))
-        go false p = ap (λ (x : List ℕ). final_by o x k) (vendor-is f cs v s rooms r cs' v' s' d z)
+        go : (t : Bool) → Final ≡ cond t (words_in B) Final → final_by o v' k ≡ cond t (training_verdict o B k) (final_verdict o B k)
+        go true p = absurd (not-final p)
+        go false p = ap (λ (x : List ℕ). final_by o x k) (vendor-is f cs v s rooms cs' v' s' Final g)
 
-    pub final-made : (w l m : ℕ) → w ≡ final_rank k.given → l ≡ absent k.given → m ≡ absent k.given → (r.kind ≡ 0 → ⊥)
+    pub final-made : (w l m : ℕ) → w ≡ final_rank k.given → l ≡ absent k.given → m ≡ absent k.given
         → record { rank = w; octets = o; answer = 0; kind = 1; used = 0; a = 0; b = 0; alike = l; blike = m; vendor = v' } ≡ verdict_of f k
-    final-made w l m qw ql qm n = rw (qw, ql, qm) (final-is n)
+    final-made w l m qw ql qm = rw (qw, ql, qm) final-is
 
 -- ---- the customer
 

@@ -7,6 +7,7 @@ ghost use Rattle.verdict.specs.Verdict.{like_of, absent, most_octets, refused_ve
 ghost use Rattle.verdict.specs.Promises.{Judged, Unread, IsCustomer, IsNobody};
 
 use card::Verdict;
+use reader::Found;
 
 // The customer's words A and B, where a reference frame is given.
 #[derive(Clone, Copy)]
@@ -23,17 +24,16 @@ pub const MOST_OCTETS: usize = layout::FRAME_OCTETS + 1;
 fn like(given: bool, x: u32, y: u32) -> u32
     ensures { result ≡ like_of given x y }
 {
-    if !given {
-        return card::NO_CUSTOMER;
-    }
     let last_first = bitfields::turned(layout::WORD_BITS, y);
-    if x == y {
-        return card::SAME;
+    if !given {
+        card::NO_CUSTOMER
+    } else if x == y {
+        card::SAME
+    } else if x == last_first {
+        card::TURNED
+    } else {
+        card::OTHER
     }
-    if x == last_first {
-        return card::TURNED;
-    }
-    card::OTHER
 }
 
 // The same, of a card that carries no word.
@@ -63,21 +63,14 @@ fn training_rank(a: u32, b: u32) -> u32
     ensures { result ≡ training_rank a b }
 {
     if a == card::NO_CUSTOMER {
-        return card::GOOD;
+        card::GOOD
+    } else if a == card::TURNED || b == card::TURNED {
+        card::TURNED_WORDS
+    } else if a == card::SAME && b == card::SAME {
+        card::MATCHING
+    } else {
+        card::OTHER_WORDS
     }
-    if a == card::TURNED {
-        return card::TURNED_WORDS;
-    }
-    if b == card::TURNED {
-        return card::TURNED_WORDS;
-    }
-    if a != card::SAME {
-        return card::OTHER_WORDS;
-    }
-    if b != card::SAME {
-        return card::OTHER_WORDS;
-    }
-    card::MATCHING
 }
 
 // The verdict on a final frame.
@@ -91,11 +84,7 @@ fn final_rank(given: bool) -> u32
 fn counted(n: usize) -> u32
     ensures { result ≡ min n most_octets }
 {
-    if n < MOST_OCTETS {
-        n as u32
-    } else {
-        MOST_OCTETS as u32
-    }
+    n.min(MOST_OCTETS) as u32
 }
 
 // A file of so many octets that is refused with n.
@@ -104,7 +93,7 @@ fn refused(n: u32, octets: u32, customer: Customer) -> Verdict
 {
     Verdict {
         rank: refused_rank(n),
-        octets: octets,
+        octets,
         answer: n,
         kind: 0,
         used: 0,
@@ -123,38 +112,37 @@ pub fn judge(frame: &[u8], customer: Customer) -> Verdict
     let mut cs = [0i32; layout::COEFFICIENTS];
     let mut vendor = [0u8; layout::VENDOR_OCTETS];
     let mut reserved = [0u8; layout::RESERVED_OCTETS];
-    let found = reader::read(frame, &mut cs, &mut vendor, &mut reserved);
     let octets = counted(frame.len());
-    if found.answer != answer::DONE {
-        return refused(found.answer, octets, customer);
-    }
-    if found.kind == layout::TRAINING {
-        let alike = like(customer.given, found.a, customer.a);
-        let blike = like(customer.given, found.b, customer.b);
-        return Verdict {
-            rank: training_rank(alike, blike),
-            octets: octets,
-            answer: answer::DONE,
-            kind: layout::TRAINING,
-            used: highest::highest(&cs) as u32,
-            a: found.a,
-            b: found.b,
-            alike: alike,
-            blike: blike,
-            vendor: vendor,
-        };
-    }
-    Verdict {
-        rank: final_rank(customer.given),
-        octets: octets,
-        answer: answer::DONE,
-        kind: layout::FINAL,
-        used: 0,
-        a: 0,
-        b: 0,
-        alike: no_word(customer.given),
-        blike: no_word(customer.given),
-        vendor: vendor,
+    match reader::read(frame, &mut cs, &mut vendor, &mut reserved) {
+        Ok(Found::Training { a, b }) => {
+            let alike = like(customer.given, a, customer.a);
+            let blike = like(customer.given, b, customer.b);
+            Verdict {
+                rank: training_rank(alike, blike),
+                octets,
+                answer: 0,
+                kind: layout::TRAINING,
+                used: highest::highest(&cs) as u32,
+                a,
+                b,
+                alike,
+                blike,
+                vendor,
+            }
+        },
+        Ok(Found::Final) => Verdict {
+            rank: final_rank(customer.given),
+            octets,
+            answer: 0,
+            kind: layout::FINAL,
+            used: 0,
+            a: 0,
+            b: 0,
+            alike: no_word(customer.given),
+            blike: no_word(customer.given),
+            vendor,
+        },
+        Err(no) => refused(no.number(), octets, customer),
     }
 }
 
@@ -180,10 +168,7 @@ pub fn nobody() -> Customer
 pub fn reference(v: Verdict) -> Customer
     ensures { IsCustomer v result }
 {
-    if v.answer != answer::DONE {
-        return nobody();
-    }
-    if v.kind != layout::TRAINING {
+    if v.answer != 0 || v.kind != layout::TRAINING {
         return nobody();
     }
     Customer {

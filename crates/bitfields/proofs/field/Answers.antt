@@ -12,7 +12,7 @@ read : (c : goal.After-bits) → c.bits.result ≡ value_of (part c.args.at (min
 read c =
     let a = c.args in
     let p : a.at + 0 ≡ a.at = omega arith in
-    let n : min c.width.result 56 ≡ min a.w 32 = omega (arith, c.width.ensures) in
+    let n : min c.min.result 56 ≡ min a.w 32 = omega (arith, c.min.ensures) in
     c.bits.ensures ∙ ap₂ (λ (x k : ℕ). value_of (part x k (bits_of a.s.now))) p n
 
 pub overflow_cast-result : goal.overflow_cast-result

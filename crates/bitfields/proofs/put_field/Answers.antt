@@ -8,7 +8,7 @@ use Rattle.bitfields.proofs.put_field.Goals as goal
 pub returns : goal.returns
 returns c =
     let a = c.args in
-    let w = c.width in
+    let w = c.min in
     let p : a.at + 0 ≡ a.at = omega arith in
     let n : min w.result 56 ≡ min a.w 32 = omega (arith, w.ensures) in
-    c.put_bits.ensures ∙ ap₂ (λ (x k : ℕ). laid a.s.now x (digits_of k a.v)) p n
+    rw (← c.from.ensures) c.put_bits.ensures ∙ ap₂ (λ (x k : ℕ). laid a.s.now x (digits_of k a.v)) p n

@@ -4,8 +4,10 @@ use mathlib.Core.Logic.{inl, inr}
 use mathlib.Core.List.{List, [], ◌++◌, append_assoc, append-nil}
 use Prim.Native.Nat.{ℕ, ◌+◌, ◌*◌, ◌/◌, ◌%◌, ◌≤◌, ◌<◌, min}
 use native.Mathlib.Omega.{arith}
-use lib.IntN.{pos}
+use lib.IntN.{ℤ, pos}
 use lib.ListN.{length, get_or, take}
+use Rattle.std.specs.Prelude.{Option}
+use Rattle.std.specs.Option.{unwrap_or}
 use Rattle.octets.specs.Bits.{digits_of, value_of, bits_of, part, laid}
 use Rattle.octets.specs.Signed.{twos_of, number_bits}
 use Rattle.octets.proofs.Complement.{read-i32, twos-digits}
@@ -24,7 +26,7 @@ pub loop-k-init : goal.loop-k-init
 loop-k-init c =
     let a = c.args in
     let s = a.s.now in
-    let w = c.width-width.result in
+    let w = c.min-width.result in
     let i = a.at / 8 in
     let r = a.at % 8 in
     let v = value_of (part (8 * i) r (bits_of s)) in
@@ -41,13 +43,7 @@ pub pushed-window-requires : goal.pushed-window-requires
 pushed-window-requires c =
     let l = c.loop-k in
     let h = l.invariant.2 in
-    (h.few, h.small, omega (arith, l.invariant.1), omega (arith, c.width-width.ensures))
-
-pub overflow_add-k : goal.overflow_add-k
-overflow_add-k c = omega arith
-
-pub loop-k-smaller : goal.loop-k-smaller
-loop-k-smaller c = omega arith
+    (h.few, h.small, omega (arith, l.invariant.1), omega (arith, c.min-width.ensures))
 
 -- the octet goes on by eight at most
 octet-le : (s : List ℕ) (b : Window) (w v : ℕ) (t : List ℕ) (r : Window) → Pushed s b w v t r → r.octet ≤ b.octet + 8
@@ -58,9 +54,9 @@ pub loop-k-preserved : goal.loop-k-preserved
 loop-k-preserved c =
     let push = c.pushed-window in
     let two = c.twos-v in
-    let num = c.number in
+    let num = c.unwrap_or-number in
     let l = c.loop-k in
-    let wide = c.width-width in
+    let wide = c.min-width in
     let a = c.args in
     let s = a.s.now in
     let w = wide.result in
@@ -69,8 +65,10 @@ loop-k-preserved c =
     let B = before s a.at in
     let N = number_bits w (take l.k Z) in
     let k : l.k < a.n = c.loop-k-test.true in
+    let found : num.result ≡ get_or a.numbers.now l.k (pos 0) =
+    num.ensures ∙ ap (λ (o : Option ℤ). unwrap_or o (pos 0)) c.copied.ensures ∙ c.get.ensures.lookup.4 (omega arith) (pos 0) in
     let v : digits_of w two.result ≡ digits_of w (twos_of w (get_or Z l.k (pos 0))) =
-    ap (digits_of w) (two.ensures ∙ ap (twos_of 32) (read-i32 num.result num.type_inv ∙ num.ensures ∙ sym (first-at a.n l.k a.numbers.now k)))
+    ap (digits_of w) (two.ensures ∙ ap (twos_of 32) (read-i32 num.result num.type_inv ∙ found ∙ sym (first-at a.n l.k a.numbers.now k)))
     ∙ twos-digits w (get_or Z l.k (pos 0)) le in
     let e : (B ++ N) ++ digits_of w two.result ≡ B ++ number_bits w (take (l.k + 1) Z) =
     append_assoc B N (digits_of w two.result) ∙ ap (λ (x : List ℕ). B ++ x) (ap (λ (x : List ℕ). N ++ x) v
@@ -92,7 +90,7 @@ shape_of-s c =
 pub returns : goal.returns
 returns c =
     let l = c.loop-k in
-    let wide = c.width-width in
+    let wide = c.min-width in
     let a = c.args in
     let s = a.s.now in
     let w = wide.result in

@@ -1,5 +1,5 @@
 use mathlib.Core.List.{List, ◌++◌}
-use Prim.Native.Nat.{ℕ, ◌+◌, ◌-◌, ◌*◌, ◌/◌, ◌%◌, ◌≤◌}
+use Prim.Native.Nat.{ℕ, ◌+◌, ◌*◌, ◌/◌, ◌%◌, ◌≤◌}
 use lib.ListN.{take}
 use Rattle.octets.specs.Bits.{digits_of, value_of, bits_of, part}
 use Rattle.octets.specs.Signed.{number_bits}
@@ -15,6 +15,3 @@ abbrev pub invariant-loop-k : goal.invariant-loop-k
 invariant-loop-k l =
     (l.k ≤ l.n) × (l.window.octet ≤ l.at / 8 + 8 * l.k)
     × Holds l.initial.s (8 * (l.at / 8)) (before l.initial.s l.at ++ number_bits l.width (take l.k (first_of l.n l.numbers))) l.s l.window
-
-abbrev pub decreases-loop-k : goal.decreases-loop-k
-decreases-loop-k l = l.n - l.k

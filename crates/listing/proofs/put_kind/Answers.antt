@@ -1,9 +1,12 @@
 -- `listing::put_kind` meets its contract.
-use borrow.Author.Tests.{eq-eqb, ne_eqb}
+use mathlib.Core.Path.{sym, ap, subst}
+use mathlib.Core.List.{List}
+use Prim.Native.Nat.{ℕ}
+use Rattle.ascii.specs.Promises.{Put}
+use Rattle.reader.specs.declared.Found.{Found}
+use Rattle.listing.specs.Listing.{kind_lines}
 use Rattle.listing.proofs.put_kind.Goals as goal
 
-pub returns-then-kind-eq-TRAINING : goal.returns-then-kind-eq-TRAINING
-returns-then-kind-eq-TRAINING c = simp (eq-eqb _ _ c.if-kind-eq-TRAINING.true) c.put_training.ensures
-
-pub returns-else-kind-eq-TRAINING : goal.returns-else-kind-eq-TRAINING
-returns-else-kind-eq-TRAINING c = simp (ne_eqb _ _ c.if-kind-eq-TRAINING.false) c.put_word.ensures
+pub returns-in-Final : goal.returns-in-Final
+returns-in-Final c =
+    subst (λ (l : List ℕ). Put c.args.room.now 0 l c.put_word.result c.put_word.new.room) (sym (ap (λ (x : Found). kind_lines x c.args.cs.now) c.in-Final.is)) c.put_word.ensures

@@ -12,17 +12,17 @@ pub overflow_shr-x : goal.overflow_shr-x
 overflow_shr-x c = omega arith
 
 -- the size that the length gives
-size : (c : goal.After-word) → 1 * 2 ^ c.least-m.result % 2 ^ 64 ≡ 2 ^ c.least-m.result
-size c = size_is c.least-m.result (omega (arith, c.least-m.ensures))
+size : (c : goal.After-word) → 1 * 2 ^ c.min-m.result % 2 ^ 64 ≡ 2 ^ c.min-m.result
+size c = size_is c.min-m.result (omega (arith, c.min-m.ensures))
 
 pub nonzero_rem-result : goal.nonzero_rem-result
-nonzero_rem-result c = omega (arith, size c, pow_pos c.least-m.result)
+nonzero_rem-result c = omega (arith, size c, pow_pos c.min-m.result)
 
 pub returns : goal.returns
 returns c =
     let a = c.args in
     let s = a.s.now in
-    let m = c.least-m in
+    let m = c.min-m in
     let j = a.at % 8 + a.k in
     let i = a.at / 8 + j / 8 in
     let le : m.result ≤ 56 = omega (arith, m.ensures) in

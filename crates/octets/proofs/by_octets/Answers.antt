@@ -1,59 +1,40 @@
--- `octets::by_octets` meets its contract. The octets from octet k on are read.
-use mathlib.Core.Path.{◌≡◌, sym, ap, ap₂, subst, ◌∙◌}
-use Prim.Native.Nat.{ℕ, ◌+◌, ◌-◌, ◌*◌, ◌^◌, ◌<◌, min}
+-- `octets::by_octets` meets its contract. The last octets are read, as many as the loop has taken.
+use mathlib.Core.Path.{◌≡◌, refl, ap, ap₂, ◌∙◌}
+use Prim.Native.Nat.{ℕ, ◌-◌, ◌*◌, ◌<◌}
 use native.Mathlib.Omega.{arith}
-use lib.Bits.{bit_or, or_shifted}
-use lib.ListN.{length, get_or}
-use lib.Pow.{shl_exact}
+use lib.ListN.{length, get_or, length-reverse}
+use lib.Seq.{take_all}
+use Rattle.std.proofs.lemmas.Iterator.Adapters.{YieldsList-from_rev_slice}
+use Rattle.std.proofs.lemmas.Iterator.Consumers.{YieldsList-turn, YieldsList-end}
+use Rattle.std.proofs.lemmas.List.{get_or-reverse, get_or_default, length_push}
 use Rattle.octets.specs.Bits.{value_of, bits_of, part}
-use Rattle.octets.proofs.Laws.{Octets, part-lt, part-clipped}
-use Rattle.octets.proofs.Words.{value-octet}
+use Rattle.octets.proofs.Laws.{bits-length}
+use Rattle.octets.proofs.Words.{octet-more}
 use Rattle.octets.proofs.by_octets.Goals as goal
 
-pub loop-k-init : goal.loop-k-init
+pub loop-octet-init : goal.loop-octet-init
 unfolding value_of
-loop-k-init c =
-    let a = c.args in
-    let z : 0 ≡ 8 * (a.end - a.end) = omega arith in
-    (omega arith, c.requires.0, ap (λ (n : ℕ). value_of (part (8 * a.end) n (bits_of a.s.now))) z)
+loop-octet-init c = (omega arith, refl)
 
-pub overflow_sub-k : goal.overflow_sub-k
-overflow_sub-k c = omega arith
-
-pub bounds-s-k : goal.bounds-s-k
-bounds-s-k c = omega (arith, c.requires)
-
-pub overflow_cast-v : goal.overflow_cast-v
-overflow_cast-v c = omega (arith, c.shared_slice_known-1.given (c.loop-k.k - 1))
-
-pub loop-k-smaller : goal.loop-k-smaller
-loop-k-smaller c = omega arith
-
-pub loop-k-preserved : goal.loop-k-preserved
-loop-k-preserved c =
-    let l = c.loop-k in
-    let a = c.args in
-    let s = a.s.now in
-    let j = l.k - 1 in
-    let m = 8 * (a.end - l.k) in
-    let o = get_or s j 0 in
-    let ok : Octets s = λ n. omega (arith, c.shared_slice_known-1.given n) in
-    let p : 8 * l.k ≡ 8 * (j + 1) = omega arith in
-    let q : m + 8 ≡ 8 * (a.end - j) = omega arith in
-    let lv : l.v < 2 ^ m = subst (λ (x : ℕ). x < 2 ^ m) (sym l.invariant.2) (part-lt s (8 * l.k) m) in
-    let lo : o < 2 ^ 8 = ok j in (
-      omega arith,
-      omega arith,
-      ap (λ (x : ℕ). bit_or x o) (shl_exact m 8 64 lv (omega (arith, c.requires))) ∙ or_shifted l.v 8 o lo
-          ∙ ap (λ (x : ℕ). x * 2 ^ 8 + o) (l.invariant.2 ∙ ap (λ (x : ℕ). value_of (part x m (bits_of s))) p)
-          ∙ value-octet s j m ok ∙ ap (λ (n : ℕ). value_of (part (8 * j) n (bits_of s))) q,
-    )
+pub loop-octet-preserved : goal.loop-octet-preserved
+loop-octet-preserved c =
+    let s = c.args.s.now in
+    let l = c.loop-octet in
+    let x = c.in-Some.field-0 in
+    let t = YieldsList-turn (YieldsList-from_rev_slice s cc) l.yielded _ l.yielded_by _ _ x c.in-Some.is c.next.ensures.steps in
+    let n = length l.yielded in
+    let lt : n < length s = omega (arith, t.0, length-reverse s) in
+    let at = length s - 1 - n in
+    let o : x.now ≡ get_or s at 0 = t.1 ∙ get_or-reverse s n x.now lt ∙ get_or_default s at x.now 0 (omega arith) in
+    let m = length_push l.yielded x in
+    (omega arith, octet-more s n _ l.v c.from.result (λ k. omega (arith, c.type_inv.s k)) c.requires lt m (c.from.ensures ∙ o) l.invariant.1)
 
 pub returns : goal.returns
 returns c =
-    let a = c.args in
-    let s = a.s.now in
-    let l = c.loop-k in
-    let p : 8 * l.k ≡ 8 * a.i = omega arith in
-    let q : 8 * (a.end - l.k) ≡ min 64 (8 * length s - 8 * a.i) = omega (arith, c.requires) in
-    l.invariant.2 ∙ ap₂ (λ (x n : ℕ). value_of (part x n (bits_of s))) p q ∙ ap value_of (part-clipped s (8 * a.i) 64)
+    let s = c.args.s.now in
+    let l = c.loop-octet in
+    let t = YieldsList-end (YieldsList-from_rev_slice s cc) l.yielded _ l.yielded_by _ _ c.in-None.is c.next.ensures.steps in
+    let n : length l.yielded ≡ length s = t.1 ∙ length-reverse s in
+    let e : 8 * (length s - length l.yielded) ≡ 0 = omega arith in
+    l.invariant.1 ∙ ap₂ (λ (x y : ℕ). value_of (part x (8 * y) (bits_of s))) e n
+    ∙ ap value_of (take_all (8 * length s) (bits_of s) (omega (arith, bits-length s)))

@@ -17,13 +17,7 @@ loop-k-init c =
     (omega arith, omega arith, ap (λ (n : ℕ). min (value_of (part (8 * a.i) n (bits_of a.s.now))) 1) z)
 
 pub bounds-s-k : goal.bounds-s-k
-bounds-s-k c = omega (arith, c.within-last.ensures)
-
-pub overflow_add-k : goal.overflow_add-k
-overflow_add-k c = omega arith
-
-pub loop-k-smaller : goal.loop-k-smaller
-loop-k-smaller c = omega arith
+bounds-s-k c = omega (arith, c.min-last.ensures)
 
 pub loop-k-preserved : goal.loop-k-preserved
 loop-k-preserved c =
@@ -41,7 +35,7 @@ loop-k-preserved c =
 pub returns : goal.returns
 returns c =
     let l = c.loop-k in
-    let w = c.within-last in
+    let w = c.min-last in
     let a = c.args in
     let s = a.s.now in
     let e : 8 * (l.k - a.i) ≡ min (8 * (a.end - a.i)) (8 * length s - 8 * a.i) = omega (arith, w.ensures) in

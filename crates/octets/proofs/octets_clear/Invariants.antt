@@ -5,6 +5,3 @@ use Rattle.octets.proofs.octets_clear.Given as goal
 
 abbrev pub invariant-loop-k : goal.invariant-loop-k
 invariant-loop-k l = (l.i ≤ l.k) × (l.k ≤ max l.i l.last) × (min l.all 1 ≡ min (value_of (part (8 * l.i) (8 * (l.k - l.i)) (bits_of l.s))) 1)
-
-abbrev pub decreases-loop-k : goal.decreases-loop-k
-decreases-loop-k l = l.last - l.k

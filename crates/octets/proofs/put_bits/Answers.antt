@@ -6,9 +6,9 @@ use Rattle.octets.specs.Bits.{digits_of, laid}
 use Rattle.octets.proofs.put_bits.Goals as goal
 
 pub put_at-requires : goal.put_at-requires
-put_at-requires c = omega (arith, c.least.ensures)
+put_at-requires c = omega (arith, c.min.ensures)
 
 pub returns : goal.returns
 returns c =
     let a = c.args in
-    c.put_at.ensures ∙ ap (λ (n : ℕ). laid a.s.now (a.at + a.k) (digits_of n a.v)) c.least.ensures
+    c.put_at.ensures ∙ ap (λ (n : ℕ). laid a.s.now (a.at + a.k) (digits_of n a.v)) c.min.ensures

@@ -6,10 +6,10 @@ use Rattle.octets.specs.Bits.{digits_of, laid}
 use Rattle.octets.proofs.put_front.Goals as goal
 
 pub put_part-requires : goal.put_part-requires
-put_part-requires c = omega (arith, c.least.ensures)
+put_part-requires c = omega (arith, c.min.ensures)
 
 pub returns : goal.returns
 returns c =
     let a = c.args in
     let e : 8 * a.i + 0 ≡ 8 * a.i = omega arith in
-    c.put_part.ensures ∙ ap₂ (λ (p n : ℕ). laid a.s.now p (digits_of n a.v)) e c.least.ensures
+    c.put_part.ensures ∙ ap₂ (λ (p n : ℕ). laid a.s.now p (digits_of n a.v)) e c.min.ensures

@@ -34,12 +34,6 @@ size c = ap length c.loop-k.invariant.3 ∙ simp length-sets
 pub bounds-s-k : goal.bounds-s-k
 bounds-s-k c = omega (arith, size c, c.requires)
 
-pub overflow_add-k : goal.overflow_add-k
-overflow_add-k c = omega arith
-
-pub loop-k-smaller : goal.loop-k-smaller
-loop-k-smaller c = omega arith
-
 pub loop-k-preserved : goal.loop-k-preserved
 loop-k-preserved c =
     let a = c.args in

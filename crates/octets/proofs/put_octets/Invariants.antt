@@ -7,6 +7,3 @@ use Rattle.octets.proofs.put_octets.Given as goal
 abbrev pub invariant-loop-k : goal.invariant-loop-k
 invariant-loop-k l =
     (l.i ≤ l.k) × (l.k ≤ max l.i l.end) × (l.rest ≡ l.v / 2 ^ (8 * (l.k - l.i))) × (l.s ≡ sets l.initial.s l.i (octets_of (l.k - l.i) (digits_of (8 * (l.k - l.i)) l.v)))
-
-abbrev pub decreases-loop-k : goal.decreases-loop-k
-decreases-loop-k l = l.end - l.k

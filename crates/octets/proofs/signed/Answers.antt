@@ -14,9 +14,9 @@ use Rattle.octets.proofs.Words.{size_is}
 use Rattle.octets.proofs.signed.Goals as goal
 
 -- the width as it counts, 2 to its power as the code shifts it, and the digits' value
-module _ (c : goal.After-least) where
+module _ (c : goal.After-min) where
   abbrev w : ℕ
-  w = c.least.result
+  w = c.min.result
 
   abbrev size : ℕ
   size = 1 * 2 ^ w % 2 ^ 64
@@ -26,7 +26,7 @@ module _ (c : goal.After-least) where
 
   facts : (size ≡ 2 ^ w) × (0 < size) × (size ≤ 2 ^ 32) × (v < size)
   facts =
-      let l : w ≤ 32 = omega (arith, c.least.ensures) in
+      let l : w ≤ 32 = omega (arith, c.min.ensures) in
       let e : size ≡ 2 ^ w = size_is w (omega arith) in
       let p : 0 < size = omega (arith, pow_pos w) in
       (e, p, omega (arith, pow_mono l), mod-lt c.args.n p)
@@ -34,7 +34,7 @@ module _ (c : goal.After-least) where
   -- what the code takes is what the contract says
   said : signed_of w v ≡ signed_of (min c.args.w 32) (c.args.n % 2 ^ min c.args.w 32)
   said =
-      ap (λ (x : ℕ). signed_of w (c.args.n % x)) facts.0 ∙ ap (λ (k : ℕ). signed_of k (c.args.n % 2 ^ k)) c.least.ensures
+      ap (λ (x : ℕ). signed_of w (c.args.n % x)) facts.0 ∙ ap (λ (k : ℕ). signed_of k (c.args.n % 2 ^ k)) c.min.ensures
 
 pub nonzero_rem-v : goal.nonzero_rem-v
 nonzero_rem-v c = omega (arith, facts c)

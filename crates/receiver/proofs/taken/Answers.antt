@@ -4,18 +4,18 @@ use native.Mathlib.Omega.{arith}
 use lib.ListN.{length}
 use Rattle.octets.specs.Bits.{bits_of}
 use Rattle.octets.proofs.Laws.{Octets}
-use Rattle.receiver.proofs.Laws.{not-read, is_read, frame-size, frame-octets, whole-copied}
+use Rattle.receiver.proofs.Laws.{not-read, is_read, is-refused, is-right, frame-size, frame-octets, whole-copied}
 use Rattle.receiver.proofs.taken.Goals as goal
 
-pub returns-then-check-ne-DONE : goal.returns-then-check-ne-DONE
-returns-then-check-ne-DONE c =
+pub returns-then-is_err : goal.returns-then-is_err
+returns-then-is_err c =
     let a = c.args in
-    (not-read a.end (bits_of a.s.now) a.at c.descrambled.ensures c.check.ensures.answered c.if-check-ne-DONE.true, refl)
+    (not-read a.end (bits_of a.s.now) a.at c.descrambled.ensures c.check.ensures.answered (is-refused c.check.result (sym c.is_err.ensures.value ∙ c.if-is_err.true)), refl)
 
 pub returns : goal.returns
 returns c =
     let a = c.args in (
-      is_read a.end (bits_of a.s.now) a.at c.descrambled.ensures c.check.ensures.answered c.if-check-ne-DONE.false,
+      is_read a.end (bits_of a.s.now) a.at c.descrambled.ensures c.check.ensures.answered (is-right c.check.result (sym c.is_err.ensures.value ∙ c.if-is_err.false)),
       c.copy.ensures
           ∙ whole-copied a.frame.now c.descrambled.new.plain 529
           (λ i. omega (arith, c.slice_known-1.given i))
