@@ -20,12 +20,11 @@ use Rattle.dataframe.specs.Refusals.{data_order}
 use Rattle.eoc.specs.Refusals.{eoc_order}
 use Rattle.eoc.proofs.Order.{write-order as eoc-write-order, read-order as eoc-read-order}
 use Rattle.eocunits.proofs.Order.{hand-up-order}
-use Rattle.eocwriter.specs.declared.Written.{Written as EocWritten}
-use Rattle.eocwriter.specs.Promises.{message_from, written_of as eoc_written_of}
-use Rattle.eocreader.specs.declared.Found.{Found as EocFound}
-use Rattle.eocreader.specs.Promises.{found_of as eoc_found_of}
-use Rattle.eocunits.specs.declared.HandedUp.{HandedUp}
-use Rattle.eocunits.specs.Promises.{handed_of}
+use Rattle.host.specs.declared.channel.EocForm.{EocForm}
+use Rattle.eocwriter.specs.Promises.{message_from}
+use Rattle.host.specs.Channel.{written_of as eoc_written_of, found_of as eoc_found_of, handed_of}
+use Rattle.host.specs.declared.channel.EocMessage.{EocMessage}
+use Rattle.host.specs.declared.channel.EocHandedUp.{EocHandedUp}
 use Rattle.eoc.specs.Message.{Message}
 use Rattle.eoc.specs.Reading.{message_in}
 use Rattle.dataframe.proofs.Order.{write-order as data-write-order, crc-order as data-crc-order, check-order as data-check-order, read-order as data-read-order}
@@ -263,21 +262,21 @@ handed-none (suc n) m units h = refl
 module _ (x : Library) (k : Keeps x) where
   pub eoc-write-answer : (c : EocWriteCall) → (x.eoc_write c).answer ≡ answer (eoc_write_checks c)
   eoc-write-answer c =
-      ap (λ (w : EocWritten). w.answer) (k.eoc_write c refl).returned
+      ap (λ (w : EocForm). w.answer) (k.eoc_write c refl).returned
       ∙ eoc-written-answer (answer (eoc_write_checks c)) (message_from c.source c.destination c.number c.contents)
 
   pub eoc-read-answer : (c : EocReadCall) → (x.eoc_read c).answer ≡ answer (eoc_read_checks c)
   eoc-read-answer c =
-      ap (λ (f : EocFound). f.answer) (k.eoc_read c refl).returned ∙ eoc-found-answer (answer (eoc_read_checks c)) (message_in c.octets)
+      ap (λ (f : EocMessage). f.answer) (k.eoc_read c refl).returned ∙ eoc-found-answer (answer (eoc_read_checks c)) (message_in c.octets)
 
   pub eoc-hand-up-answer : (c : EocUnitsCall) → (x.eoc_hand_up c).answer ≡ answer (eoc_hand_up_checks c)
   eoc-hand-up-answer c =
-      ap (λ (h : HandedUp). h.answer) (k.eoc_hand_up c refl).returned ∙ handed-answer (answer (eoc_hand_up_checks c)) (message_in c.octets) c.units
+      ap (λ (h : EocHandedUp). h.answer) (k.eoc_hand_up c refl).returned ∙ handed-answer (answer (eoc_hand_up_checks c)) (message_in c.octets) c.units
 
   eoc-write-is : Answers x.eoc_write eoc_write_checks (λ c. c.room) 0
   eoc-write-is =
       eoc-answers ordered.eoc_write eoc-write-answer
-      (λ c h. ap (λ (w : EocWritten). w.length) (k.eoc_write c refl).returned
+      (λ c h. ap (λ (w : EocForm). w.length) (k.eoc_write c refl).returned
       ∙ eoc-written-none (answer (eoc_write_checks c)) (message_from c.source c.destination c.number c.contents) (other (eoc-write-answer c) h))
       (λ c h. (k.eoc_write c refl).room_left ∙ kept (answer (eoc_write_checks c)) c.room _ (other (eoc-write-answer c) h))
 
@@ -292,7 +291,7 @@ module _ (x : Library) (k : Keeps x) where
   eoc-hand-up-is : Answers x.eoc_hand_up eoc_hand_up_checks (λ c. c.units) 0
   eoc-hand-up-is =
       eoc-answers ordered.eoc_hand_up eoc-hand-up-answer
-      (λ c h. ap (λ (u : HandedUp). u.units) (k.eoc_hand_up c refl).returned
+      (λ c h. ap (λ (u : EocHandedUp). u.units) (k.eoc_hand_up c refl).returned
       ∙ handed-none (answer (eoc_hand_up_checks c)) (message_in c.octets) c.units (other (eoc-hand-up-answer c) h))
       (λ c h. (k.eoc_hand_up c refl).units_left ∙ kept (answer (eoc_hand_up_checks c)) c.units _ (other (eoc-hand-up-answer c) h))
 
