@@ -1,7 +1,7 @@
 pub mod FrameLaws
 pub mod SendLaws
-pub mod SymbolLaws
 pub mod One
+pub mod DataLaws
 pub mod DataOne
 pub mod ChannelOne
 pub mod ReceivingOne
