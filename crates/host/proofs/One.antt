@@ -24,14 +24,16 @@ use Rattle.host.specs.Frames.{FrameRead, frame_read_refusals}
 use Rattle.host.specs.Symbols.{ActivationLevelGiven, DataLevelGiven, CodeGiven, EncoderStarted, SymbolEncoded, SymbolsEncoded}
 use Rattle.host.specs.Symbols.{HistoryStarted, SampleShaped}
 use Rattle.host.specs.Supervising.{Started, StateStepped, CodesRun}
-use Rattle.recurrence.specs.Run.{Way, scramble, descramble, after_of}
+use Rattle.octets.specs.Bits.{laid}
+use Rattle.recurrence.specs.Run.{run_of, after_of}
+use Rattle.recurrence.specs.declared.Way.{Way}
+use Rattle.recurrence.specs.declared.Way.TheVariants.{Scramble as scramble, Descramble as descramble}
 use Rattle.scrambler.specs.Ends.{tap_of}
-use Rattle.scrambler.specs.Promises.{clocked, frame_out}
+use Rattle.scrambler.specs.Promises.{given, clocked, frame_out}
 use Rattle.host.specs.Sending.{frame_send_refusals, FrameSent}
-use Rattle.scrambler.proofs.One.{start-one, step-one as bit-one, run-one as scrambler-run-one, frame-one}
 use Rattle.host.specs.declared.scrambling.Scrambled.{Scrambled}
 use Rattle.host.specs.declared.scrambling.ScrambledBit.{ScrambledBit}
-use Rattle.host.specs.Scrambling.{crossing, bit_crossing, ScramblerStarted, BitScrambled, ScrambledRun, FrameDescrambled}
+use Rattle.host.specs.Scrambling.{scrambler_in, ScramblerStarted, BitScrambled, ScrambledRun, FrameDescrambled}
 
 module _ (end state kind count : ℕ) (os : List ℕ) (a b : ℕ) (vendor frame : List ℕ) where
   pub sdsl-frame-send-one : (r r' : Scrambled) (t t' : List ℕ) → FrameSent end state kind count os a b vendor frame r t
@@ -131,25 +133,25 @@ pub sdsl-run-codes-one : (s : Supervisor) (codes : List ℕ) (r r' : Run) → Co
 sdsl-run-codes-one s codes r r' p q = p ∙ sym q
 
 pub sdsl-scrambler-start-one : (end : ℕ) (r r' : Scrambled) → ScramblerStarted end r → ScramblerStarted end r' → r ≡ r'
-sdsl-scrambler-start-one end r r' p q =
-    p.crossed ∙ ap crossing (start-one end p.ran q.ran p.promise q.promise) ∙ sym q.crossed
+sdsl-scrambler-start-one end r r' p q = p ∙ sym q
 
 -- sdsl_scramble_bit and sdsl_descramble_bit
 pub sdsl-scramble-bit-one : (way : Way) (end state bit : ℕ) (r r' : ScrambledBit)
     → BitScrambled way end state bit r → BitScrambled way end state bit r' → r ≡ r'
-sdsl-scramble-bit-one way end state bit r r' p q =
-    let e = bit-one way (record { end = end; state = state }) bit p.step q.step p.promise q.promise in
-    p.crossed ∙ ap bit_crossing e ∙ sym q.crossed
+sdsl-scramble-bit-one way end state bit r r' p q = p ∙ sym q
 
 -- sdsl_scramble and sdsl_descramble
 pub sdsl-scramble-one : (way : Way) (end state : ℕ) (input : List ℕ) (bits : ℕ) (output : List ℕ) (r r' : Scrambled) (t t' : List ℕ)
     → ScrambledRun way end state input bits output r t → ScrambledRun way end state input bits output r' t' → (r ≡ r') × (t ≡ t')
 sdsl-scramble-one way end state input bits output r r' t t' p q =
-    let e = scrambler-run-one way (record { end = end; state = state }) input bits output p.ran q.ran t t' p.promise q.promise in
-    (p.crossed ∙ ap crossing e.0 ∙ sym q.crossed, e.1)
+    let F = given input bits in
+    let e : r.answer ≡ r'.answer = p.answered ∙ sym q.answered in
+    let n : r.state ≡ r'.state = p.next ∙ ap (λ (k : ℕ). held k state (after_of way (tap_of end) state F)) e ∙ sym q.next in
+    (λ i. record { answer = e i; state = n i }, p.left ∙ ap (λ (k : ℕ). held k output (laid output 0 (run_of way (tap_of end) state F))) e ∙ sym q.left)
 
 pub sdsl-descramble-frame-one : (end state : ℕ) (frame output : List ℕ) (r r' : Scrambled) (t t' : List ℕ)
     → FrameDescrambled end state frame output r t → FrameDescrambled end state frame output r' t' → (r ≡ r') × (t ≡ t')
 sdsl-descramble-frame-one end state frame output r r' t t' p q =
-    let e = frame-one descramble (record { end = end; state = state }) frame output p.ran q.ran t t' p.promise q.promise in
-    (p.crossed ∙ ap crossing e.0 ∙ sym q.crossed, e.1)
+    let e : r.answer ≡ r'.answer = p.answered ∙ sym q.answered in
+    let n : r.state ≡ r'.state = p.next ∙ ap (λ (k : ℕ). held k state (after_of descramble (tap_of end) state (clocked frame))) e ∙ sym q.next in
+    (λ i. record { answer = e i; state = n i }, p.left ∙ ap (λ (k : ℕ). held k output (frame_out descramble (scrambler_in end state) frame)) e ∙ sym q.left)
