@@ -2,13 +2,13 @@
 // crate eoclisting's; here octets are only read, parted at their flags, and lines written.
 #![tactic(auto)]
 
-ghost use Rattle.std.specs.Prelude.{◌≡◌, true, cond, ◌+◌, ◌≤◌, ◌<◌, length, IfOk};
+ghost use Rattle.std.specs.Prelude.{◌≡◌, true, cond, ◌+◌, ◌≤◌, ◌<◌, length};
 ghost use Rattle.eoc.specs.Channel.{pieces};
 ghost use Rattle.messages.specs.Messages.{most_octets, flag_from, is_good, is_taken, count_good, count_taken};
 
 use eoclisting::Counts;
-use std::io;
-use std::io::Read;
+use options::Argument;
+use outside::Status;
 
 // The most octets that are read.
 const MOST: usize = 1048576;
@@ -18,30 +18,12 @@ const READ: usize = 1048577;
 const ROOM: usize = 4096;
 // An address that no unit has: every message is listed.
 const NO_UNIT: u32 = 16;
-// An option of this program alone.
-const FOR: u32 = 8;
-// The status: all messages are good, not so, and what could not be read or was asked for wrongly.
-const GOOD: u8 = b'0';
-
-const OTHER: u8 = b'1';
-
-const WRONG: u8 = b'2';
-
-// Says what failed, and why.
-fn fail(rt: &HostRuntime, what: &[u8], why: io::Error) {
-    outside::complain(rt, b"messages: ");
-    outside::fail(rt, what, why);
-}
+// The name that its words on standard error begin with.
+const NAME: [u8; 8] = *b"messages";
 
 // Writes to standard output, and answers whether it could; where not, says so.
 fn print(rt: &HostRuntime, text: &[u8]) -> bool {
-    match rt.stdout().write_all(text) {
-        Ok(()) => true,
-        Err(why) => {
-            fail(rt, b"standard output", why);
-            false
-        },
-    }
+    outside::print(rt, &NAME, text).is_ok()
 }
 
 // The place of the first flag from a place on, or the channel's end.
@@ -151,16 +133,16 @@ fn octets_behind(channel: &[u8]) -> u32
 }
 
 // The status of what was told: there is a message, and all are good.
-fn status(told: Told) -> u8 {
+fn status(told: Told) -> Status {
     if (told.messages != 0) & (told.messages == told.good) {
-        GOOD
+        Status::Good
     } else {
-        OTHER
+        Status::Bad
     }
 }
 
 // Tells the totals, and answers the status.
-fn tell_totals(rt: &HostRuntime, told: Told, before: u32, behind: u32, own: u32) -> u8 {
+fn tell_totals(rt: &HostRuntime, told: Told, before: u32, behind: u32, own: u32) -> Status {
     let mut room = [0u8; ROOM];
     let counts = Counts {
         before,
@@ -174,23 +156,23 @@ fn tell_totals(rt: &HostRuntime, told: Told, before: u32, behind: u32, own: u32)
     if print(rt, &room[..n]) {
         return status(told);
     }
-    WRONG
+    Status::Wrong
 }
 
 // Tells a channel.
-fn tell_channel(rt: &HostRuntime, channel: &[u8], own: u32) -> u8
+fn tell_channel(rt: &HostRuntime, channel: &[u8], own: u32) -> Status
     requires { length channel.now ≤ most_octets }
 {
     let first = flag_from(channel, 0);
     let told = tell_from(rt, channel, first, own);
     if !told.written {
-        return WRONG;
+        return Status::Wrong;
     }
     tell_totals(rt, told, first as u32, octets_behind(channel), own)
 }
 
 // Tells what was read. One octet more than a channel may have shows that it is too long.
-fn tell_all(rt: &HostRuntime, channel: &[u8], own: u32) -> u8
+fn tell_all(rt: &HostRuntime, channel: &[u8], own: u32) -> Status
     requires { length channel.now ≤ most_octets + 1 }
 {
     if MOST < channel.len() {
@@ -198,34 +180,19 @@ fn tell_all(rt: &HostRuntime, channel: &[u8], own: u32) -> u8
             rt,
             b"messages: more than 1048576 octets: give it fewer at a time\n",
         );
-        return WRONG;
+        return Status::Wrong;
     }
     tell_channel(rt, channel, own)
 }
 
-// Reads up to 1,048,577 octets of standard input, and answers how many came.
-fn fill<R: Read>(input: &mut R, octets: &mut [u8]) -> io::Result<usize>
-    requires { length octets.old ≡ most_octets + 1 }
-    ensures { IfOk result (λ n. n ≤ most_octets + 1) }
-{
-    outside::read_full(input, octets)
-}
-
-// Room for a channel and one octet more. The proofs of its callers know its length alone, and never count it out.
-fn room() -> [u8; READ]
-    ensures { most_octets + 1 ≡ length result }
-{
-    [0; READ]
-}
-
 // Tells the channel on standard input.
-fn tell_input(rt: &HostRuntime, own: u32) -> u8 {
-    let mut channel = room();
-    match fill(&mut rt.stdin(), &mut channel) {
+fn tell_input(rt: &HostRuntime, own: u32) -> Status {
+    let mut channel: [u8; READ] = outside::room();
+    match outside::fill(&mut rt.stdin(), &mut channel) {
         Ok(n) => tell_all(rt, &channel[..n], own),
         Err(why) => {
-            fail(rt, b"standard input", why);
-            WRONG
+            outside::fail(rt, &NAME, b"standard input", why);
+            Status::Wrong
         },
     }
 }
@@ -233,8 +200,8 @@ fn tell_input(rt: &HostRuntime, own: u32) -> u8 {
 // What the arguments ask for.
 #[derive(Clone, Copy)]
 struct Asked {
-    // options::WORD to list messages, HELP or VERSION, or UNKNOWN for an argument that is wrong: the first of them counts.
-    what: u32,
+    // Word to list messages, Help or Version, or Unknown for an argument that is wrong: the first of them counts.
+    what: Argument,
     // The place of the wrong argument.
     at: usize,
     // The place of the unit's name; 0 where there is none.
@@ -247,8 +214,8 @@ struct Asked {
 
 impl Asked {
     // The same, asking for this.
-    fn asks(mut self, what: u32, at: usize) -> Asked {
-        if self.what == options::WORD {
+    fn asks(mut self, what: Argument, at: usize) -> Asked {
+        if self.what == Argument::Word {
             self.what = what;
             self.at = at;
         }
@@ -256,23 +223,24 @@ impl Asked {
     }
 
     // One option more.
-    fn option(mut self, option: u32, at: usize) -> Asked {
+    fn option(mut self, option: Option<Argument>, at: usize) -> Asked {
         match option {
-            options::STATUS => {
+            Some(Argument::Status) => {
                 self.status = true;
                 self
             },
-            FOR => {
+            None => {
                 self.waits = true;
                 self
             },
-            options::HELP | options::VERSION => self.asks(option, at),
-            _ => self.asks(options::UNKNOWN, at),
+            Some(Argument::Help) => self.asks(Argument::Help, at),
+            Some(Argument::Version) => self.asks(Argument::Version, at),
+            _ => self.asks(Argument::Unknown, at),
         }
     }
 
     // One argument more, which is this option or a word.
-    fn with(mut self, option: u32, at: usize) -> Asked {
+    fn with(mut self, option: Option<Argument>, at: usize) -> Asked {
         if self.waits {
             self.waits = false;
             self.unit = at;
@@ -284,25 +252,24 @@ impl Asked {
     // Where the last argument is --for, it is wrong.
     fn done(self, at: usize) -> Asked {
         if self.waits {
-            return self.asks(options::UNKNOWN, at);
+            return self.asks(Argument::Unknown, at);
         }
         self
     }
 }
 
-// Which option argument i is. One that is too long to be one is a word.
-fn option_at(rt: &HostRuntime, i: usize) -> u32 {
-    let mut word = outside::buffer();
-    let n = outside::word(rt, i, &mut word);
-    let option = options::read(&word[..n]);
-    options::number(&word[..n], b"--for", FOR, option)
+// Which option argument i is; None is --for, which this program alone has. One that is too long to be one is a word.
+fn option_at(rt: &HostRuntime, i: usize) -> Option<Argument> {
+    let mut buf: [u8; outside::PATH] = outside::room();
+    let word = outside::said(rt, i, &mut buf);
+    options::named(word, b"--for", None, Some(options::read(word)))
 }
 
 // What all arguments ask for.
 fn arguments(rt: &HostRuntime) -> Asked {
     let count = outside::arg_count(rt);
     let mut asked = Asked {
-        what: options::WORD,
+        what: Argument::Word,
         at: 0,
         unit: 0,
         waits: false,
@@ -334,36 +301,36 @@ fn unit_named(word: &[u8]) -> u32 {
             return regenerator(word[1]);
         }
     }
-    let mut own = options::number(word, b"ltu", 1, NO_UNIT);
-    own = options::number(word, b"ntu", 2, own);
-    own = options::number(word, b"LTU", 1, own);
-    options::number(word, b"NTU", 2, own)
+    let mut own = options::named(word, b"ltu", 1, NO_UNIT);
+    own = options::named(word, b"ntu", 2, own);
+    own = options::named(word, b"LTU", 1, own);
+    options::named(word, b"NTU", 2, own)
 }
 
 // The address of the unit that argument i names.
 fn unit_at(rt: &HostRuntime, i: usize) -> u32 {
-    let mut word = outside::buffer();
-    let n = outside::word(rt, i, &mut word);
-    unit_named(&word[..n])
+    let mut buf: [u8; outside::PATH] = outside::room();
+    unit_named(outside::said(rt, i, &mut buf))
 }
 
 // Says that argument i is wrong, and how the program is called.
-fn refuse(rt: &HostRuntime, i: usize) -> u8 {
-    let mut word = outside::buffer();
-    let n = outside::word(rt, i, &mut word);
-    outside::complain(rt, b"messages: wrong argument: ");
-    outside::complain(rt, &word[..n]);
-    outside::complain(rt, b"\nusage: messages [--status] [--for UNIT] < OCTETS\n");
-    WRONG
+fn refuse(rt: &HostRuntime, i: usize) -> Status {
+    outside::refuse(
+        rt,
+        b"messages: wrong argument: ",
+        i,
+        b"\nusage: messages [--status] [--for UNIT] < OCTETS\n",
+    );
+    Status::Wrong
 }
 
 // The status of what had to be written and nothing else.
-fn done(written: bool) -> u8 {
-    if written { GOOD } else { WRONG }
+fn done(written: bool) -> Status {
+    if written { Status::Good } else { Status::Wrong }
 }
 
 // How the program is called.
-fn help(rt: &HostRuntime) -> u8 {
+fn help(rt: &HostRuntime) -> Status {
     done(print(
         rt,
         b"usage: messages [--status] [--for UNIT] < OCTETS\n\
@@ -376,19 +343,8 @@ fn help(rt: &HostRuntime) -> u8 {
     ))
 }
 
-// The version.
-fn version(rt: &HostRuntime) -> u8 {
-    if !print(rt, b"sdsl-messages ") {
-        return WRONG;
-    }
-    if !print(rt, &options::RELEASE) {
-        return WRONG;
-    }
-    done(print(rt, b"\n"))
-}
-
 // Lists the messages of the channel, all of them or those for a unit.
-fn list(rt: &HostRuntime, unit: usize) -> u8 {
+fn list(rt: &HostRuntime, unit: usize) -> Status {
     if unit == 0 {
         return tell_input(rt, NO_UNIT);
     }
@@ -400,12 +356,12 @@ fn list(rt: &HostRuntime, unit: usize) -> u8 {
 }
 
 // Does what is asked, and answers the status.
-fn run(rt: &HostRuntime, asked: Asked) -> u8 {
+fn run(rt: &HostRuntime, asked: Asked) -> Status {
     let what = asked.what;
     match what {
-        options::HELP => help(rt),
-        options::VERSION => version(rt),
-        options::UNKNOWN => refuse(rt, asked.at),
+        Argument::Help => help(rt),
+        Argument::Version => done(outside::print_version(rt, &NAME).is_ok()),
+        Argument::Unknown => refuse(rt, asked.at),
         _ => list(rt, asked.unit),
     }
 }
@@ -415,6 +371,6 @@ fn main(rt: HostRuntime) {
     let asked = arguments(&rt);
     let status = run(&rt, asked);
     if asked.status {
-        outside::tell_status(status);
+        outside::tell_status(status.digit());
     }
 }

@@ -4,12 +4,12 @@
 //     replay [--status] ltu|ntu [SILENCE] < LOG
 #![tactic(auto)]
 
-ghost use Rattle.std.specs.Prelude.{◌≡◌, true, ◌+◌, ◌≤◌, length, IfOk};
+ghost use Rattle.std.specs.Prelude.{◌≡◌, true, ◌+◌, ◌≤◌, length};
 ghost use Rattle.replay.specs.Replay.{most_octets, followed, lines_of, ending_from};
 
+use options::Argument;
+use outside::Status;
 use startlog::Line;
-use std::io;
-use std::io::Read;
 use story::{Event, Story, kind};
 use supervisor::Supervisor;
 
@@ -23,34 +23,12 @@ const ROOM: usize = 320;
 const NO_END: u32 = 2;
 
 const NO_SILENCE: u32 = 1;
-// How an argument is read.
-const AS_OPTION: u32 = 0;
-
-const AS_END: u32 = 1;
-
-const AS_SILENCE: u32 = 2;
-// The status: in data mode, not so, and what was no log at all.
-const DATA_MODE: u8 = b'0';
-
-const OTHER: u8 = b'1';
-
-const WRONG: u8 = b'2';
-
-// Says what failed, and why.
-fn fail(rt: &HostRuntime, what: &[u8], why: io::Error) {
-    outside::complain(rt, b"replay: ");
-    outside::fail(rt, what, why);
-}
+// The name that its words on standard error begin with.
+const NAME: [u8; 6] = *b"replay";
 
 // Writes to standard output, and answers whether it could; where not, says so.
 fn print(rt: &HostRuntime, text: &[u8]) -> bool {
-    match rt.stdout().write_all(text) {
-        Ok(()) => true,
-        Err(why) => {
-            fail(rt, b"standard output", why);
-            false
-        },
-    }
+    outside::print(rt, &NAME, text).is_ok()
 }
 
 // Writes the line of an event, unless there is nothing to tell, as of one that is refused.
@@ -171,30 +149,30 @@ fn put_ending(room: &mut [u8], ending: Ending) -> usize
 }
 
 // The status of a log that was told to its end.
-fn status(story: Story) -> u8 {
+fn status(story: Story) -> Status {
     if storytext::in_data_mode(story) {
-        DATA_MODE
+        Status::Good
     } else {
-        OTHER
+        Status::Bad
     }
 }
 
 // Tells how a log ended, and answers the status.
-fn tell_ending(rt: &HostRuntime, ending: Ending) -> u8 {
+fn tell_ending(rt: &HostRuntime, ending: Ending) -> Status {
     if !ending.written {
-        return WRONG;
+        return Status::Wrong;
     }
     let mut room = [0u8; ROOM];
     let n = put_ending(&mut room, ending);
     if !print(rt, &room[..n]) | (ending.answer != answer::DONE) {
-        return WRONG;
+        return Status::Wrong;
     }
     let story = ending.story;
     status(story)
 }
 
 // Tells what was read. One octet more than a log may have shows that it is too long.
-fn tell_all(rt: &HostRuntime, log: &[u8], begun: Event) -> u8
+fn tell_all(rt: &HostRuntime, log: &[u8], begun: Event) -> Status
     requires { length log.now ≤ most_octets + 1 }
 {
     let story = begun.story;
@@ -210,34 +188,19 @@ fn tell_all(rt: &HostRuntime, log: &[u8], begun: Event) -> u8
         );
     }
     if !tell(rt, begun) {
-        return WRONG;
+        return Status::Wrong;
     }
     tell_ending(rt, replay(rt, log, story))
 }
 
-// Reads up to 1,048,577 octets of standard input, and answers how many came.
-fn fill<R: Read>(input: &mut R, octets: &mut [u8]) -> io::Result<usize>
-    requires { length octets.old ≡ most_octets + 1 }
-    ensures { IfOk result (λ n. n ≤ most_octets + 1) }
-{
-    outside::read_full(input, octets)
-}
-
-// Room for a log and one octet more. The proofs of its callers know its length alone, and never count it out.
-fn room() -> [u8; READ]
-    ensures { most_octets + 1 ≡ length result }
-{
-    [0; READ]
-}
-
 // Tells the log on standard input.
-fn tell_input(rt: &HostRuntime, begun: Event) -> u8 {
-    let mut log = room();
-    match fill(&mut rt.stdin(), &mut log) {
+fn tell_input(rt: &HostRuntime, begun: Event) -> Status {
+    let mut log: [u8; READ] = outside::room();
+    match outside::fill(&mut rt.stdin(), &mut log) {
         Ok(n) => tell_all(rt, &log[..n], begun),
         Err(why) => {
-            fail(rt, b"standard input", why);
-            WRONG
+            outside::fail(rt, &NAME, b"standard input", why);
+            Status::Wrong
         },
     }
 }
@@ -245,8 +208,8 @@ fn tell_input(rt: &HostRuntime, begun: Event) -> u8 {
 // What the arguments ask for.
 #[derive(Clone, Copy)]
 struct Asked {
-    // options::WORD to tell a log, HELP or VERSION, or UNKNOWN for an argument that is wrong: the first of them counts.
-    what: u32,
+    // Word to tell a log, Help or Version, or Unknown for an argument that is wrong: the first of them counts.
+    what: Argument,
     // The place of the wrong argument.
     at: usize,
     // The places of the end's name and of the silence; 0 where there is none.
@@ -260,8 +223,8 @@ struct Asked {
 
 impl Asked {
     // The same, asking for this.
-    fn asks(mut self, what: u32, at: usize) -> Asked {
-        if self.what == options::WORD {
+    fn asks(mut self, what: Argument, at: usize) -> Asked {
+        if self.what == Argument::Word {
             self.what = what;
             self.at = at;
         }
@@ -278,33 +241,33 @@ impl Asked {
             self.silence = at;
             return self;
         }
-        self.asks(options::UNKNOWN, at)
+        self.asks(Argument::Unknown, at)
     }
 
     // One argument more, which is this option.
-    fn with(mut self, option: u32, at: usize) -> Asked {
-        if self.ended | (option == options::WORD) {
+    fn with(mut self, option: Argument, at: usize) -> Asked {
+        if self.ended | (option == Argument::Word) {
             return self.word(at);
         }
         match option {
-            options::STATUS => {
+            Argument::Status => {
                 self.status = true;
                 self
             },
-            options::END => {
+            Argument::End => {
                 self.ended = true;
                 self
             },
-            options::HELP | options::VERSION => self.asks(option, at),
-            _ => self.asks(options::UNKNOWN, at),
+            Argument::Help | Argument::Version => self.asks(option, at),
+            _ => self.asks(Argument::Unknown, at),
         }
     }
 }
 
 // The end of this name.
 fn end_named(word: &[u8]) -> u32 {
-    let end = options::number(word, b"ntu", Supervisor::NTU, NO_END);
-    options::number(word, b"ltu", Supervisor::LTU, end)
+    let end = options::named(word, b"ntu", Supervisor::NTU, NO_END);
+    options::named(word, b"ltu", Supervisor::LTU, end)
 }
 
 // The silence that a text gives.
@@ -317,61 +280,54 @@ fn silence_of(word: &[u8]) -> u32 {
     }
 }
 
-// What a text says as an option, as an end or as a silence.
-fn said(word: &[u8], how: u32) -> u32 {
-    match how {
-        AS_OPTION => options::read(word),
-        AS_END => end_named(word),
-        _ => silence_of(word),
+// The end that argument i names.
+fn end_at(rt: &HostRuntime, i: usize) -> u32 {
+    if i == 0 {
+        return NO_END;
     }
+    let mut buf: [u8; outside::PATH] = outside::room();
+    end_named(outside::said(rt, i, &mut buf))
 }
 
-// What argument i says so; 0 is none. One that is too long to be an option is a word.
-fn said_at(rt: &HostRuntime, i: usize, how: u32, none: u32) -> u32 {
+// The silence that argument i gives; 0 where there is none.
+fn silence_at(rt: &HostRuntime, i: usize) -> u32 {
     if i == 0 {
-        return none;
+        return 0;
     }
-    let mut word = outside::buffer();
-    let n = outside::word(rt, i, &mut word);
-    said(&word[..n], how)
+    let mut buf: [u8; outside::PATH] = outside::room();
+    silence_of(outside::said(rt, i, &mut buf))
 }
 
 // What all arguments ask for.
 fn arguments(rt: &HostRuntime) -> Asked {
-    let count = outside::arg_count(rt);
     let mut asked = Asked {
-        what: options::WORD,
+        what: Argument::Word,
         at: 0,
         end: 0,
         silence: 0,
         status: false,
         ended: false,
     };
-    let mut i = 1;
-    while i < count {
-        asked = asked.with(said_at(rt, i, AS_OPTION, options::WORD), i);
-        i += 1;
+    for i in 1..outside::arg_count(rt) {
+        asked = asked.with(outside::option(rt, i), i);
     }
     asked
 }
 
 // Says how the replayer is called, behind what is wrong.
-fn usage(rt: &HostRuntime) -> u8 {
+fn usage(rt: &HostRuntime) -> Status {
     outside::complain(rt, b"\nusage: replay [--status] ltu|ntu [SILENCE] < LOG\n");
-    WRONG
+    Status::Wrong
 }
 
 // Says that argument i is wrong.
-fn refuse(rt: &HostRuntime, i: usize) -> u8 {
-    let mut word = outside::buffer();
-    let n = outside::word(rt, i, &mut word);
-    outside::complain(rt, b"replay: wrong argument: ");
-    outside::complain(rt, &word[..n]);
+fn refuse(rt: &HostRuntime, i: usize) -> Status {
+    outside::refuse(rt, b"replay: wrong argument: ", i, b"");
     usage(rt)
 }
 
 // Says why no card starts so.
-fn refuse_start(rt: &HostRuntime, answer: u32) -> u8 {
+fn refuse_start(rt: &HostRuntime, answer: u32) -> Status {
     if answer == answer::UNKNOWN {
         outside::complain(rt, b"replay: the end is ltu or ntu");
     } else {
@@ -381,7 +337,7 @@ fn refuse_start(rt: &HostRuntime, answer: u32) -> u8 {
 }
 
 // Tells the log of a card with this end and silence.
-fn tell_card(rt: &HostRuntime, end: u32, silence: u32) -> u8 {
+fn tell_card(rt: &HostRuntime, end: u32, silence: u32) -> Status {
     let begun = Story::start(end, silence);
     if begun.answer != answer::DONE {
         return refuse_start(rt, begun.answer);
@@ -390,12 +346,12 @@ fn tell_card(rt: &HostRuntime, end: u32, silence: u32) -> u8 {
 }
 
 // The status of what had to be written and nothing else.
-fn done(written: bool) -> u8 {
-    if written { DATA_MODE } else { WRONG }
+fn done(written: bool) -> Status {
+    if written { Status::Good } else { Status::Wrong }
 }
 
 // How the replayer is called.
-fn help(rt: &HostRuntime) -> u8 {
+fn help(rt: &HostRuntime) -> Status {
     done(print(
         rt,
         b"usage: replay [--status] ltu|ntu [SILENCE] < LOG\n\
@@ -408,28 +364,17 @@ fn help(rt: &HostRuntime) -> u8 {
     ))
 }
 
-// The version.
-fn version(rt: &HostRuntime) -> u8 {
-    if !print(rt, b"sdsl-replay ") {
-        return WRONG;
-    }
-    if !print(rt, &options::RELEASE) {
-        return WRONG;
-    }
-    done(print(rt, b"\n"))
-}
-
 // Does what is asked, and answers the status.
-fn run(rt: &HostRuntime, asked: Asked) -> u8 {
+fn run(rt: &HostRuntime, asked: Asked) -> Status {
     let what = asked.what;
     match what {
-        options::HELP => help(rt),
-        options::VERSION => version(rt),
-        options::UNKNOWN => refuse(rt, asked.at),
+        Argument::Help => help(rt),
+        Argument::Version => done(outside::print_version(rt, &NAME).is_ok()),
+        Argument::Unknown => refuse(rt, asked.at),
         _ => tell_card(
             rt,
-            said_at(rt, asked.end, AS_END, NO_END),
-            said_at(rt, asked.silence, AS_SILENCE, 0),
+            end_at(rt, asked.end),
+            silence_at(rt, asked.silence),
         ),
     }
 }
@@ -439,6 +384,6 @@ fn main(rt: HostRuntime) {
     let asked = arguments(&rt);
     let status = run(&rt, asked);
     if asked.status {
-        outside::tell_status(status);
+        outside::tell_status(status.digit());
     }
 }
