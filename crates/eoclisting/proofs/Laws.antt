@@ -1,5 +1,5 @@
 -- Laws of the texts of messages. Assumes nothing.
-use mathlib.Core.Path.{◌≡◌, refl, ap, ◌∙◌}
+use mathlib.Core.Path.{◌≡◌, refl, sym, ap, ◌∙◌, subst₂}
 use mathlib.Core.Bool.{Bool, true, false, cond, ◌&&◌}
 use mathlib.Core.List.{List, [], ◌∷◌, ◌++◌}
 use Prim.Native.Nat.{ℕ, zero, suc, ◌+◌, ◌-◌, ◌≤◌, ◌<◌}
@@ -11,6 +11,9 @@ use lib.ListN.{length, get_or, take, drop, drop_of_length-le}
 use lib.Seq.{drop-cons}
 use Rattle.ascii.specs.Text.{text, hexes}
 use Rattle.ascii.specs.Plain.{text_length}
+use Rattle.ascii.specs.declared.Text.{Text}
+use Rattle.ascii.specs.Promises.{Put, Puts, Told}
+use Rattle.ascii.proofs.Room.{told}
 use Rattle.forms.specs.Forms.{formed}
 use Rattle.eoclisting.specs.Contents.{hex_part, margin_text, string_length, string_by, string_text}
 use Rattle.eoclisting.specs.Contents.{short_part, margins_text, status_part, inventory_text, inventory_part, contents_text}
@@ -155,14 +158,24 @@ module _ (f : List ℕ) (n : ℕ) (e : n ≡ string_length f) where
 
 -- ---- totals
 
-pub left-none : (a b : ℕ) → (eqb a 0 && eqb b 0) ≡ true → [] ≡ left_text a b
+pub left-none : (a b : ℕ) → a ≡ 0 → b ≡ 0 → [] ≡ left_text a b
 unfolding left_text
-left-none a b e = simp e
+left-none a b e f = simp (eq-eqb a 0 e, eq-eqb b 0 f)
 
-pub left-some : (a b : ℕ) → (eqb a 0 && eqb b 0) ≡ false
-    → formed (text "left out: octets before the first flag: #, behind the last: #\n") (a ∷ b ∷ []) ≡ left_text a b
+abbrev left : ℕ → ℕ → List ℕ
+left a b = formed (text "left out: octets before the first flag: #, behind the last: #\n") (a ∷ b ∷ [])
+
+pub left-before : (a b : ℕ) → (a ≡ 0 → ⊥) → left a b ≡ left_text a b
 unfolding left_text
-left-some a b e = simp e
+left-before a b h = simp (ne_eqb a 0 h)
+
+pub left-behind : (a b : ℕ) → (b ≡ 0 → ⊥) → left a b ≡ left_text a b
+unfolding left_text
+left-behind a b h = go (eqb a 0) ∙ ap (λ (t : Bool). cond (eqb a 0 && t) [] (left a b)) (sym (ne_eqb b 0 h))
+  where
+    go : (t : Bool) → left a b ≡ cond (t && false) [] (left a b)
+    go true = refl
+    go false = refl
 
 module _ (n good refused : ℕ) (e : refused ≡ n - good) where
   pub count-one : n ≡ 1 → formed (text "# message: # good, # refused") (n ∷ good ∷ refused ∷ []) ≡ count_text n good
@@ -172,3 +185,10 @@ module _ (n good refused : ℕ) (e : refused ≡ n - good) where
   pub count-more : (n ≡ 1 → ⊥) → formed (text "# messages: # good, # refused") (n ∷ good ∷ refused ∷ []) ≡ count_text n good
   unfolding count_text
   count-more h = ap (λ (r : ℕ). formed (text "# messages: # good, # refused") (n ∷ good ∷ r ∷ [])) e ∙ (simp (ne_eqb n 1 h))
+
+-- ---- a whole text
+
+-- a text put from a room's start on is told
+pub puts-told : {text exit : List ℕ} {s e : Text} → Puts s text e → s.at ≡ 0 → exit ≡ e.room.now → Told text s.room.now e.at exit
+puts-told {text} {exit} {s} {e} p start end =
+    told text s.room.now exit e.at (subst₂ (λ (n : ℕ) (x : List ℕ). Put s.room.now n text e.at x) start (sym end) p.put)

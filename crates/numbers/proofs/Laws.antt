@@ -1,6 +1,6 @@
 -- Laws of numbers in octets, four octets each: there and back, and one after the other. Assumes nothing.
 use mathlib.Core.Path.{◌≡◌, refl, sym, ap, ap₂, ◌∙◌}
-use mathlib.Core.List.{List, [], ◌∷◌, ◌++◌, append-nil}
+use mathlib.Core.List.{List, [], ◌∷◌, ◌++◌, append-nil, append_assoc}
 use Prim.Native.Nat.{ℕ, zero, suc, ◌+◌, ◌*◌, ◌/◌, ◌%◌, ◌^◌, ◌≤◌, ◌<◌}
 use native.Mathlib.Nat.{not-suc-le-zero, le_of_suc-le-suc, div-div-eq-div-mul}
 use native.Mathlib.Numerals.{add-one}
@@ -9,8 +9,15 @@ use borrow.Author.Tests.{lt-ltb}
 use lib.Dec.{lit≤}
 use lib.IntN.{ℤ, pos}
 use lib.ListN.{length, get_or, take, drop, set, replicate, length-append, length-take, length-drop, drop_of_length-le}
-use lib.Seq.{take_at, drop-drop, take-suc, take-suc-set, take_all, sets-eq, drop-append-add}
+use lib.Seq.{take_at, drop-drop, take-suc, take-suc-set, take_all, drop-append-add}
 use lib.Signed.{mag}
+use mir.Syntax.{w32}
+use mir.Val.{SFits, of_z}
+use borrow.Rule.Slice.PartMut.{put_mid}
+use Rattle.std.specs.Int.{to_le_bytes}
+use Rattle.std.proofs.lemmas.Slice.{put_mid-paste}
+use Rattle.std.proofs.lemmas.List.Edits.{paste_all}
+use Rattle.octets.proofs.Complement.{cast-twos}
 use Rattle.octets.specs.Bits.{digits_of, value_of, bits_of, octets_of}
 use Rattle.octets.specs.Signed.{signed_of, twos_of, number_bits, numbers_in}
 use Rattle.octets.proofs.Digits.{value-digits, value-append}
@@ -135,19 +142,6 @@ pub octets-next : (zs : List ℤ) (k : ℕ) → k < length zs → number_octets 
 octets-next zs k h =
     ap number_octets (ap (λ (n : ℕ). take n zs) (add-one k) ∙ take-suc zs k (pos 0) h) ∙ octets-append (take k zs) (get_or zs k (pos 0) ∷ [])
 
--- four stores are a number's octets
-pub four-stores : (os : List ℕ) (at : ℕ) (z : ℤ) → at + 4 ≤ length os
-    → set (set (set (set os at (twos_of 32 z % 256)) (at + 1) (twos_of 32 z / 256 % 256)) (at + 2) (twos_of 32 z / 65536 % 256)) (at + 3)
-    (twos_of 32 z / 16777216 % 256)
-    ≡ take at os ++ number_octets (z ∷ []) ++ drop (at + 4) os
-four-stores os at z h =
-    let n = twos_of 32 z in
-    let f : at + 2 ≡ suc (suc at) = omega arith in
-    let g : at + 3 ≡ suc (suc (suc at)) = omega arith in
-    let four : number_octets (z ∷ []) ≡ n % 256 ∷ n / 256 % 256 ∷ n / 65536 % 256 ∷ n / 16777216 % 256 ∷ [] =
-    octets-first z [] ∙ ap (λ (l : List ℕ). n % 256 ∷ n / 256 % 256 ∷ n / 65536 % 256 ∷ n / 16777216 % 256 ∷ l) octets-none in
-    rw (add-one at, f, g, four) (sets-eq (n % 256 ∷ n / 256 % 256 ∷ n / 65536 % 256 ∷ n / 16777216 % 256 ∷ []) os at h)
-
 -- ---- octets with one number changed
 
 module _ (os : List ℕ) (k : ℕ) (z : ℤ) (h : 4 * k + 4 ≤ length os) where
@@ -165,6 +159,19 @@ module _ (os : List ℕ) (k : ℕ) (z : ℤ) (h : 4 * k + 4 ≤ length os) where
   with-many =
       ap length with-is ∙ length-append (take (4 * k) os ++ number_octets (z ∷ [])) (drop (4 * k + 4) os)
       ∙ omega (arith, front-many, length-drop (4 * k + 4) os)
+
+-- the four octets that a machine holds of a number, where number k stood
+pub number_put : (os : List ℕ) (k m : ℕ) (z : ℤ) (ys : List ℕ) → 4 * k + 4 ≤ length os → m ≡ 4 → ys ≡ to_le_bytes w32 (of_z w32 z) → SFits w32 z
+    → put_mid (4 * k) m os ys ≡ with_number os k z
+number_put os k m z ys h d e f =
+    let N = number_octets (z ∷ []) in
+    let four : ℕ → List ℕ = λ n. n % 256 ∷ n / 256 % 256 ∷ n / 65536 % 256 ∷ n / 16777216 % 256 ∷ [] in
+    let y : ys ≡ N =
+    e ∙ ap four (cast-twos z f)
+    ∙ sym (octets-first z [] ∙ ap (λ (l : List ℕ). twos_of 32 z % 256 ∷ twos_of 32 z / 256 % 256 ∷ twos_of 32 z / 65536 % 256 ∷ twos_of 32 z / 16777216 % 256 ∷ l) octets-none) in
+    let l : 4 ≡ length N = sym (octets-many (z ∷ [])) in
+    put_mid-paste (4 * k) m os ys N 4 y (sym d) l ∙ paste_all os (4 * k) N 4 l ∙ sym (append_assoc (take (4 * k) os) N (drop (4 * k + 4) os))
+    ∙ sym (with-is os k z h)
 
 -- numbers put one after the other: those so far and the octets behind them, with the next number put
 pub put_next : (os₀ : List ℕ) (zs : List ℤ) (k : ℕ) {s t : List ℕ} → k < length zs → 4 * k + 4 ≤ length os₀

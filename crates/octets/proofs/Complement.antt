@@ -12,7 +12,7 @@ use lib.Pow.{pow_pos, pow-add, split, shr_lt, mod-mod-pow}
 use lib.Signed.{mag, lt_z}
 use mir.Syntax.{w32}
 use mir.Val.{SFits, to_z, of_z}
-use mir.Facts.{to_z-of_z}
+use mir.Facts.{to_z-of_z, to_z_pos}
 use Rattle.octets.specs.Bits.{digits_of}
 use Rattle.octets.specs.Signed.{signed_of, twos_of}
 use Rattle.octets.proofs.Digits.{digits-mod-pow}
@@ -81,6 +81,16 @@ module _ (z : ℤ) (f : SFits w32 z) where
       go : (z : ℤ) → SFits w32 z → lt_z z (pos 0) ≡ false → (z ≡ pos (mag z)) × (mag z ≡ twos_of 32 z)
       go (pos n) f e = (refl, omega (arith, f.sfits))
       go (negsuc n) f e = absurd (mathlib.Core.Bool.true≢false e)
+
+-- and what they stand for, read in two's complement
+pub cast-signed : (n : ℕ) → n < 2 ^ 32 → to_z w32 n ≡ signed_of 32 n
+cast-signed n h = pick (dec_lt n (2 ^ 31))
+  where
+    pick : Dec (n < 2 ^ 31) → to_z w32 n ≡ signed_of 32 n
+    pick (yes l) = to_z_pos w32 l ∙ sym (signed_low 32 n l)
+    pick (no l) =
+        let m : 2 ^ 31 ≤ n = omega arith in
+        simp (le-ltb n (2 ^ 31) m) (ap negsuc (omega arith) ∙ sym (signed_high 32 n m h))
 
 -- ---- fewer digits of the same number
 

@@ -85,16 +85,14 @@ fn joined(x: u64, t: u64, n: u32) -> u64
 }
 
 // The word that stands for a start and so many words from octet i on.
-fn words(start: u32, s: &[u8], i: usize, count: usize) -> u64
-    requires { (start < 2 ^ 16) × (1 ≤ count) × (i + 8 * count ≤ length s.now) }
+fn words(start: u16, s: &[u8], i: usize, count: usize) -> u64
+    requires { (1 ≤ count) × (i + 8 * count ≤ length s.now) }
     ensures { register_of 16 generator start (part (8 * i) (64 * count) (bits_of s.now)) ≡ register_of 16 generator 0 (digits_of 64 result) }
 {
-    let mut x = octets::word(s, i) ^ (bitfields::turned(DEGREE, start) as u64);
-    let mut k: usize = 1;
-    while k < count {
+    let mut x = octets::word(s, i) ^ u64::from(bitfields::turned(DEGREE, u32::from(start)));
+    for k in 1..count {
         let w = octets::word(s, i + 8 * k);
         x = folded(x) ^ w;
-        k += 1;
     }
     x
 }
@@ -111,8 +109,8 @@ fn rest(x: u64, s: &[u8], i: usize, n: u32) -> u64
 }
 
 // The register after so many words from octet i on, and n bits behind them.
-fn by_words(start: u32, s: &[u8], i: usize, count: usize, n: u32) -> u32
-    requires { (start < 2 ^ 16) × (1 ≤ count) × (n < 64) × (8 * i + (64 * count + n) ≤ 8 * length s.now) }
+fn by_words(start: u16, s: &[u8], i: usize, count: usize, n: u32) -> u32
+    requires { (1 ≤ count) × (n < 64) × (8 * i + (64 * count + n) ≤ 8 * length s.now) }
     ensures { result ≡ register_of 16 generator start (part (8 * i) (64 * count + n) (bits_of s.now)) }
 {
     let x = words(start, s, i, count);
@@ -121,11 +119,11 @@ fn by_words(start: u32, s: &[u8], i: usize, count: usize, n: u32) -> u32
 
 // The register after the n bits from octet i on, where a word holds them: the start is added to the first of them, and they are moved up to the
 // word's end. The zeros before them count for nothing.
-fn short(start: u32, s: &[u8], i: usize, n: u32) -> u32
-    requires { (start < 2 ^ 16) × (16 ≤ n) × (n ≤ 64) × (8 * i + n ≤ 8 * length s.now) }
+fn short(start: u16, s: &[u8], i: usize, n: u32) -> u32
+    requires { (16 ≤ n) × (n ≤ 64) × (8 * i + n ≤ 8 * length s.now) }
     ensures { result ≡ register_of 16 generator start (part (8 * i) n (bits_of s.now)) }
 {
-    let x = octets::word(s, i) ^ (bitfields::turned(DEGREE, start) as u64);
+    let x = octets::word(s, i) ^ u64::from(bitfields::turned(DEGREE, u32::from(start)));
     after_word(x << (WORD - n))
 }
 
@@ -135,31 +133,25 @@ fn by_bits(generator: u32, degree: u32, start: u32, s: &[u8], at: usize, n: u32)
     ensures { result ≡ register_of degree generator start (part at n (bits_of s.now)) }
 {
     let mut register = start;
-    let mut k: u32 = 0;
-    while k < n {
+    for k in 0..n {
         if !octets::has(s, at, k) {
             return register;
         }
-        let b = octets::bit(s, at, k) as u32;
+        let b = u32::from(octets::bit(s, at, k));
         register = step(register, b, generator, degree);
-        k += 1;
     }
     register
 }
 
 // The register of D^16 + D^12 + D^5 + 1 after the n bits from place `at` on: up to an octet, and the rest in one word or by words.
-fn after(start: u32, s: &[u8], at: usize, n: u32) -> u32
-    requires { start < 2 ^ 16 }
+fn after(start: u16, s: &[u8], at: usize, n: u32) -> u32
     ensures { result ≡ register_of 16 generator start (part at n (bits_of s.now)) }
 {
     let lead = ((8 - at % 8) % 8) as u32;
-    if n < lead + DEGREE {
-        return by_bits(GENERATOR, DEGREE, start, s, at, n);
+    if n < lead + DEGREE || !octets::has(s, at, n - 1) {
+        return by_bits(GENERATOR, DEGREE, u32::from(start), s, at, n);
     }
-    if !octets::has(s, at, n - 1) {
-        return by_bits(GENERATOR, DEGREE, start, s, at, n);
-    }
-    let register = by_bits(GENERATOR, DEGREE, start, s, at, lead);
+    let register = by_bits(GENERATOR, DEGREE, u32::from(start), s, at, lead) as u16;
     let octet = at / 8 + (at % 8 + 7) / 8;
     let rest = n - lead;
     if rest <= WORD {
@@ -180,13 +172,6 @@ const ROUND: u32 = 63;
 // So many bits are read at once, from any place.
 const READ: u32 = 56;
 
-// How many of n bits are read next.
-fn next(n: u32) -> u32
-    ensures { result ≡ min n 56 }
-{
-    if n < READ { n } else { READ }
-}
-
 // The digits that stand for x and the n low digits of t behind it: the first n of x come round to the end, and those of t are added to them.
 fn brought_round(x: u64, t: u64, n: u32) -> u64
     requires { (1 ≤ n) × (n ≤ 56) × (x < 2 ^ 63) × (t < 2 ^ n) }
@@ -201,11 +186,11 @@ fn stands_for(start: u32, s: &[u8], at: usize, n: u32) -> u64
     requires { (start < 2 ^ 6) × (at + n ≤ 8 * length s.now) }
     ensures { (result < 2 ^ 63) × (register_of 6 67 start (part at n (bits_of s.now)) ≡ register_of 6 67 0 (digits_of 63 result)) }
 {
-    let mut x = bitfields::turned(SIX_DEGREE, start) as u64;
+    let mut x = u64::from(bitfields::turned(SIX_DEGREE, start));
     let mut seen: u32 = 0;
     while seen < n {
         let v = octets::bits(s, at, seen, n - seen);
-        let m = next(n - seen);
+        let m = (n - seen).min(READ);
         x = brought_round(x, v, m);
         seen += m;
     }
@@ -275,7 +260,7 @@ pub fn from_start(
 {
     allowed(generator, degree, start)?;
     Ok(match generator {
-        GENERATOR => after(start, s, at, n),
+        GENERATOR => after(start as u16, s, at, n),
         SIX => six_after(start, s, at, n),
         _ => by_bits(generator, degree, start, s, at, n),
     })

@@ -4,9 +4,13 @@
 //     replay [--status] ltu|ntu [SILENCE] < LOG
 #![tactic(auto)]
 
-ghost use Rattle.std.specs.Prelude.{◌≡◌, true, ◌+◌, ◌≤◌, length};
-ghost use Rattle.replay.specs.Replay.{most_octets, followed, lines_of, ending_from};
+ghost use Rattle.std.specs.Prelude.{◌+◌, ◌≤◌, ◌≡◌, length};
+ghost use Rattle.startlog.specs.Lines.{line_of};
+ghost use Rattle.replay.specs.declared.Stop.TheVariants.{Unwritten, Refused};
+ghost use Rattle.replay.specs.Replay.{most_octets, followed, lines_of, ending_from, Follows, Ends};
 
+use answer::Refused;
+use ascii::Text;
 use options::Argument;
 use outside::Status;
 use startlog::Line;
@@ -26,171 +30,151 @@ const NO_SILENCE: u32 = 1;
 // The name that its words on standard error begin with.
 const NAME: [u8; 6] = *b"replay";
 
-// Writes to standard output, and answers whether it could; where not, says so.
-fn print(rt: &HostRuntime, text: &[u8]) -> bool {
-    outside::print(rt, &NAME, text).is_ok()
+// Why a log is not told to its end.
+#[derive(Clone, Copy)]
+enum Stop {
+    // Its story could not be written.
+    Unwritten,
+    // A line of it is refused.
+    Refused(Refused),
 }
 
-// Writes the line of an event, unless there is nothing to tell, as of one that is refused.
-fn tell(rt: &HostRuntime, event: Event) -> bool {
+// On which line, the first being 1, and why.
+#[derive(Clone, Copy)]
+struct Stopped {
+    line: u32,
+    why: Stop,
+}
+
+impl From<outside::Unwritten> for Stop {
+    ghost from_gives = { λ _ s. s ≡ Unwritten };
+
+    fn from(_said: outside::Unwritten) -> Stop {
+        Stop::Unwritten
+    }
+}
+
+impl From<Refused> for Stop {
+    ghost from_gives = { λ n s. s ≡ Refused n };
+
+    fn from(no: Refused) -> Stop {
+        Stop::Refused(no)
+    }
+}
+
+// Writes to standard output; where it could not, says so.
+fn print(rt: &HostRuntime, text: &[u8]) -> Result<(), outside::Unwritten> {
+    outside::print(rt, &NAME, text)
+}
+
+// Writes the line of an event, unless there is nothing to tell.
+fn tell(rt: &HostRuntime, event: Event) -> Result<(), outside::Unwritten> {
     if event.kind == kind::NOTHING {
-        return true;
+        return Ok(());
     }
     let mut room = [0u8; ROOM];
-    let n = storytext::put_event(&mut room, event);
+    let mut text = Text {
+        room: &mut room,
+        at: 0,
+    };
+    storytext::put_event(&mut text, event);
+    let n = text.at;
     print(rt, &room[..n])
 }
 
-// What became of a line.
-#[derive(Drop)]
-struct Followed {
-    // Whether all of it could be written.
-    written: bool,
-    event: Event,
-}
-
-// How a log ended.
-#[derive(Clone, Copy)]
-struct Ending {
-    // Whether all of its story could be written.
-    written: bool,
-    // 0 at its end, or what refused a line of it.
-    answer: u32,
-    // The number of the line, the first being 1; behind the last one, one more.
-    line: u32,
-    // The story there.
-    story: Story,
-}
-
-// Tells the codes of a line, up to the first that is refused, and gives the last event; of a line without codes, one that tells nothing.
-fn follow(rt: &HostRuntime, story: Story, said: Line) -> Followed
-    ensures { result.written ≡ true → result.event ≡ followed story said }
+// Tells the codes of a line, up to the first that is refused. The story goes on with each.
+fn follow(rt: &HostRuntime, story: &mut Story, line: &[u8]) -> Result<(), Stop>
+    ensures { Follows result story.new (followed story.old (line_of line.now)) }
 {
-    let code = said.code;
-    let times = said.times;
-    let mut event = Event {
-        answer: said.answer,
-        kind: kind::NOTHING,
-        code: 0,
-        attempt: 0,
-        ticks: 0,
-        story,
-    };
-    let mut k = 0;
-    while k < times {
-        let so_far = event.story;
-        event = so_far.step(code);
-        let written = tell(rt, event);
-        if !written | (event.answer != answer::DONE) {
-            return Followed { written, event };
-        }
-        k += 1;
+    let said = Line::read(line)?;
+    for k in 0..said.times {
+        let event = story.step(said.code)?;
+        *story = event.story;
+        tell(rt, event)?;
     }
-    Followed {
-        written: true,
-        event,
-    }
+    Ok(())
 }
 
 // Tells a log line by line, to its end, the first line that is refused or the first that cannot be written.
-fn replay(rt: &HostRuntime, log: &[u8], begun: Story) -> Ending
+fn replay(rt: &HostRuntime, log: &[u8], story: &mut Story) -> Result<(), Stopped>
     requires { length log.now ≤ most_octets }
-    ensures { result.written ≡ true → result ≡ ending_from 1 begun (lines_of log.now) }
+    ensures { Ends result story.new (ending_from 1 story.old (lines_of log.now)) }
 {
-    let mut story = begun;
     let mut line: u32 = 1;
     let mut at = 0;
     while at < log.len() {
         let end = startlog::line_end(log, at);
-        let followed = follow(rt, story, Line::read(&log[at..end]));
-        let event = followed.event;
-        story = event.story;
-        if !followed.written | (event.answer != answer::DONE) {
-            return Ending {
-                written: followed.written,
-                answer: event.answer,
-                line,
-                story,
-            };
+        let said = &log[at..end];
+        match follow(rt, story, said) {
+            Ok(()) => {},
+            Err(why) => return Err(Stopped { line, why }),
         }
         line += 1;
         at = end + 1;
     }
-    Ending {
-        written: true,
-        answer: answer::DONE,
-        line,
-        story,
-    }
+    Ok(())
 }
 
-// The number of the line that the last of these octets stands on.
+// The number of the line that the last of these octets stands on: one more than the newlines in front of it.
 fn last_line(log: &[u8]) -> u32
     requires { length log.now ≤ most_octets + 1 }
 {
-    let mut line: u32 = 1;
-    let mut at = startlog::line_end(log, 0) + 1;
-    while at < log.len() {
-        line += 1;
-        at = startlog::line_end(log, at) + 1;
+    match log {
+        [before @ .., _] => before.iter().filter(|&&o| o == b'\n').count() as u32 + 1,
+        [] => 1,
     }
-    line
 }
 
-// The text of how a log ended.
-fn put_ending(room: &mut [u8], ending: Ending) -> usize
-    ensures { result ≤ length room.old }
-{
-    if ending.answer == answer::DONE {
-        let story = ending.story;
-        return storytext::put_end(room, story);
-    }
-    storytext::put_refused(room, ending.answer, ending.line)
-}
-
-// The status of a log that was told to its end.
-fn status(story: Story) -> Status {
-    if storytext::in_data_mode(story) {
-        Status::Good
-    } else {
-        Status::Bad
-    }
+// Tells why a log is refused, on which line.
+fn tell_refused(rt: &HostRuntime, no: Refused, line: u32) -> Status {
+    let mut room = [0u8; ROOM];
+    let mut text = Text {
+        room: &mut room,
+        at: 0,
+    };
+    storytext::put_refused(&mut text, no.number(), line);
+    let n = text.at;
+    let _ = print(rt, &room[..n]);
+    Status::Wrong
 }
 
 // Tells how a log ended, and answers the status.
-fn tell_ending(rt: &HostRuntime, ending: Ending) -> Status {
-    if !ending.written {
-        return Status::Wrong;
-    }
+fn tell_end(rt: &HostRuntime, story: Story) -> Status {
     let mut room = [0u8; ROOM];
-    let n = put_ending(&mut room, ending);
-    if !print(rt, &room[..n]) | (ending.answer != answer::DONE) {
-        return Status::Wrong;
+    let mut text = Text {
+        room: &mut room,
+        at: 0,
+    };
+    storytext::put_end(&mut text, story);
+    let n = text.at;
+    match print(rt, &room[..n]) {
+        Ok(()) if storytext::in_data_mode(story) => Status::Good,
+        Ok(()) => Status::Bad,
+        Err(outside::Unwritten) => Status::Wrong,
     }
-    let story = ending.story;
-    status(story)
 }
 
 // Tells what was read. One octet more than a log may have shows that it is too long.
 fn tell_all(rt: &HostRuntime, log: &[u8], begun: Event) -> Status
     requires { length log.now ≤ most_octets + 1 }
 {
-    let story = begun.story;
     if MOST < log.len() {
-        return tell_ending(
-            rt,
-            Ending {
-                written: true,
-                answer: answer::LENGTH,
-                line: last_line(log),
-                story,
-            },
-        );
+        return tell_refused(rt, Refused::Length, last_line(log));
     }
-    if !tell(rt, begun) {
+    if tell(rt, begun).is_err() {
         return Status::Wrong;
     }
-    tell_ending(rt, replay(rt, log, story))
+    let mut story = begun.story;
+    match replay(rt, log, &mut story) {
+        Ok(()) => tell_end(rt, story),
+        Err(
+            Stopped {
+                line,
+                why: Stop::Refused(no),
+            },
+        ) => tell_refused(rt, no, line),
+        Err(_) => Status::Wrong,
+    }
 }
 
 // Tells the log on standard input.
@@ -205,16 +189,26 @@ fn tell_input(rt: &HostRuntime, begun: Event) -> Status {
     }
 }
 
+// What is to be done.
+#[derive(Clone, Copy)]
+enum Task {
+    // To tell a log.
+    Tell,
+    // To print how the replayer is called, or its version.
+    Help,
+    Version,
+    // The argument at this place is wrong.
+    Refuse(usize),
+}
+
 // What the arguments ask for.
 #[derive(Clone, Copy)]
 struct Asked {
-    // Word to tell a log, Help or Version, or Unknown for an argument that is wrong: the first of them counts.
-    what: Argument,
-    // The place of the wrong argument.
-    at: usize,
-    // The places of the end's name and of the silence; 0 where there is none.
-    end: usize,
-    silence: usize,
+    // The first of them that asks for something else than to tell a log counts.
+    task: Task,
+    // The places of the end's name and of the silence.
+    end: Option<usize>,
+    silence: Option<usize>,
     // Whether the status is asked for.
     status: bool,
     // Whether -- has come.
@@ -223,43 +217,45 @@ struct Asked {
 
 impl Asked {
     // The same, asking for this.
-    fn asks(mut self, what: Argument, at: usize) -> Asked {
-        if self.what == Argument::Word {
-            self.what = what;
-            self.at = at;
+    fn asks(self, task: Task) -> Asked {
+        match self.task {
+            Task::Tell => Asked { task, ..self },
+            _ => self,
         }
-        self
     }
 
     // One word more: the end's name, then the silence.
-    fn word(mut self, at: usize) -> Asked {
-        if self.end == 0 {
-            self.end = at;
-            return self;
+    fn word(self, at: usize) -> Asked {
+        match (self.end, self.silence) {
+            (None, _) => Asked {
+                end: Some(at),
+                ..self
+            },
+            (_, None) => Asked {
+                silence: Some(at),
+                ..self
+            },
+            _ => self.asks(Task::Refuse(at)),
         }
-        if self.silence == 0 {
-            self.silence = at;
-            return self;
-        }
-        self.asks(Argument::Unknown, at)
     }
 
     // One argument more, which is this option.
-    fn with(mut self, option: Argument, at: usize) -> Asked {
-        if self.ended | (option == Argument::Word) {
+    fn with(self, option: Argument, at: usize) -> Asked {
+        if self.ended || option == Argument::Word {
             return self.word(at);
         }
         match option {
-            Argument::Status => {
-                self.status = true;
-                self
+            Argument::Status => Asked {
+                status: true,
+                ..self
             },
-            Argument::End => {
-                self.ended = true;
-                self
+            Argument::End => Asked {
+                ended: true,
+                ..self
             },
-            Argument::Help | Argument::Version => self.asks(option, at),
-            _ => self.asks(Argument::Unknown, at),
+            Argument::Help => self.asks(Task::Help),
+            Argument::Version => self.asks(Task::Version),
+            _ => self.asks(Task::Refuse(at)),
         }
     }
 }
@@ -272,39 +268,26 @@ fn end_named(word: &[u8]) -> u32 {
 
 // The silence that a text gives.
 fn silence_of(word: &[u8]) -> u32 {
-    let said = Line::counted(word);
-    if said.answer == answer::DONE {
-        said.times
-    } else {
-        NO_SILENCE
+    match Line::counted(word) {
+        Ok(said) => said.times,
+        Err(_) => NO_SILENCE,
     }
 }
 
-// The end that argument i names.
-fn end_at(rt: &HostRuntime, i: usize) -> u32 {
-    if i == 0 {
-        return NO_END;
-    }
+// What argument i says, read so.
+fn said_at<F: Fn(&[u8]) -> u32>(rt: &HostRuntime, i: usize, read: F) -> u32
+    requires { F.IsAlwaysCallable read }
+{
     let mut buf: [u8; outside::PATH] = outside::room();
-    end_named(outside::said(rt, i, &mut buf))
-}
-
-// The silence that argument i gives; 0 where there is none.
-fn silence_at(rt: &HostRuntime, i: usize) -> u32 {
-    if i == 0 {
-        return 0;
-    }
-    let mut buf: [u8; outside::PATH] = outside::room();
-    silence_of(outside::said(rt, i, &mut buf))
+    read(outside::said(rt, i, &mut buf))
 }
 
 // What all arguments ask for.
 fn arguments(rt: &HostRuntime) -> Asked {
     let mut asked = Asked {
-        what: Argument::Word,
-        at: 0,
-        end: 0,
-        silence: 0,
+        task: Task::Tell,
+        end: None,
+        silence: None,
         status: false,
         ended: false,
     };
@@ -327,27 +310,28 @@ fn refuse(rt: &HostRuntime, i: usize) -> Status {
 }
 
 // Says why no card starts so.
-fn refuse_start(rt: &HostRuntime, answer: u32) -> Status {
-    if answer == answer::UNKNOWN {
-        outside::complain(rt, b"replay: the end is ltu or ntu");
-    } else {
-        outside::complain(rt, b"replay: the silence is 2000 to 60000 ticks");
+fn refuse_start(rt: &HostRuntime, why: Refused) -> Status {
+    match why {
+        Refused::Unknown => outside::complain(rt, b"replay: the end is ltu or ntu"),
+        _ => outside::complain(rt, b"replay: the silence is 2000 to 60000 ticks"),
     }
     usage(rt)
 }
 
 // Tells the log of a card with this end and silence.
 fn tell_card(rt: &HostRuntime, end: u32, silence: u32) -> Status {
-    let begun = Story::start(end, silence);
-    if begun.answer != answer::DONE {
-        return refuse_start(rt, begun.answer);
+    match Story::start(end, silence) {
+        Ok(begun) => tell_input(rt, begun),
+        Err(why) => refuse_start(rt, why),
     }
-    tell_input(rt, begun)
 }
 
 // The status of what had to be written and nothing else.
-fn done(written: bool) -> Status {
-    if written { Status::Good } else { Status::Wrong }
+fn done(written: Result<(), outside::Unwritten>) -> Status {
+    match written {
+        Ok(()) => Status::Good,
+        Err(outside::Unwritten) => Status::Wrong,
+    }
 }
 
 // How the replayer is called.
@@ -366,16 +350,21 @@ fn help(rt: &HostRuntime) -> Status {
 
 // Does what is asked, and answers the status.
 fn run(rt: &HostRuntime, asked: Asked) -> Status {
-    let what = asked.what;
-    match what {
-        Argument::Help => help(rt),
-        Argument::Version => done(outside::print_version(rt, &NAME).is_ok()),
-        Argument::Unknown => refuse(rt, asked.at),
-        _ => tell_card(
-            rt,
-            end_at(rt, asked.end),
-            silence_at(rt, asked.silence),
-        ),
+    match asked.task {
+        Task::Help => help(rt),
+        Task::Version => done(outside::print_version(rt, &NAME)),
+        Task::Refuse(at) => refuse(rt, at),
+        Task::Tell => {
+            let end = match asked.end {
+                Some(i) => said_at(rt, i, end_named),
+                None => NO_END,
+            };
+            let silence = match asked.silence {
+                Some(i) => said_at(rt, i, silence_of),
+                None => 0,
+            };
+            tell_card(rt, end, silence)
+        },
     }
 }
 

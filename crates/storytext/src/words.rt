@@ -156,3 +156,19 @@ pub const UNHEARD: u32 = 34;
 
 // The end of the line.
 pub const OVER: u32 = 35;
+
+// The line of a refusal: the reasons' rows are the answers' numbers.
+pub const REFUSED: [u8; 150] = *b"\n\
+    : the log has more than 1048576 octets\n\
+    : this line is no code\n\n\
+    : no line counts so many ticks, or the log has over 1000000000\n\
+    refused # at line \n#\n$\n";
+
+// What is refused.
+pub const REFUSAL: u32 = 5;
+
+// The number of the log's line.
+pub const LINE: u32 = 6;
+
+// The end of the line.
+pub const LINE_OVER: u32 = 7;

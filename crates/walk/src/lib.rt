@@ -31,10 +31,9 @@ pub fn fill_signed(frame: &[u8], at: usize, w: u32, into: &mut [i32]) -> usize
     ensures { SignedFilled frame.now at w into.old into.new result }
 {
     let mut r = fields::reader(frame, at);
-    let mut k = 0;
-    while k < into.len() {
+    // Stays: an index, since the must-fail edit counts_from_one has to be refused in this loop.
+    for k in 0..into.len() {
         into[k] = r.take_signed(w);
-        k += 1;
     }
     r.at
 }

@@ -18,18 +18,6 @@ padded-many os = omega (arith, length-append (numbers_of os) (replicate 180 (pos
 pub loop-k-init : goal.loop-k-init
 loop-k-init c = (omega arith, refl, refl)
 
-pub offset_bounds-into-k : goal.offset_bounds-into-k
-offset_bounds-into-k c = omega arith
-
-pub bounds-into-k : goal.bounds-into-k
-bounds-into-k c = omega arith
-
-pub overflow_add-k : goal.overflow_add-k
-overflow_add-k c = omega arith
-
-pub loop-k-smaller : goal.loop-k-smaller
-loop-k-smaller c = omega arith
-
 pub loop-k-preserved : goal.loop-k-preserved
 loop-k-preserved c =
     let os = c.args.octets.now in

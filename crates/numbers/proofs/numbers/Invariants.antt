@@ -1,6 +1,6 @@
 use mathlib.Core.Path.{◌≡◌}
 use mathlib.Core.List.{List, ◌++◌}
-use Prim.Native.Nat.{ℕ, ◌-◌, ◌≤◌}
+use Prim.Native.Nat.{ℕ, ◌≤◌}
 use lib.IntN.{ℤ, pos}
 use lib.ListN.{length, take, replicate}
 use Rattle.numbers.specs.Promises.{numbers_of}
@@ -12,6 +12,3 @@ padded os = numbers_of os ++ replicate 180 (pos 0)
 
 abbrev pub invariant-loop-k : goal.invariant-loop-k
 invariant-loop-k l = (l.k ≤ 180) × (length l.into ≡ 180) × (take l.k l.into ≡ take l.k (padded l.octets))
-
-abbrev pub decreases-loop-k : goal.decreases-loop-k
-decreases-loop-k l = 180 - l.k

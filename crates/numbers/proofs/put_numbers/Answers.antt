@@ -35,18 +35,6 @@ returns-then-octets-k c =
     let e : l.k ≡ room_for a.octets.now a.numbers.now = omega (arith, many, c.if-octets-k.true) in
     l.invariant.2 ∙ ap (λ (k : ℕ). number_octets (take k a.numbers.now) ++ drop (4 * k) a.octets.now) e
 
-pub offset_bounds-numbers-k : goal.offset_bounds-numbers-k
-offset_bounds-numbers-k c = omega arith
-
-pub bounds-numbers-k : goal.bounds-numbers-k
-bounds-numbers-k c = omega arith
-
-pub overflow_add-k : goal.overflow_add-k
-overflow_add-k c = omega arith
-
-pub loop-k-smaller : goal.loop-k-smaller
-loop-k-smaller c = omega arith
-
 pub loop-k-preserved : goal.loop-k-preserved
 loop-k-preserved c =
     let a = c.args in

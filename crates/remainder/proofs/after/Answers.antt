@@ -34,26 +34,31 @@ behind s at start n k r e f =
     ap₂ (λ (x i : ℕ). register_of 16 generator x (part i k B)) f p
     ∙ sym (register-append 16 generator start (part at m B) (part (at + m) k B)) ∙ ap (register_of 16 generator start) (part-more B at m k n e)
 
+pub overflow_cast-register : goal.overflow_cast-register
+overflow_cast-register c =
+    let a = c.args in
+    record { fits = begun a.s.now a.at a.start ((8 - a.at % 8) % 8) c.by_bits-register.result c.ranges.start.fits (rw c.from-2.ensures at c.by_bits-register.ensures) }
+
 pub short-requires : goal.short-requires
 short-requires c =
     let a = c.args in
     let m = (8 - a.at % 8) % 8 in
     let all : a.at + a.n ≤ 8 * length a.s.now = there a.s.now a.at a.n (omega arith) (ltb-true _ _ (sym c.has.ensures ∙ c.if-not-has.false)) in
-    (begun a.s.now a.at a.start m c.by_bits-register.result c.requires c.by_bits-register.ensures, omega arith, omega arith, omega arith)
+    (omega arith, omega arith, omega arith)
 
 pub returns-then-rest-le-WORD : goal.returns-then-rest-le-WORD
 returns-then-rest-le-WORD c =
     let a = c.args in
     let m = (8 - a.at % 8) % 8 in
     c.short.ensures
-    ∙ behind a.s.now a.at a.start a.n (a.n - m) c.by_bits-register.result (omega arith) c.by_bits-register.ensures
+    ∙ behind a.s.now a.at a.start a.n (a.n - m) c.by_bits-register.result (omega arith)
+    (rw c.from-2.ensures at c.by_bits-register.ensures)
 
 pub by_words-requires : goal.by_words-requires
 by_words-requires c =
     let a = c.args in
     let m = (8 - a.at % 8) % 8 in
     let all : a.at + a.n ≤ 8 * length a.s.now = there a.s.now a.at a.n (omega arith) (ltb-true _ _ (sym c.has.ensures ∙ c.if-not-has.false)) in (
-      begun a.s.now a.at a.start m c.by_bits-register.result c.requires c.by_bits-register.ensures,
       omega arith,
       omega arith,
       in_words a.at a.n (8 * length a.s.now) (omega arith) all,
@@ -69,4 +74,5 @@ returns c =
     let m = (8 - a.at % 8) % 8 in
     let n = a.n - m in
     c.by_words.ensures
-    ∙ behind a.s.now a.at a.start a.n (64 * (n / 64) + n % 64) c.by_bits-register.result (omega arith) c.by_bits-register.ensures
+    ∙ behind a.s.now a.at a.start a.n (64 * (n / 64) + n % 64) c.by_bits-register.result (omega arith)
+    (rw c.from-2.ensures at c.by_bits-register.ensures)

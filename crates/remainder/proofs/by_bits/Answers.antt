@@ -24,10 +24,10 @@ returns-then-not-has c =
     ∙ ap (register_of a.degree a.generator a.start) (part-past a.s.now a.at a.n l.k (omega (arith, bits-length a.s.now)))
 
 -- what `bit` gives is a bit
-bit-lt : (c : goal.After-bit-b) → c.bit-b.result < 2
+bit-lt : (c : goal.After-from-b) → c.from-b.result < 2
 bit-lt c =
     let a = c.args in
-    subst (λ (n : ℕ). n < 2) (sym c.bit-b.ensures) (bits-bits a.s.now (a.at + c.loop-k.k))
+    subst (λ (n : ℕ). n < 2) (sym (c.from-b.ensures ∙ c.bit.ensures)) (bits-bits a.s.now (a.at + c.loop-k.k))
 
 pub step-register-requires : goal.step-register-requires
 step-register-requires c =
@@ -36,23 +36,17 @@ step-register-requires c =
     let lt = taken-lt a.degree a.generator c.requires.0 c.requires.2 a.s.now a.at a.start c.requires.3 a.n l.k in
     (c.requires.0, c.requires.1, subst (λ (r : ℕ). r < 2 ^ a.degree) (sym l.invariant.1) lt, bit-lt c, c.requires.2)
 
-pub overflow_add-k : goal.overflow_add-k
-overflow_add-k c = omega arith
-
-pub loop-k-smaller : goal.loop-k-smaller
-loop-k-smaller c = omega arith
-
 pub loop-k-preserved : goal.loop-k-preserved
 loop-k-preserved c =
     let a = c.args in
     let l = c.loop-k in
-    let b = c.bit-b in
+    let b = c.from-b in
     let h : a.at + l.k < length (bits_of a.s.now) =
     ltb-true _ _ (sym c.has.ensures ∙ not-false _ c.if-not-has.false-raw) in (
       omega arith,
       c.step-register.ensures
           ∙ bit-more a.degree a.generator c.requires.0 c.requires.2 a.s.now a.at a.start c.requires.3 a.n l.k l.register b.result l.invariant.1
-          (omega arith) (omega (arith, bits-length a.s.now)) b.ensures,
+          (omega arith) (omega (arith, bits-length a.s.now)) (b.ensures ∙ c.bit.ensures),
     )
 
 pub returns : goal.returns

@@ -18,6 +18,6 @@ returns c =
     let n = 64 * a.count in
     let p : 8 * (a.i + 8 * a.count) ≡ 8 * a.i + n = omega arith in
     c.after_word.ensures
-    ∙ sym (word_more 16 generator (lit≤ tt) generator-degree s (8 * a.i) a.start c.requires.0 n a.n (n + a.n) (digits_of 64 x.result)
+    ∙ sym (word_more 16 generator (lit≤ tt) generator-degree s (8 * a.i) a.start c.ranges.start.fits n a.n (n + a.n) (digits_of 64 x.result)
     (part (8 * (a.i + 8 * a.count)) a.n (bits_of s)) refl x.ensures (ap (λ (q : ℕ). part q a.n (bits_of s)) p)
     ∙ y.ensures)

@@ -14,21 +14,21 @@ use Rattle.remainder.proofs.stands_for.Goals as goal
 
 pub loop-seen-init : goal.loop-seen-init
 loop-seen-init c =
-    let t = c.turned-x in
+    let t = c.turned in
     let a = c.args in
-    let lt : t.result < 2 ^ 6 = subst (λ (x : ℕ). x < 2 ^ 6) (sym t.ensures) (turned_lt 6 a.start) in (
+    let lt : c.from-x.result < 2 ^ 6 = subst (λ (x : ℕ). x < 2 ^ 6) (sym (c.from-x.ensures ∙ t.ensures)) (turned_lt 6 a.start) in (
       omega arith,
       omega arith,
       sym (register-none 6 67 (lit≤ tt) six-degree a.start) ∙ sym (start-round 6 67 63 (lit≤ tt) six-degree six-round a.start (lit≤ tt) c.requires.0)
-          ∙ ap (λ (x : ℕ). register_of 6 67 0 (digits_of 63 x)) (sym t.ensures),
+          ∙ ap (λ (x : ℕ). register_of 6 67 0 (digits_of 63 x)) (sym (c.from-x.ensures ∙ t.ensures)),
     )
 
 pub brought_round-x-requires : goal.brought_round-x-requires
 brought_round-x-requires c =
     let a = c.args in
     let l = c.loop-seen in
-    let m = c.next-m.result in
-    (omega arith, omega arith, l.invariant.1, subst (λ (v : ℕ). v < 2 ^ m) (sym (c.bits-v.ensures ∙ ap (λ (j : ℕ). value_of (part (a.at + l.seen) j (bits_of a.s.now))) (sym c.next-m.ensures))) (part-lt a.s.now (a.at + l.seen) m))
+    let m = c.min-m.result in
+    (omega arith, omega arith, l.invariant.1, subst (λ (v : ℕ). v < 2 ^ m) (sym (c.bits-v.ensures ∙ ap (λ (j : ℕ). value_of (part (a.at + l.seen) j (bits_of a.s.now))) (sym c.min-m.ensures))) (part-lt a.s.now (a.at + l.seen) m))
 
 pub overflow_add-seen : goal.overflow_add-seen
 overflow_add-seen c = omega arith
@@ -41,9 +41,9 @@ loop-seen-preserved c =
     let a = c.args in
     let s = a.s.now in
     let l = c.loop-seen in
-    let m = c.next-m.result in
+    let m = c.min-m.result in
     let v = c.bits-v.result in
-    let d : digits_of m v ≡ part (a.at + l.seen) m (bits_of s) = ap (digits_of m) (c.bits-v.ensures ∙ ap (λ (j : ℕ). value_of (part (a.at + l.seen) j (bits_of s))) (sym c.next-m.ensures)) ∙ field-digits s (a.at + l.seen) m (omega arith) in (
+    let d : digits_of m v ≡ part (a.at + l.seen) m (bits_of s) = ap (digits_of m) (c.bits-v.ensures ∙ ap (λ (j : ℕ). value_of (part (a.at + l.seen) j (bits_of s))) (sym c.min-m.ensures)) ∙ field-digits s (a.at + l.seen) m (omega arith) in (
       omega arith,
       c.brought_round-x.ensures.0,
       word_more 6 67 (lit≤ tt) six-degree s a.at a.start c.requires.0 l.seen m (l.seen + m) (digits_of 63 l.x) (digits_of m v) refl l.invariant.2 d

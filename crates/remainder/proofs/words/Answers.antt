@@ -5,6 +5,7 @@ use native.Mathlib.Omega.{arith}
 use lib.Bits.{bit_xor}
 use lib.Dec.{lit≤}
 use Rattle.octets.specs.Bits.{digits_of, bits_of, part}
+use Rattle.octets.proofs.Turn.{turn_of}
 use Rattle.octets.proofs.Words.{field-digits}
 use Rattle.remainder.specs.Division.{generator}
 use Rattle.remainder.specs.Register.{register_of}
@@ -18,10 +19,10 @@ loop-k-init c =
     let a = c.args in
     let s = a.s.now in (
       omega arith,
-      c.requires.1,
+      c.requires.0,
       ap (register_of 16 generator a.start) (sym (ap (digits_of 64) w.ensures ∙ field-digits s (8 * a.i) 64 (omega arith)))
-          ∙ start-in 16 generator (lit≤ tt) generator-degree 64 a.start w.result (lit≤ tt) c.requires.0
-          ∙ ap (λ (y : ℕ). register_of 16 generator 0 (digits_of 64 (bit_xor w.result y))) (sym c.turned.ensures),
+          ∙ start-in 16 generator (lit≤ tt) generator-degree 64 a.start w.result (lit≤ tt) c.ranges.start.fits
+          ∙ ap (λ (y : ℕ). register_of 16 generator 0 (digits_of 64 (bit_xor w.result y))) (sym (c.from-2.ensures ∙ c.turned.ensures ∙ ap (turn_of 16) c.from.ensures)),
     )
 
 pub overflow_mul-k : goal.overflow_mul-k
@@ -29,12 +30,6 @@ overflow_mul-k c = omega arith
 
 pub overflow_add-i : goal.overflow_add-i
 overflow_add-i c = omega arith
-
-pub overflow_add-k : goal.overflow_add-k
-overflow_add-k c = omega arith
-
-pub loop-k-smaller : goal.loop-k-smaller
-loop-k-smaller c = omega arith
 
 pub loop-k-preserved : goal.loop-k-preserved
 loop-k-preserved c =
@@ -48,7 +43,7 @@ loop-k-preserved c =
     let d = ap (digits_of 64) w.ensures ∙ field-digits s p 64 (omega arith) ∙ ap (λ (q : ℕ). part q 64 (bits_of s)) f in (
       omega arith,
       omega arith,
-      word_more 16 generator (lit≤ tt) generator-degree s (8 * a.i) a.start c.requires.0 (64 * l.k) 64 (64 * (l.k + 1)) (digits_of 64 l.x) (digits_of 64 w.result) e
+      word_more 16 generator (lit≤ tt) generator-degree s (8 * a.i) a.start c.ranges.start.fits (64 * l.k) 64 (64 * (l.k + 1)) (digits_of 64 l.x) (digits_of 64 w.result) e
           l.invariant.2 d
           ∙ c.folded.ensures w.result (omega arith),
     )

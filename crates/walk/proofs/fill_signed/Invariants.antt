@@ -12,6 +12,3 @@ invariant-loop-k l =
     × (l.r.frame ≡ l.initial.r.frame)
     × (signed_from l.r.frame.now l.initial.r.at l.w (length l.initial.into) ≡ take l.k l.into ++ signed_from l.r.frame.now l.r.at l.w (length l.initial.into - l.k))
     × (behind_all l.initial.r.at l.w (length l.initial.into) ≡ behind_all l.r.at l.w (length l.initial.into - l.k))
-
-abbrev pub decreases-loop-k : goal.decreases-loop-k
-decreases-loop-k l = length l.initial.into - l.k
