@@ -1,5 +1,5 @@
-// What the programs ask of the system, over std: their arguments, a file by its name, octets to its end, words on standard error, and the
-// digit of --status.
+// What the programs ask of the system and what they do alike, over std: their arguments, a file by its name, octets to its end, words on
+// standard error, texts on standard output, and how they end, by the digit of --status.
 #![tactic(auto)]
 
 ghost use Rattle.std.specs.Prelude.{◌≡◌, ◌≤◌, length, IfOk};
