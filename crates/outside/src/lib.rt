@@ -206,11 +206,7 @@ pub fn fail(rt: &HostRuntime, program: &[u8], what: &[u8], error: Error) {
 }
 
 // Writes a text to standard output for a program of this name. Where that fails, says so.
-pub fn print(
-    rt: &HostRuntime,
-    program: &[u8],
-    text: &[u8],
-) -> result::Result<(), Unwritten> {
+pub fn print(rt: &HostRuntime, program: &[u8], text: &[u8]) -> result::Result<(), Unwritten> {
     match rt.stdout().write_all(text) {
         Ok(()) => Ok(()),
         Err(why) => {
@@ -221,10 +217,7 @@ pub fn print(
 }
 
 // Prints the version of a program of this name.
-pub fn print_version(
-    rt: &HostRuntime,
-    program: &[u8],
-) -> result::Result<(), Unwritten> {
+pub fn print_version(rt: &HostRuntime, program: &[u8]) -> result::Result<(), Unwritten> {
     print(rt, program, b"sdsl-")?;
     print(rt, program, program)?;
     print(rt, program, b" ")?;

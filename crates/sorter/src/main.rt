@@ -195,7 +195,8 @@ fn tell(rt: &HostRuntime, name: &[u8], v: card::Verdict, csv: bool) -> Result<()
 fn read_file(rt: &HostRuntime, name: &[u8], octets: &mut [u8; READ]) -> io::Result<usize>
     ensures { IfOk result (λ n. n ≤ 530) }
 {
-    outside::fill(&mut outside::open(rt, name)?, octets)
+    let mut file = outside::open(rt, name)?;
+    outside::fill(&mut file, octets)
 }
 
 // What the card whose frame stands in the file of this name is found to be.
