@@ -8,7 +8,7 @@ use lib.Pow.{pow_pos, pow_mono}
 use Rattle.remainder.proofs.Division.{top_lt}
 use Rattle.remainder.proofs.step.Goals as goal
 
--- 2 to the degree, as the code shifts it, fits; so does twice the register
+-- 2 to the degree, as the code shifts it, fits
 size_is : (c : goal.Start) → 1 * 2 ^ c.args.degree % 2 ^ 32 ≡ 2 ^ c.args.degree
 size_is c = let h : c.args.degree ≤ 16 = c.requires.1 in omega (arith, pow_mono h)
 
