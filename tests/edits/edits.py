@@ -59,7 +59,9 @@ def files(function):
     """Where the function's proof stands, or the module of proofs/."""
     if function.startswith("proofs/"):
         return [f"{function}.antt"]
-    return [f"proofs/{function.replace('::', '/')}/{name}.antt" for name in ("Answers", "Invariants", "Proof")]
+    *outer, last = function.split("::")
+    folders = ["/".join(["proofs", *outer, own]) for own in (last, "+" + last)]  # the second where the function calls itself
+    return [f"{folder}/{name}.antt" for folder in folders for name in ("Answers", "Invariants", "Proof")]
 
 
 def refused(log, crate, function):

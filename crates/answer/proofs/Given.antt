@@ -6,7 +6,7 @@ use mathlib.Core.List.{[], ◌∷◌, ◌++◌, map}
 use Prim.Native.Nat.{ℕ, ◌≤◌}
 use native.Mathlib.Omega.{arith}
 use lib.Dec.{eqb, lit≤}
-use Rattle.std.specs.Prelude.{Result, Ok, Err}
+use Rattle.std.specs.Prelude.{Result, Ok, Err, IfOk}
 use Rattle.answer.specs.declared.Refused.{Refused}
 use Rattle.answer.specs.declared.Refused.TheVariants.{Length, Unknown, Count, Range, Sync, Pad, Check, Stuffing, Flag, Escape, Size}
 use Rattle.answer.specs.Table.{numbers_of, refusals, data_refusals, eoc_refusals}
@@ -54,6 +54,13 @@ result-one (Ok v) (Ok w) h f = ap Ok (f v w refl refl)
 result-one (Ok v) (Err e) h f = let p = refused-number e in absurd (omega arith)
 result-one (Err e) (Ok v) h f = let p = refused-number e in absurd (omega arith)
 result-one (Err a) (Err b) h f = ap Err (number-one a b h)
+
+-- and so are two that promise one value
+pub value-one : {A : Type 0} (w : A) (r s : Result A Refused) → answer_of r ≡ answer_of s → IfOk r (λ v. v ≡ w) → IfOk s (λ v. v ≡ w) → r ≡ s
+value-one w (Ok a) (Ok b) h p q = ap Ok (p ∙ sym q)
+value-one w (Ok a) (Err e) h p q = let n = refused-number e in absurd (omega arith)
+value-one w (Err e) (Ok b) h p q = let n = refused-number e in absurd (omega arith)
+value-one w (Err a) (Err b) h p q = ap Err (number-one a b h)
 
 -- the refusals in the table's order have the table's numbers
 pub table-numbers : numbers_of (refusals ++ data_refusals ++ eoc_refusals)

@@ -1,5 +1,5 @@
 -- Laws of text put into a room. Assumes nothing.
-use mathlib.Core.Path.{◌≡◌, refl, sym, ap, ap₂, ◌∙◌}
+use mathlib.Core.Path.{◌≡◌, refl, sym, ap, ap₂, subst, ◌∙◌}
 use mathlib.Core.List.{List, [], ◌∷◌, ◌++◌}
 use Prim.Native.Nat.{ℕ, suc, ◌+◌, ◌≤◌, ◌<◌, min}
 use native.Mathlib.Decide.{dec_le}
@@ -91,6 +91,14 @@ told text s t r p = record { count = e; room_left = p.laid ∙ sets_first s text
   where
     e : r ≡ min (length text) (length s)
     e = omega (arith, p.behind)
+
+-- the same by methods of `Text`, from place n on: exit is what the room holds when the loan ends
+pub puts-put : {text exit : List ℕ} {n : ℕ} {s e : Text} → Puts s text e → s.at ≡ n → exit ≡ e.room.now → Put s.room.now n text e.at exit
+puts-put {text} {exit} {n} {s} {e} p start end =
+    subst (λ (t : List ℕ). Put s.room.now n text e.at t) (sym end) (subst (λ (k : ℕ). Put s.room.now k text e.at e.room.now) start p.put)
+
+pub puts-told : {text exit : List ℕ} {s e : Text} → Puts s text e → s.at ≡ 0 → exit ≡ e.room.now → Told text s.room.now e.at exit
+puts-told {text} {exit} {s} {e} p start end = told text s.room.now exit e.at (puts-put p start end)
 
 -- where the text fits the room it stands whole at its start
 pub told-whole : (text room : List ℕ) (r : ℕ) (exit : List ℕ) → Told text room r exit → length text ≤ length room → take r exit ≡ text

@@ -1,13 +1,15 @@
 -- One result per call. Assumes nothing.
 use mathlib.Core.Path.{◌≡◌}
-use mathlib.Core.List.{List}
 use Prim.Native.Nat.{ℕ}
-use Rattle.ascii.proofs.One.{put_one}
+use Rattle.ascii.specs.declared.Text.{Text}
+use Rattle.ascii.proofs.One.{puts-one}
 use Rattle.card.specs.Words.{name_of, todo}
 use Rattle.card.specs.Promises.{NamePut, TodoPut}
 
-pub put-name-one : (room : List ℕ) (at n r r' : ℕ) (t t' : List ℕ) → NamePut room at n r t → NamePut room at n r' t' → (r ≡ r') × (t ≡ t')
-put-name-one room at n = put_one room at (name_of n)
+pub put-name-one : (old : Text) (n : ℕ) (new new' : Text) → NamePut old n new → NamePut old n new'
+    → (new.at ≡ new'.at) × (new.room.now ≡ new'.room.now) × (new.room.ghost_name ≡ new'.room.ghost_name)
+put-name-one old n = puts-one old (name_of n)
 
-pub put-todo-one : (room : List ℕ) (at n r r' : ℕ) (t t' : List ℕ) → TodoPut room at n r t → TodoPut room at n r' t' → (r ≡ r') × (t ≡ t')
-put-todo-one room at n = put_one room at (todo n)
+pub put-todo-one : (old : Text) (n : ℕ) (new new' : Text) → TodoPut old n new → TodoPut old n new'
+    → (new.at ≡ new'.at) × (new.room.now ≡ new'.room.now) × (new.room.ghost_name ≡ new'.room.ghost_name)
+put-todo-one old n = puts-one old (todo n)

@@ -1,12 +1,13 @@
 -- What the functions for a verdict's words promise.
-use Rattle.std.specs.Prelude.{List, ℕ}
-use Rattle.ascii.specs.Promises.{Put}
+use Rattle.std.specs.Prelude.{ℕ}
+use Rattle.ascii.specs.declared.Text.{Text}
+use Rattle.ascii.specs.Promises.{Puts}
 use Rattle.card.specs.Words.{name_of, todo}
 
 -- put_name
-abbrev pub NamePut : List ℕ → ℕ → ℕ → ℕ → List ℕ → Type 0
-NamePut room at rank r exit = Put room at (name_of rank) r exit
+abbrev pub NamePut : Text → ℕ → Text → Type 0
+NamePut old rank new = Puts old (name_of rank) new
 
 -- put_todo
-abbrev pub TodoPut : List ℕ → ℕ → ℕ → ℕ → List ℕ → Type 0
-TodoPut room at rank r exit = Put room at (todo rank) r exit
+abbrev pub TodoPut : Text → ℕ → Text → Type 0
+TodoPut old rank new = Puts old (todo rank) new

@@ -2,9 +2,11 @@
 #![tactic(auto)]
 
 ghost use Rattle.std.specs.Prelude.{◌≡◌};
-ghost use Rattle.ascii.specs.Promises.{Put};
+ghost use Rattle.ascii.specs.Promises.{Puts};
 ghost use Rattle.card.specs.Words.{row_of_rank, refusal};
 ghost use Rattle.card.specs.Promises.{NamePut, TodoPut};
+
+use ascii::Text;
 
 // What a card's frame is found to be: rank is the verdict.
 #[derive(Clone, Copy)]
@@ -21,6 +23,8 @@ pub struct Verdict {
     pub vendor: [u8; 16],
 }
 
+// Stays: numbers and not an enum. put_name, put_todo and cardline's line take any number as a verdict, and any as how a word compares:
+// those that none of these names give no words, and a parameter of an enum would ask more of callers.
 // How a word compares with the customer's: no customer is given; the same; the customer's read last bit first; another; the card has none.
 pub const NO_CUSTOMER: u32 = 0;
 
@@ -57,23 +61,19 @@ const REFUSED_ROW: u32 = 1;
 fn row(rank: u32) -> u32
     ensures { result ≡ row_of_rank rank }
 {
-    if rank == CANNOT_BE_READ {
-        return 0;
+    match rank {
+        CANNOT_BE_READ => 0,
+        1..=LAST_REFUSAL => REFUSED_ROW,
+        _ => rank - LAST_REFUSAL + REFUSED_ROW,
     }
-    if LAST_REFUSAL < rank {
-        return rank - LAST_REFUSAL + REFUSED_ROW;
-    }
-    REFUSED_ROW
 }
 
 // The number of a refusal and why.
-fn put_refusal(room: &mut [u8], at: usize, n: u32) -> usize
-    ensures { Put room.old at (refusal n) result room.new }
+fn put_refusal(text: &mut Text<'_>, n: u32)
+    ensures { Puts text.old (refusal n) text.new }
 {
-    let next = forms::put_form(room, at, b"#: ", &[n]);
-    forms::put_row(
-        room,
-        next,
+    forms::form(text, b"#: ", &[n]);
+    text.word(forms::row(
         b"\n\
           the file is not as long as a frame\n\
           unknown end, frame kind or report code\n\
@@ -83,33 +83,28 @@ fn put_refusal(room: &mut [u8], at: usize, n: u32) -> usize
           a pad bit is not zero, so it is more than a frame\n\
           the check bits differ, so it is damaged\n",
         n,
-    )
+    ));
 }
 
 // A verdict's name.
-pub fn put_name(room: &mut [u8], at: usize, rank: u32) -> usize
-    ensures { NamePut room.old at rank result room.new }
+pub fn put_name(text: &mut Text<'_>, rank: u32)
+    ensures { NamePut text.old rank text.new }
 {
     let n = row(rank);
-    let next = forms::put_row(
-        room,
-        at,
+    text.word(forms::row(
         b"cannot be read\nrefused \nfinal frame\nTURNED\nother words\nmatch\ngood\n",
         n,
-    );
-    if n != REFUSED_ROW {
-        return next;
+    ));
+    if n == REFUSED_ROW {
+        put_refusal(text, rank);
     }
-    put_refusal(room, next, rank)
 }
 
 // What to do with a card.
-pub fn put_todo(room: &mut [u8], at: usize, rank: u32) -> usize
-    ensures { TodoPut room.old at rank result room.new }
+pub fn put_todo(text: &mut Text<'_>, rank: u32)
+    ensures { TodoPut text.old rank text.new }
 {
-    forms::put_row(
-        room,
-        at,
+    text.word(forms::row(
         b"check the file\n\
           do not ship; capture its frame again\n\
           capture its training frame; this one has no A and B\n\
@@ -118,5 +113,5 @@ pub fn put_todo(room: &mut [u8], at: usize, rank: u32) -> usize
           ship\n\
           compare with a customer's frame\n",
         row(rank),
-    )
+    ));
 }

@@ -1,16 +1,10 @@
 -- The words for a verdict on a card's line (card: Words), and for a file's length.
-use Rattle.std.specs.Prelude.{cond, List, [], ◌∷◌, ◌++◌, ℕ, eqb, ltb}
+use Rattle.std.specs.Prelude.{cond, List, [], ◌∷◌, ℕ, eqb, ltb}
 use Rattle.ascii.specs.Text.{text}
 use Rattle.forms.specs.Forms.{formed}
 use Rattle.layout.specs.Places.{frame_length}
 use Rattle.card.specs.Ranks.{wrong_length}
 use Rattle.card.specs.Words.{name_of}
-
--- the words of a card's line and of a reference that have no number in them, as a table
-abbrev pub words : List ℕ
-words =
-    text "-\n\tfinal\t-\t-\t-\t\n\t-\t-\t-\t-\t-\t-\nrefused 1: the file has more than 529 octets\n"
-    ++ text "refused 1: the file has 1 octet, a frame has 529\nsorter: the reference \n: \n\",\"\n\"\"\n"
 
 -- a file with fewer octets than a frame has
 unfoldable pub short_words : ℕ → List ℕ

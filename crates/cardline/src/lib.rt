@@ -2,250 +2,215 @@
 #![tactic(auto)]
 
 ghost use Rattle.std.specs.Prelude.{◌≡◌, cond, eqb};
-ghost use Rattle.ascii.specs.Promises.{Put};
+ghost use Rattle.ascii.specs.Promises.{Puts};
 ghost use Rattle.card.specs.Ranks.{final_frame, good};
-ghost use Rattle.forms.specs.Forms.{row_of};
-ghost use Rattle.cardline.specs.Words.{words, short_words, length_words, verdict_words};
+ghost use Rattle.cardline.specs.Words.{short_words, length_words, verdict_words};
 ghost use Rattle.cardline.specs.Line.{shown_octet, shown, vendor_text, vendor_cells};
-ghost use Rattle.cardline.specs.Line.{training_cells, final_cells, cells, like_cell, findings, csv_octet, csv_octets, reference_name};
+ghost use Rattle.cardline.specs.Line.{heading, training_cells, final_cells, cells, like_cell, findings, csv_octet, csv_octets, reference_name};
 ghost use Rattle.cardline.specs.Promises.{Headed, Lined, Separated, Referred};
 
+use answer::Refused;
+use ascii::Text;
 use card::Verdict;
 
 // A frame's octets.
 const FRAME: u32 = layout::FRAME_OCTETS as u32;
 
-// The rows of the words: a cell that holds nothing; the cells of a final frame, and of a card that does not read; a file's length; a reference;
-// a tab and a quote in comma-separated form.
-const NOTHING: u32 = 0;
-
-const FINAL_CELLS: u32 = 1;
-
-const NO_CELLS: u32 = 2;
-
-const MORE: u32 = 3;
-
-const ONE: u32 = 4;
-
-const REFERENCE: u32 = 5;
-
-const COLON: u32 = 6;
-
-const CSV_TAB: u32 = 7;
-
-const CSV_QUOTE: u32 = 8;
-
-// A row of the words.
-fn put_words(room: &mut [u8], at: usize, row: u32) -> usize
-    ensures { Put room.old at (row_of words row) result room.new }
-{
-    forms::put_row(
-        room,
-        at,
-        b"-\n\tfinal\t-\t-\t-\t\n\t-\t-\t-\t-\t-\t-\n\
-          refused 1: the file has more than 529 octets\n\
-          refused 1: the file has 1 octet, a frame has 529\n\
-          sorter: the reference \n: \n\",\"\n\"\"\n",
-        row,
-    )
-}
-
 // A file with fewer octets than a frame has.
-fn put_short(room: &mut [u8], at: usize, n: u32) -> usize
-    ensures { Put room.old at (short_words n) result room.new }
+#[tactic(auto, unfolding(crate::specs::Words::short_words))]
+fn put_short(text: &mut Text<'_>, n: u32)
+    ensures { Puts text.old (short_words n) text.new }
 {
     if n == 1 {
-        return put_words(room, at, ONE);
+        forms::form(
+            text,
+            b"refused 1: the file has 1 octet, a frame has #",
+            &[FRAME],
+        );
+    } else {
+        forms::form(
+            text,
+            b"refused 1: the file has # octets, a frame has #",
+            &[n, FRAME],
+        );
     }
-    forms::put_form(
-        room,
-        at,
-        b"refused 1: the file has # octets, a frame has 529",
-        &[n],
-    )
 }
 
 // A file that is not as long as a frame.
-fn put_length(room: &mut [u8], at: usize, n: u32) -> usize
-    ensures { Put room.old at (length_words n) result room.new }
+#[tactic(auto, unfolding(crate::specs::Words::length_words))]
+fn put_length(text: &mut Text<'_>, n: u32)
+    ensures { Puts text.old (length_words n) text.new }
 {
     if FRAME < n {
-        return put_words(room, at, MORE);
+        forms::form(
+            text,
+            b"refused 1: the file has more than # octets",
+            &[FRAME],
+        );
+    } else {
+        put_short(text, n);
     }
-    put_short(room, at, n)
 }
 
 // The verdict on a card.
-fn put_verdict(room: &mut [u8], at: usize, rank: u32, octets: u32) -> usize
-    ensures { Put room.old at (verdict_words rank octets) result room.new }
+#[tactic(auto, unfolding(crate::specs::Words::verdict_words))]
+fn put_verdict(text: &mut Text<'_>, rank: u32, octets: u32)
+    ensures { Puts text.old (verdict_words rank octets) text.new }
 {
-    if rank == answer::LENGTH {
-        return put_length(room, at, octets);
+    if rank == Refused::Length.number() {
+        put_length(text, octets);
+    } else {
+        card::put_name(text, rank);
     }
-    card::put_name(room, at, rank)
 }
 
 // An octet of a file's name as it is printed.
 fn shown_octet(o: u8) -> u8
     ensures { result ≡ shown_octet o }
 {
-    if o < 32 {
-        return b'?';
-    }
-    if o == 127 {
-        return b'?';
-    }
-    o
+    if o < b' ' || o == 127 { b'?' } else { o }
 }
 
 // A file's name.
-fn put_shown(room: &mut [u8], at: usize, name: &[u8]) -> usize
-    ensures { Put room.old at (shown name.now) result room.new }
+fn put_shown(text: &mut Text<'_>, name: &[u8])
+    ensures { Puts text.old (shown name.now) text.new }
 {
-    let mut next = at;
-    let mut k = 0;
-    while k < name.len() {
-        next = ascii::put(room, next, shown_octet(name[k]));
-        k += 1;
+    for &octet in name {
+        text.put(shown_octet(octet));
     }
-    next
 }
 
 // Vendor data as text.
-fn put_text(room: &mut [u8], at: usize, vendor: &[u8]) -> usize
-    ensures { Put room.old at (vendor_text vendor.now) result room.new }
+fn put_text(text: &mut Text<'_>, vendor: &[u8])
+    ensures { Puts text.old (vendor_text vendor.now) text.new }
 {
     let n = ascii::text_length(vendor);
     if n == 0 {
-        return put_words(room, at, NOTHING);
+        text.word(b"-");
+    } else {
+        text.word(&vendor[..n]);
     }
-    ascii::put_word(room, at, &vendor[..n])
 }
 
 // Vendor data in hex and as text.
-fn put_vendor(room: &mut [u8], at: usize, vendor: &[u8]) -> usize
-    ensures { Put room.old at (vendor_cells vendor.now) result room.new }
+fn put_vendor(text: &mut Text<'_>, vendor: &[u8])
+    ensures { Puts text.old (vendor_cells vendor.now) text.new }
 {
-    let mut next = ascii::put_hexes(room, at, vendor);
-    next = ascii::put(room, next, b'\t');
-    put_text(room, next, vendor)
+    text.hexes(vendor);
+    text.put(b'\t');
+    put_text(text, vendor);
 }
 
 // The cells of a training frame that reads.
-fn put_training(room: &mut [u8], at: usize, used: u32, a: u32, b: u32, vendor: &[u8]) -> usize
-    ensures { Put room.old at (training_cells used a b vendor.now) result room.new }
+fn put_training(text: &mut Text<'_>, used: u32, a: u32, b: u32, vendor: &[u8])
+    ensures { Puts text.old (training_cells used a b vendor.now) text.new }
 {
-    let next = forms::put_form(room, at, b"\ttraining\t#\t#\t#\t", &[used, a, b]);
-    put_vendor(room, next, vendor)
+    forms::form(text, b"\ttraining\t#\t#\t#\t", &[used, a, b]);
+    put_vendor(text, vendor);
 }
 
 // The cells of a final frame that reads.
-fn put_final(room: &mut [u8], at: usize, vendor: &[u8]) -> usize
-    ensures { Put room.old at (final_cells vendor.now) result room.new }
+fn put_final(text: &mut Text<'_>, vendor: &[u8])
+    ensures { Puts text.old (final_cells vendor.now) text.new }
 {
-    let next = put_words(room, at, FINAL_CELLS);
-    put_vendor(room, next, vendor)
+    text.word(b"\tfinal\t-\t-\t-\t");
+    put_vendor(text, vendor);
 }
 
 // The cells of a card.
-fn put_cells(room: &mut [u8], at: usize, v: Verdict) -> usize
-    ensures { Put room.old at (cells v.answer v) result room.new }
+fn put_cells(text: &mut Text<'_>, v: Verdict)
+    ensures { Puts text.old (cells v.answer v) text.new }
 {
-    if v.answer != answer::DONE {
-        return put_words(room, at, NO_CELLS);
+    if v.answer != 0 {
+        text.word(b"\t-\t-\t-\t-\t-\t-");
+    } else if v.kind == layout::TRAINING {
+        put_training(text, v.used, v.a, v.b, &v.vendor);
+    } else {
+        put_final(text, &v.vendor);
     }
-    let vendor = v.vendor;
-    if v.kind == layout::TRAINING {
-        return put_training(room, at, v.used, v.a, v.b, &vendor);
-    }
-    put_final(room, at, &vendor)
 }
 
 // How a word compares with the customer's.
-fn put_like(room: &mut [u8], at: usize, n: u32) -> usize
-    ensures { Put room.old at (like_cell n) result room.new }
+fn put_like(text: &mut Text<'_>, n: u32)
+    ensures { Puts text.old (like_cell n) text.new }
 {
-    forms::put_row(room, at, b"\n\tsame\n\tTURNED\n\tother\n\t-\n", n)
+    text.word(forms::row(b"\n\tsame\n\tTURNED\n\tother\n\t-\n", n));
 }
 
 // The verdict and what to do.
-fn put_findings(room: &mut [u8], at: usize, rank: u32, octets: u32) -> usize
-    ensures { Put room.old at (findings rank octets) result room.new }
+fn put_findings(text: &mut Text<'_>, rank: u32, octets: u32)
+    ensures { Puts text.old (findings rank octets) text.new }
 {
-    let mut next = ascii::put(room, at, b'\t');
-    next = put_verdict(room, next, rank, octets);
-    next = ascii::put(room, next, b'\t');
-    card::put_todo(room, next, rank)
+    text.put(b'\t');
+    put_verdict(text, rank, octets);
+    text.put(b'\t');
+    card::put_todo(text, rank);
 }
 
-// The row of the heading: 1 where a customer is given.
-fn heading_row(given: bool) -> u32
-    ensures { result ≡ cond given 1 0 }
+// What each cell is.
+fn put_heading(text: &mut Text<'_>, given: bool)
+    ensures { Puts text.old (heading given) text.new }
 {
-    if given { 1 } else { 0 }
+    text.word(b"file\tverdict\twhat to do\tkind\tcoefficients\tA\tB\tvendor\tvendor text");
+    if given {
+        text.word(b"\tA like\tB like\n");
+    } else {
+        text.word(b"\n");
+    }
 }
 
 // The line above the cards' lines.
 pub fn header(given: bool, room: &mut [u8]) -> usize
     ensures { Headed given room.old result room.new }
 {
-    let next = forms::put_row(
-        room,
-        0,
-        b"file\tverdict\twhat to do\tkind\tcoefficients\tA\tB\tvendor\tvendor text\n\
-          file\tverdict\twhat to do\tkind\tcoefficients\tA\tB\tvendor\tvendor text\tA like\tB like\n",
-        heading_row(given),
-    );
-    ascii::put(room, next, b'\n')
+    let mut text = Text { room, at: 0 };
+    put_heading(&mut text, given);
+    text.at
 }
 
 // The line of the card whose frame stands in the file of this name.
 pub fn line(name: &[u8], v: Verdict, room: &mut [u8]) -> usize
     ensures { Lined name.now v room.old result room.new }
 {
-    let mut next = put_shown(room, 0, name);
-    next = put_findings(room, next, v.rank, v.octets);
-    next = put_cells(room, next, v);
-    next = put_like(room, next, v.alike);
-    next = put_like(room, next, v.blike);
-    ascii::put(room, next, b'\n')
+    let mut text = Text { room, at: 0 };
+    put_shown(&mut text, name);
+    put_findings(&mut text, v.rank, v.octets);
+    put_cells(&mut text, v);
+    put_like(&mut text, v.alike);
+    put_like(&mut text, v.blike);
+    text.put(b'\n');
+    text.at
 }
 
 // An octet of a line in comma-separated form.
-fn put_csv(room: &mut [u8], at: usize, octet: u8) -> usize
-    ensures { Put room.old at (csv_octet octet) result room.new }
+fn put_csv(text: &mut Text<'_>, octet: u8)
+    ensures { Puts text.old (csv_octet octet) text.new }
 {
-    if octet == b'\t' {
-        return put_words(room, at, CSV_TAB);
+    match octet {
+        b'\t' => text.word(b"\",\""),
+        b'\n' => text.word(b"\"\r\n"),
+        b'"' => text.word(b"\"\""),
+        _ => text.put(octet),
     }
-    if octet == b'\n' {
-        return ascii::put_word(room, at, b"\"\r\n");
-    }
-    if octet == b'"' {
-        return put_words(room, at, CSV_QUOTE);
-    }
-    ascii::put(room, at, octet)
 }
 
 // Octets of a line in comma-separated form.
-fn put_csvs(room: &mut [u8], at: usize, line: &[u8]) -> usize
-    ensures { Put room.old at (csv_octets line.now) result room.new }
+fn put_csvs(text: &mut Text<'_>, line: &[u8])
+    ensures { Puts text.old (csv_octets line.now) text.new }
 {
-    let mut next = at;
-    let mut k = 0;
-    while k < line.len() {
-        next = put_csv(room, next, line[k]);
-        k += 1;
+    for &octet in line {
+        put_csv(text, octet);
     }
-    next
 }
 
 // A line in comma-separated form.
 pub fn csv(line: &[u8], room: &mut [u8]) -> usize
     ensures { Separated line.now room.old result room.new }
 {
-    let next = ascii::put(room, 0, b'"');
-    put_csvs(room, next, line)
+    let mut text = Text { room, at: 0 };
+    text.put(b'"');
+    put_csvs(&mut text, line);
+    text.at
 }
 
 // The verdict to tell of a reference that does not serve.
@@ -260,19 +225,21 @@ fn unfit(rank: u32) -> u32
 }
 
 // Which reference it is.
-fn put_reference(room: &mut [u8], name: &[u8]) -> usize
-    ensures { Put room.old 0 (reference_name name.now) result room.new }
+fn put_reference(text: &mut Text<'_>, name: &[u8])
+    ensures { Puts text.old (reference_name name.now) text.new }
 {
-    let mut next = put_words(room, 0, REFERENCE);
-    next = put_shown(room, next, name);
-    put_words(room, next, COLON)
+    text.word(b"sorter: the reference ");
+    put_shown(text, name);
+    text.word(b": ");
 }
 
 // What a reference frame that does not serve is found to be.
 pub fn reference(name: &[u8], v: Verdict, room: &mut [u8]) -> usize
     ensures { Referred name.now v room.old result room.new }
 {
-    let mut next = put_reference(room, name);
-    next = put_verdict(room, next, unfit(v.rank), v.octets);
-    ascii::put_word(room, next, b"; a training frame that reads is wanted\n")
+    let mut text = Text { room, at: 0 };
+    put_reference(&mut text, name);
+    put_verdict(&mut text, unfit(v.rank), v.octets);
+    text.word(b"; a training frame that reads is wanted\n");
+    text.at
 }

@@ -1,5 +1,5 @@
 -- Laws of checking a data-mode frame: what the bits at their places say of stuffing and of the room behind the frame. Assumes nothing.
-use mathlib.Core.Path.{◌≡◌, sym, ap, ap₂, ◌∙◌}
+use mathlib.Core.Path.{◌≡◌, refl, sym, ap, ap₂, ◌∙◌}
 use mathlib.Core.Bool.{Bool, true, false, ◌&&◌}
 use mathlib.Core.List.{List, [], ◌∷◌, ◌++◌}
 use Prim.Native.Nat.{ℕ, zero, suc, ◌+◌, ◌-◌, ◌*◌, ◌^◌, ◌≤◌, ◌<◌}
@@ -15,6 +15,12 @@ use Rattle.places.specs.Streams.{stream_in}
 use Rattle.dataframe.specs.Table.{stuffing, unused, line_bits, room_of, table}
 use Rattle.dataframe.specs.Frame.{sbid1, sbid2, stuffed_in, behind}
 use Rattle.dataframe.specs.Refusals.{stuffing_right}
+use Rattle.dataframe.specs.declared.Form.{Form}
+use Rattle.dataframe.specs.declared.Form.TheVariants.{Synchronous, Plesiochronous}
+use Rattle.dataframe.specs.declared.Room.{Room}
+use Rattle.dataframe.specs.Forms.{form_number}
+use Rattle.dataframe.specs.Rooms.{form_in, carried_by}
+use Rattle.dataframe.proofs.Rooms.{form-known}
 use Rattle.dataframe.proofs.Rows.{sbid-is, no-sbid, stuffing-is, no-stuffing, unused-is}
 
 -- one bit, and another behind it
@@ -120,20 +126,53 @@ clear-is form k s frame h l e =
     (ap (λ (x : ℕ). part (line_bits form k s) x (bits_of frame)) n ∙ sym (unused-is k (bits_of frame) form s h)
     ∙ ap (λ (t : ℕ). stream_in unused (table form k t) (bits_of frame)) e)
 
--- a known form that is not synchronous
-pub form-one : (form : ℕ) → form ≤ 1 → (form ≡ 0 → ⊥) → form ≡ 1
-form-one form h n = omega (arith, h, n)
+-- ---- in a room whose blocks have m bits
 
--- places by blocks of 12 k bits, and numbers that fit; stated apart from all else that is known where they are needed
-pub twice : (k p : ℕ) → 2 * (12 * k) + p ≡ 24 * k + p
-twice k p = omega arith
+module _ (r : Room) where
+  abbrev K : ℕ
+  K = r.size
 
-pub four-times : (k p : ℕ) → 4 * (12 * k) + p ≡ 48 * k + p
-four-times k p = omega arith
+  abbrev S : List ℕ
+  S = r.octets.now
 
-pub places-fit : (k : ℕ) → k ≤ 289
-    → (12 * k < 2 ^ 32) × (12 * k < 2 ^ 64) × (2 * (12 * k) < 2 ^ 64) × (2 * (12 * k) + 35 < 2 ^ 64) × (4 * (12 * k) < 2 ^ 64) × (4 * (12 * k) + 46 < 2 ^ 64)
-places-fit k h = (omega (arith, h), omega (arith, h), omega (arith, h), omega (arith, h), omega (arith, h), omega (arith, h))
+  -- of the synchronous form
+  module _ (p : r.form ≡ Synchronous) where
+    pub right-synchronous : true ≡ stuffing_right (form_in r) K (bits_of S)
+    right-synchronous = sym (ap (λ (f : Form). stuffing_right (form_number f) K (bits_of S)) p ∙ right-without K (bits_of S))
 
-pub mark-fits : (b : ℕ) → b ≤ 1 → 4 * b < 2 ^ 32
-mark-fits b h = omega (arith, h)
+  -- and of the other
+  module _ (p : r.form ≡ Plesiochronous) where
+    long : length S ≡ 1741
+    long = r.whole ∙ ap (λ (f : Form). room_of (form_number f)) p
+
+    back : stuffing_right 1 K (bits_of S) ≡ stuffing_right (form_in r) K (bits_of S)
+    back = ap (λ (f : Form). stuffing_right (form_number f) K (bits_of S)) (sym p)
+
+    pub announced-in : (m b : ℕ) → m ≡ 12 * K → b ≡ value_of (part (m + 23) 1 (bits_of S)) → 4 * b ≡ (carried_by r).stuffing
+    announced-in m b e f =
+        announced-is K S r.most long b (4 * b) (f ∙ ap (λ (x : ℕ). value_of (part (x + 23) 1 (bits_of S))) e) refl
+        ∙ ap (λ (x : Form). stuffed_in (form_number x) K (bits_of S)) (sym p)
+
+    module _ (m s b : ℕ) (e : m ≡ 12 * K) (t : s ≡ (carried_by r).stuffing) (v : b ≡ value_of (part (2 * m + 35) 1 (bits_of S))) where
+      there : s ≡ stuffed_in 1 K (bits_of S)
+      there = t ∙ ap (λ (x : Form). stuffed_in (form_number x) K (bits_of S)) p
+
+      second : b ≡ value_of (part (24 * K + 35) 1 (bits_of S))
+      second = let q : 2 * m + 35 ≡ 24 * K + 35 = omega arith in v ∙ ap (λ (x : ℕ). value_of (part x 1 (bits_of S))) q
+
+      pub differ-in : (4 * b ≡ s → ⊥) → false ≡ stuffing_right (form_in r) K (bits_of S)
+      differ-in n = differ K S r.most long s b there second n ∙ back
+
+      pub none-in : 4 * b ≡ s → s ≡ 0 → true ≡ stuffing_right (form_in r) K (bits_of S)
+      none-in z y = no-stuffing-right K S r.most long s b there second z y ∙ back
+
+      pub ones-in : (q : ℕ) → 4 * b ≡ s → (s ≡ 0 → ⊥) → b ≤ 1 → q ≡ value_of (part (4 * m + 46) 4 (bits_of S)) → eqb q 15 ≡ stuffing_right (form_in r) K (bits_of S)
+      ones-in q z n h g =
+          let w : 4 * m + 46 ≡ 48 * K + 46 = omega arith in
+          stuffing-by K S r.most long s b there second q z n h (g ∙ ap (λ (x : ℕ). value_of (part x 4 (bits_of S))) w) ∙ back
+
+  pub clear-in : (n s : ℕ) (t : Bool) → n ≡ line_bits (form_in r) K s → s ≡ (carried_by r).stuffing
+      → t ≡ eqb (value_of (part n (8 * length S - n) (bits_of S))) 0 → t ≡ eqb (value_of (behind unused (form_in r) K (bits_of S))) 0
+  clear-in n s t e f g =
+      g ∙ ap (λ (x : ℕ). eqb (value_of (part x (8 * length S - x) (bits_of S))) 0) e
+      ∙ clear-is (form_in r) K s S (form-known r.form) r.whole f

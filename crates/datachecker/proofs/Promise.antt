@@ -2,22 +2,30 @@
 use mathlib.Core.Path.{◌≡◌, refl, sym, ap, ap₂, ◌∙◌, subst}
 use mathlib.Core.Bool.{Bool, true, false, cond, not}
 use mathlib.Core.List.{List}
-use Prim.Native.Nat.{ℕ, zero, suc, ◌^◌, ◌≤◌}
+use Prim.Native.Nat.{ℕ, ◌^◌, ◌≤◌}
 use native.Mathlib.Omega.{arith}
 use borrow.Author.Tests.{eqb-true, eqb-false, not-false, not-true}
 use lib.Dec.{eqb, leb}
 use lib.ListN.{length}
-use Rattle.answer.specs.Answer.{Refusal, answer}
+use Rattle.answer.specs.Answer.{answer}
 use Rattle.answer.proofs.Laws.{stopped}
 use Rattle.octets.specs.Bits.{value_of, bits_of}
 use Rattle.dataframe.specs.Table.{sync, unused, is_size}
-use Rattle.dataframe.specs.Frame.{carried, stuffed_in, behind, due_of, Due}
-use Rattle.dataframe.specs.Refusals.{is_room, crc_refusals, stuffing_right, frame_refusals, check_refusals}
-use Rattle.dataframe.proofs.Refused.{fit, behind-is}
-use Rattle.datacrc.specs.declared.Sixes.{Sixes}
-use Rattle.datacrc.specs.Promises.{crc_of, CrcGiven}
-use Rattle.datacrc.proofs.Laws.{due-computed}
-use Rattle.datachecker.specs.Promises.{DataChecked, verdict_of, VerdictGiven}
+use Rattle.dataframe.specs.Frame.{carried, behind, due_of, Due}
+use Rattle.dataframe.specs.Refusals.{is_room, crc_refusals, stuffing_right, frame_refusals}
+use denote.Ref.{Bor}
+use Rattle.std.specs.Prelude.{Ok, Err}
+use Rattle.answer.specs.declared.Refused.{Refused}
+use Rattle.answer.specs.Given.{number_of}
+use Rattle.octets.proofs.Laws.{bits-bits}
+use Rattle.dataframe.specs.declared.Room.{Room}
+use Rattle.dataframe.specs.Frame.{overhead_in}
+use Rattle.dataframe.specs.Rooms.{form_in, bits_in, carried_by, IsRoomOf}
+use Rattle.dataframe.proofs.Refused.{fits, behind-is}
+use Rattle.dataframe.proofs.Rooms.{room-fits, by-room}
+use Rattle.dataframe.proofs.Order.{due, due-one}
+use Rattle.datachecker.specs.Judging.{StuffingGiven}
+use Rattle.datachecker.specs.Promises.{DataChecked, VerdictGiven}
 
 -- what room, form and size answer is not 7
 abbrev three : Bool → Bool → Bool → ℕ
@@ -45,7 +53,7 @@ six-last false false false false false false = ((λ z. refl), (λ z. absurd (ome
 
 -- the six, one after the other
 module _ (form k word next : ℕ) (bits : List ℕ) where
-  abbrev A : ℕ
+  abbrev pub A : ℕ
   A = answer (frame_refusals form k word next bits)
 
   abbrev t₁ : Bool
@@ -95,74 +103,58 @@ module _ (form k word next : ℕ) (bits : List ℕ) where
       pub none_is : t₆ ≡ false → 0 ≡ A
       none_is f = sym (ap (λ (x : Bool). six false false false false false x) f) ∙ to_last
 
--- what `crc` gives, number by number
-module _ (form k : ℕ) (frame : List ℕ) where
-  answer-of : (n : ℕ) → (crc_of n form k (bits_of frame)).answer ≡ n
-  answer-of zero = refl
-  answer-of (suc n) = refl
-
-  pub crc-answer : (s : Sixes) → CrcGiven form k frame s → s.answer ≡ answer (crc_refusals form k frame)
-  crc-answer s c = ap (λ (x : Sixes). x.answer) c.given ∙ answer-of (answer (crc_refusals form k frame))
-
-  pub crc-due : answer (crc_refusals form k frame) ≡ 0 → (s : Sixes) → CrcGiven form k frame s → s.due ≡ due_of form k (bits_of frame)
-  crc-due y s c = ap (λ (x : Sixes). x.due) (c.given ∙ ap (λ (m : ℕ). crc_of m form k (bits_of frame)) y)
-
+-- what is answered where a room, a form or a size is refused
 module _ (form k word next : ℕ) (frame : List ℕ) where
-  abbrev R : List Refusal
-  R = check_refusals form k word next frame
-
-  abbrev B : List ℕ
-  B = bits_of frame
-
-  -- a room, a form or a size is refused
-  pub first-refused : (n : ℕ) → n ≡ answer (crc_refusals form k frame) → (n ≡ 0 → ⊥)
-      → VerdictGiven form k word next frame (record { answer = n; stuffing = 0; crc = 0 })
-  first-refused zero e h = absurd (h refl)
-  first-refused (suc n) e h =
-      let r : suc n ≡ answer R = sym (stopped (crc_refusals form k frame) (frame_refusals form k word next B) (λ z. h (e ∙ z)) ∙ sym e) in
+  pub first-refused : (n : ℕ) → n ≡ answer (crc_refusals form k frame) → 1 ≤ n → DataChecked form k word next frame n
+  first-refused n e h =
       record {
-        given = ap (λ (m : ℕ). verdict_of m form k B) r;
-        checked = record {
-          answered = r;
-          due_right = λ z. absurd (h z);
-          due_wrong = λ z. absurd (not-seven (is_room form (length frame)) (lib.Dec.ltb 1 form) (is_size k) (sym e ∙ z));
-        };
+        answered = sym (stopped (crc_refusals form k frame) (frame_refusals form k word next (bits_of frame)) (λ z. omega (arith, e, h, z)) ∙ sym e);
+        due_right = λ z. absurd (omega (arith, h, z));
+        due_wrong = λ z. absurd (not-seven (is_room form (length frame)) (lib.Dec.ltb 1 form) (is_size k) (sym e ∙ z));
       }
 
-  module _ (y : answer (crc_refusals form k frame) ≡ 0) where
-    known : form ≤ 1
-    known = (fit form k frame y).known
+-- and where they are right
+module _ (r : Room) (word next : ℕ) where
+  abbrev F : ℕ
+  F = form_in r
 
-    -- the two directions of the last check
-    last : (answer (frame_refusals form k word next B) ≡ 0 → not (eqb next (due_of form k B)) ≡ false)
-        × (answer (frame_refusals form k word next B) ≡ 7 → not (eqb next (due_of form k B)) ≡ true)
-    last =
-        six-last (t₁ form k word next B) (t₂ form k word next B) (t₃ form k word next B) (t₄ form k word next B) (t₅ form k word next B) (t₆ form k word next B)
+  abbrev K : ℕ
+  K = r.size
 
-    pub answers : (n : ℕ) → n ≡ answer (frame_refusals form k word next B) → (s : Sixes) → CrcGiven form k frame s → DataChecked form k word next frame n
-    answers n e s c =
-        record {
-          answered = e ∙ sym (behind-is form k frame y (frame_refusals form k word next B));
-          due_right = λ z.
-              let d : next ≡ due_of form k B = eqb-true next (due_of form k B) (not-false _ (last.0 (sym e ∙ z))) in
-              let g : s ≡ crc_of 0 form k B = c.given ∙ ap (λ (m : ℕ). crc_of m form k B) y in
-              subst (Due form k B) (ap (λ (x : Sixes). x.due) g ∙ sym d) (c.due_right (ap (λ (x : Sixes). x.answer) g));
-          due_wrong = λ z d. eqb-false next (due_of form k B) (not-true _ (last.1 (sym e ∙ z))) (due-computed form k frame known next d);
-        }
+  abbrev B : List ℕ
+  B = bits_in r
 
-    pub then-refused : (n : ℕ) → n ≡ answer (frame_refusals form k word next B) → (n ≡ 0 → ⊥) → (s : Sixes) → CrcGiven form k frame s
-        → VerdictGiven form k word next frame (record { answer = n; stuffing = 0; crc = 0 })
-    then-refused zero e h s c = absurd (h refl)
-    then-refused (suc n) e h s c =
-        let a = answers (suc n) e s c in record { given = ap (λ (m : ℕ). verdict_of m form k B) a.answered; checked = a }
+  -- the two directions of the last check
+  last : (answer (frame_refusals F K word next B) ≡ 0 → not (eqb next (due_of F K B)) ≡ false)
+      × (answer (frame_refusals F K word next B) ≡ 7 → not (eqb next (due_of F K B)) ≡ true)
+  last =
+      six-last (t₁ F K word next B) (t₂ F K word next B) (t₃ F K word next B) (t₄ F K word next B) (t₅ F K word next B) (t₆ F K word next B)
 
-    pub found : (t : ℕ) → 0 ≡ answer (frame_refusals form k word next B) → t ≡ stuffed_in form k B → (s : Sixes) → CrcGiven form k frame s
-        → VerdictGiven form k word next frame (record { answer = 0; stuffing = t; crc = s.carried })
-    found t e f s c =
-        let a = answers 0 e s c in
-        let g : s ≡ crc_of 0 form k B = c.given ∙ ap (λ (m : ℕ). crc_of m form k B) y in
-        record {
-          given = ap₂ (λ (x y : ℕ). record { answer = 0; stuffing = x; crc = y }) f (ap (λ (x : Sixes). x.carried) g)
-              ∙ ap (λ (m : ℕ). verdict_of m form k B) a.answered;
-          checked = a;
-        }
+  pub then-answered : (n : ℕ) → n ≡ answer (frame_refusals F K word next B) → DataChecked F K word next r.octets.now n
+  then-answered n e =
+      let bits = bits-bits r.octets.now in
+      record {
+        answered = e ∙ sym (behind-is F K r.octets.now (fits F K r.octets.now (room-fits r)) (frame_refusals F K word next B));
+        due_right = λ z. subst (Due F K B) (sym (eqb-true next (due_of F K B) (not-false _ (last.0 (sym e ∙ z))))) (due F K B bits);
+        due_wrong = λ z d. eqb-false next (due_of F K B) (not-true _ (last.1 (sym e ∙ z))) (due-one F K B bits next d);
+      }
+
+  pub then-refused : (form k : ℕ) (frame : Bor (List ℕ)) (e : Refused) → IsRoomOf form k frame r → StuffingGiven r word next (Err e)
+      → VerdictGiven form k word next frame (Err e)
+  then-refused form k frame e i s =
+      record {
+        given = tt;
+        checked = by-room (λ f n o. DataChecked f n word next o.now (number_of e)) form k frame r i (then-answered (number_of e) s.answered);
+      }
+
+  pub found-right : (form k : ℕ) (frame : Bor (List ℕ)) (n six : ℕ) → IsRoomOf form k frame r → StuffingGiven r word next (Ok n) → six ≡ (carried_by r).crc
+      → VerdictGiven form k word next frame (Ok (record { room = r; stuffing = n; crc = six }))
+  found-right form k frame n six i s e =
+      record {
+        given = record {
+          room_is = i;
+          stuffing_is = by-room (λ f m o. n ≡ (overhead_in f m (bits_of o.now)).stuffing) form k frame r i s.given;
+          crc_is = by-room (λ f m o. six ≡ (overhead_in f m (bits_of o.now)).crc) form k frame r i e;
+        };
+        checked = by-room (λ f m o. DataChecked f m word next o.now 0) form k frame r i (then-answered 0 s.answered);
+      }

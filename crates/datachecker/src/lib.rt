@@ -1,139 +1,124 @@
 // Checking a data-mode frame (002, clause 7.1.5). Places count from 0, and a block has m = 12k bits: place 2m + 35 is bit 24k + 36.
 #![tactic(auto)]
 
-ghost use Rattle.std.specs.Prelude.{◌≡◌, ◌*◌, ◌≤◌, eqb, length};
-ghost use Rattle.answer.specs.Answer.{answer};
-ghost use Rattle.octets.specs.Bits.{value_of, bits_of, part};
-ghost use Rattle.dataframe.specs.Table.{unused, line_bits, room_of};
-ghost use Rattle.dataframe.specs.Frame.{stuffed_in, behind, due_of};
-ghost use Rattle.dataframe.specs.Refusals.{stuffing_right, frame_refusals};
+ghost use Rattle.std.specs.Prelude.{◌≡◌, ◌≤◌, eqb};
+ghost use Rattle.answer.specs.Given.{answer_of};
+ghost use Rattle.octets.specs.Bits.{value_of};
+ghost use Rattle.dataframe.specs.Table.{unused, line_bits};
+ghost use Rattle.dataframe.specs.Frame.{behind, due_of};
+ghost use Rattle.dataframe.specs.Refusals.{stuffing_right};
+ghost use Rattle.dataframe.specs.Rooms.{form_in, bits_in, carried_by};
+ghost use Rattle.datachecker.specs.Judging.{StuffingGiven};
 ghost use Rattle.datachecker.specs.Promises.{DataChecked, VerdictGiven};
 
-// What checking finds: the answer, how many stuffing bits the frame has, and the six check bits that stand in it; with a refusal 0.
-#[derive(Drop)]
-pub struct Verdict {
-    pub answer: u32,
+use answer::Refused;
+use dataframe::{Form, Room};
+
+// What checking finds: the room of a frame that is right, how many stuffing bits the frame has, and the six check bits that stand in it.
+#[derive(Clone, Copy)]
+pub struct Verdict<'a> {
+    pub room: Room<'a>,
     pub stuffing: u32,
     pub crc: u32,
 }
 
-// The bit at a place.
-fn bit(frame: &[u8], at: usize) -> u32
-    ensures { (result ≡ value_of (part at 1 (bits_of frame.now))) × (result ≤ 1) }
-{
-    bitfields::field(frame, at, 1)
-}
-
 // How many stuffing bits sbid1 announces; none in the synchronous form.
-fn announced(form: u32, size: u32, frame: &[u8]) -> u32
-    requires { (form ≤ 1) × (size ≤ 289) × (length frame.now ≡ room_of form) }
-    ensures { (result ≡ stuffed_in form size (bits_of frame.now)) × (result ≤ 4) }
+fn announced(room: Room<'_>) -> u32
+    ensures { (result ≡ (carried_by room.entry).stuffing) × (result ≤ 4) }
 {
-    if form == dataframe::SYNCHRONOUS {
-        return 0;
+    match room.form {
+        Form::Synchronous => 0,
+        Form::Plesiochronous => {
+            let m = room.block() as usize;
+            dataframe::STUFFING * room.piece(m + 23, 1)
+        }
     }
-    let m = (dataframe::SUB_BLOCKS * size) as usize;
-    dataframe::STUFFING * bit(frame, m + 23)
 }
 
 // Whether sbid2 says the same as sbid1, and the stuffing bits that they announce are ONE.
-fn right(form: u32, size: u32, frame: &[u8], stuffing: u32) -> bool
-    requires { (form ≤ 1) × (size ≤ 289) × (length frame.now ≡ room_of form) × (stuffing ≡ stuffed_in form size (bits_of frame.now)) }
-    ensures { result ≡ stuffing_right form size (bits_of frame.now) }
+fn right(room: Room<'_>, stuffing: u32) -> bool
+    requires { stuffing ≡ (carried_by room).stuffing }
+    ensures { result ≡ stuffing_right (form_in room.entry) room.entry.size (bits_in room.entry) }
 {
-    if form == dataframe::SYNCHRONOUS {
-        return true;
+    match room.form {
+        Form::Synchronous => true,
+        Form::Plesiochronous => {
+            let m = room.block() as usize;
+            dataframe::STUFFING * room.piece(2 * m + 35, 1) == stuffing
+                && (stuffing == 0 || room.piece(4 * m + 46, dataframe::STUFFING) == dataframe::ONES)
+        }
     }
-    let m = (dataframe::SUB_BLOCKS * size) as usize;
-    if dataframe::STUFFING * bit(frame, 2 * m + 35) != stuffing {
-        return false;
-    }
-    if stuffing == 0 {
-        return true;
-    }
-    bitfields::field(frame, 4 * m + 46, dataframe::STUFFING) == dataframe::ONES
 }
 
 // The bits of a frame that ends so.
-fn line_bits(form: u32, size: u32, stuffing: u32) -> u32
-    requires { (size ≤ 289) × (stuffing ≤ 4) }
-    ensures { result ≡ line_bits form size stuffing }
+fn line_bits(room: Room<'_>, stuffing: u32) -> u32
+    requires { stuffing ≤ 4 }
+    ensures { result ≡ line_bits (form_in room.entry) room.entry.size stuffing }
 {
-    let last = 48 * size + 46;
-    if form == dataframe::SYNCHRONOUS {
-        return last + 2;
+    let last = 4 * room.block() + 46;
+    match room.form {
+        Form::Synchronous => last + 2,
+        Form::Plesiochronous => last + stuffing,
     }
-    last + stuffing
 }
 
 // Whether the room behind the frame is zero.
-fn clear(form: u32, size: u32, frame: &[u8], stuffing: u32) -> bool
-    requires { (form ≤ 1) × (size ≤ 289) × (length frame.now ≡ room_of form) × (stuffing ≡ stuffed_in form size (bits_of frame.now)) × (stuffing ≤ 4) }
-    ensures { result ≡ eqb (value_of (behind unused form size (bits_of frame.now))) 0 }
+fn clear(room: Room<'_>, stuffing: u32) -> bool
+    requires { (stuffing ≡ (carried_by room).stuffing) × (stuffing ≤ 4) }
+    ensures { result ≡ eqb (value_of (behind unused (form_in room.entry) room.entry.size (bits_in room.entry))) 0 }
 {
-    let n = line_bits(form, size, stuffing);
-    octets::is_clear(frame, n as usize, (8 * frame.len()) as u32 - n)
+    let n = line_bits(room, stuffing);
+    octets::is_clear(room.octets, n as usize, (8 * room.octets.len()) as u32 - n)
 }
 
-// What is wrong with the bits of a frame whose room, form and size are right, or 0: so many stuffing bits are announced, and these six are due.
-fn wrong(form: u32, size: u32, sync: u32, next: u32, frame: &[u8], stuffing: u32, due: u32) -> u32
-    requires { (form ≤ 1) × (size ≤ 289) × (length frame.now ≡ room_of form) × (stuffing ≡ stuffed_in form size (bits_of frame.now)) × (stuffing ≤ 4)
-        × (due ≡ due_of form size (bits_of frame.now)) }
-    ensures { result ≡ answer (frame_refusals form size sync next (bits_of frame.now)) }
+// How many stuffing bits a frame has whose bits are right, where these six are due.
+fn stuffing_of(room: Room<'_>, sync: u32, next: u32, due: u32) -> Result<u32, Refused>
+    requires { due ≡ due_of (form_in room) room.size (bits_in room) }
+    ensures { StuffingGiven room.entry sync next result }
 {
-    if dataframe::SYNCS <= sync {
-        return answer::RANGE;
+    if dataframe::SYNCS <= sync || dataframe::CRCS <= next {
+        return Err(Refused::Range);
     }
-    if dataframe::CRCS <= next {
-        return answer::RANGE;
+    if room.piece(0, dataframe::SYNC_BITS) != sync {
+        return Err(Refused::Sync);
     }
-    if bitfields::field(frame, 0, dataframe::SYNC_BITS) != sync {
-        return answer::SYNC;
+    let stuffing = announced(room);
+    if !right(room, stuffing) {
+        return Err(Refused::Stuffing);
     }
-    if !right(form, size, frame, stuffing) {
-        return answer::STUFFING;
-    }
-    if !clear(form, size, frame, stuffing) {
-        return answer::PAD;
+    if !clear(room, stuffing) {
+        return Err(Refused::Pad);
     }
     if next != due {
-        return answer::CHECK;
+        return Err(Refused::Check);
     }
-    answer::DONE
+    Ok(stuffing)
 }
 
-// What is wrong with a frame, or 0 and what was found on the way.
-pub fn judge(form: u32, size: u32, sync: u32, next: u32, frame: &[u8]) -> Verdict
-    ensures { VerdictGiven form size sync next frame.now result }
+// What is wrong with a frame, or what was found on the way.
+pub fn judge<'a>(
+    form: u32,
+    size: u32,
+    sync: u32,
+    next: u32,
+    frame: &'a [u8],
+) -> Result<Verdict<'a>, Refused>
+    ensures { VerdictGiven form size sync next frame.entry result }
 {
-    let six = datacrc::crc(form, size, frame);
-    let no = six.answer;
-    if no != answer::DONE {
-        return Verdict {
-            answer: no,
-            stuffing: 0,
-            crc: 0,
-        };
-    }
-    let stuffing = announced(form, size, frame);
-    let bad = wrong(form, size, sync, next, frame, stuffing, six.due);
-    if bad != answer::DONE {
-        return Verdict {
-            answer: bad,
-            stuffing: 0,
-            crc: 0,
-        };
-    }
-    Verdict {
-        answer: answer::DONE,
+    let room = datacrc::room(form, size, frame)?;
+    let six = datacrc::sixes_in(room);
+    let stuffing = stuffing_of(room, sync, next, six.due)?;
+    Ok(Verdict {
+        room,
         stuffing,
         crc: six.carried,
-    }
+    })
 }
 
-// What is wrong with a frame, or 0.
-pub fn check(form: u32, size: u32, sync: u32, next: u32, frame: &[u8]) -> u32
-    ensures { DataChecked form size sync next frame.now result }
+// What is wrong with a frame.
+pub fn check(form: u32, size: u32, sync: u32, next: u32, frame: &[u8]) -> Result<(), Refused>
+    ensures { DataChecked form size sync next frame.now (answer_of result) }
 {
-    judge(form, size, sync, next, frame).answer
+    judge(form, size, sync, next, frame)?;
+    Ok(())
 }

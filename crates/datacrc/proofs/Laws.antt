@@ -1,14 +1,11 @@
 -- Laws of the six check bits. Assumes nothing.
 use mathlib.Core.Path.{◌≡◌, refl, sym, ap, ap₂, ◌∙◌, subst}
-use mathlib.Core.Bool.{Bool, true, false, not, ◌&&◌, ◌||◌}
 use mathlib.Core.List.{List, [], ◌++◌, append_assoc, reverse}
-use Prim.Native.Nat.{ℕ, zero, suc, ◌+◌, ◌*◌, ◌^◌, ◌≤◌, ◌<◌}
+use Prim.Native.Nat.{ℕ, ◌+◌, ◌*◌, ◌^◌, ◌≤◌}
 use native.Mathlib.Omega.{arith}
-use borrow.Author.Tests.{lt-leb, eq-eqb, ne_eqb}
-use lib.Dec.{eqb, lit≤}
+use lib.Dec.{lit≤}
 use lib.ListN.{length, drop, length-append, length-drop}
 use lib.Seq.{length-take-le}
-use Rattle.answer.specs.Answer.{answer}
 use Rattle.octets.specs.Bits.{digits_of, value_of, bits_of, part}
 use Rattle.octets.proofs.Digits.{Bits, append_bits, digits_value, value-append}
 use Rattle.octets.proofs.Laws.{bits-length, bits-part}
@@ -17,9 +14,10 @@ use Rattle.remainder.proofs.Division.{computed}
 use Rattle.remainder.proofs.Start.{follows}
 use Rattle.dataframe.specs.Table.{crc, end_width}
 use Rattle.dataframe.specs.Frame.{six_generator, carried, covered, due_of, Due}
-use Rattle.dataframe.specs.Refusals.{is_room, crc_refusals}
-use Rattle.dataframe.proofs.Refused.{fit}
-use Rattle.datacrc.specs.Promises.{crc_of, CrcGiven}
+use Rattle.datacrc.specs.Promises.{SixesGiven}
+use Rattle.dataframe.specs.declared.Room.{Room}
+use Rattle.dataframe.specs.Rooms.{form_in, carried_by, DueIn}
+use Rattle.dataframe.proofs.Rooms.{form-known, room-holds}
 use Rattle.dataframe.proofs.Rows.{crc-is, covered-is}
 
 -- ---- what is left of four runs of bits, each behind the one before
@@ -71,24 +69,6 @@ carried-is s m a b c r h ea eb ec e =
     ∙ six-value (part (m + 20) 2 B) (part (2 * m + 30) 2 B) (part (3 * m + 40) 2 B) (long (m + 20) (omega (arith, h))) (long (2 * m + 30) (omega (arith, h)))
     (long (3 * m + 40) (omega (arith, h))) (bits-part s (m + 20) 2) (bits-part s (2 * m + 30) 2) (bits-part s (3 * m + 40) 2)
 
--- ---- the room of a form
-
-module _ (form n : ℕ) where
-  pub room-first : n ≡ 1740 → not (eqb form 1) ≡ is_room form n
-  room-first e = sym (ap₂ (λ (a b : Bool). (a && not (eqb form 1)) || (b && not (eqb form 0))) (eq-eqb n 1740 e) (ne_eqb n 1741 (λ f. omega (arith, e, f)))
-      ∙ or-false (not (eqb form 1)))
-    where
-      or-false : (b : Bool) → (b || false) ≡ b
-      or-false true = refl
-      or-false false = refl
-
-  pub room-second : n ≡ 1741 → not (eqb form 0) ≡ is_room form n
-  room-second e =
-      sym (ap₂ (λ (a b : Bool). (a && not (eqb form 1)) || (b && not (eqb form 0))) (ne_eqb n 1740 (λ f. omega (arith, e, f))) (eq-eqb n 1741 e))
-
-  pub room-none : (n ≡ 1740 → ⊥) → (n ≡ 1741 → ⊥) → false ≡ is_room form n
-  room-none f g = sym (ap₂ (λ (a b : Bool). (a && not (eqb form 1)) || (b && not (eqb form 0))) (ne_eqb n 1740 f) (ne_eqb n 1741 g))
-
 -- ---- both, of a frame
 
 module _ (form k : ℕ) (frame : List ℕ) (h : form ≤ 1) where
@@ -131,22 +111,34 @@ module _ (form k : ℕ) (frame : List ℕ) (h : form ≤ 1) where
       six-degree : Degree six_generator 6
       six-degree = record { reached = lit≤ tt; within = lit≤ tt }
 
-pub spare-most : (form : ℕ) → end_width form 0 ≤ 2
-spare-most zero = lit≤ tt
-spare-most (suc f) = simp (ne_eqb (suc f) 0 (λ e. omega arith)) (lit≤ {m = 0} {n = 2} tt)
+-- ---- both, in a room whose blocks have m or n bits
 
--- what `crc` gives where nothing is refused
-pub crc-done : (form k : ℕ) (frame : List ℕ) (c d : ℕ) → answer (crc_refusals form k frame) ≡ 0 → c ≡ polynomial (carried crc form k (bits_of frame))
-    → Due form k (bits_of frame) d → CrcGiven form k frame (record { answer = 0; carried = c; due = d })
-crc-done form k frame c d z e f =
-    record {
-      given = ap₂ (λ (x y : ℕ). record { answer = 0; carried = x; due = y }) e (due-computed form k frame (fit form k frame z).known d f)
-          ∙ ap (λ (n : ℕ). crc_of n form k (bits_of frame)) (sym z);
-      due_right = λ o. f;
-    }
+module _ (r : Room) where
+  abbrev K : ℕ
+  K = r.size
 
--- and where something is
-pub crc-refused : (form k : ℕ) (frame : List ℕ) (n : ℕ) → n ≡ answer (crc_refusals form k frame) → (n ≡ 0 → ⊥)
-    → CrcGiven form k frame (record { answer = n; carried = 0; due = 0 })
-crc-refused form k frame zero e h = absurd (h refl)
-crc-refused form k frame (suc n) e h = record { given = ap (λ (m : ℕ). crc_of m form k (bits_of frame)) e; due_right = λ z. absurd (h z) }
+  abbrev S : List ℕ
+  S = r.octets.now
+
+  pub carried-in : (m a b c v : ℕ) → m ≡ 12 * K → a ≡ value_of (part (m + 20) 2 (bits_of S)) → b ≡ value_of (part (2 * m + 30) 2 (bits_of S))
+      → c ≡ value_of (part (3 * m + 40) 2 (bits_of S)) → v ≡ value_of (reverse (digits_of 6 (a + 4 * (b + 4 * c)))) → v ≡ (carried_by r).crc
+  carried-in m a b c v e ea eb ec ev =
+      carried-given (form_in r) K S (form-known r.form) v
+      (subst (λ (x : ℕ). v ≡ polynomial (part (x + 20) 2 (bits_of S) ++ (part (2 * x + 30) 2 (bits_of S) ++ part (3 * x + 40) 2 (bits_of S)))) e
+      (carried-is S m a b c v (omega (arith, e, room-holds r)) ea eb ec ev))
+
+  pub due-in : (n e a b c d : ℕ) → n ≡ 12 * K → e ≡ end_width (form_in r) 0 → RemainderFrom 6 six_generator 0 (part 14 (n + 6) (bits_of S)) a
+      → RemainderFrom 6 six_generator a (part (n + 22) (n + 8) (bits_of S)) b → RemainderFrom 6 six_generator b (part (2 * n + 32) (n + 8) (bits_of S)) c
+      → RemainderFrom 6 six_generator c (part (3 * n + 42) (n + 4 + e) (bits_of S)) d → DueIn r d
+  due-in n e a b c d l t f g h i =
+      due-given (form_in r) K S (form-known r.form) d e t
+      (subst (λ (x : ℕ). Remainder 6 six_generator (part 14 (x + 6) (bits_of S) ++ (part (x + 22) (x + 8) (bits_of S)
+      ++ (part (2 * x + 32) (x + 8) (bits_of S) ++ part (3 * x + 42) (x + 4 + e) (bits_of S)))) d) l
+      (due-is S n e a b c d f g h i))
+
+  pub sixes-are : (c d : ℕ) → c ≡ (carried_by r).crc → DueIn r d → SixesGiven r (record { carried = c; due = d })
+  sixes-are c d e f =
+      record {
+        given = ap₂ (λ (x y : ℕ). record { carried = x; due = y }) e (due-computed (form_in r) K S (form-known r.form) d f);
+        due_right = f;
+      }

@@ -2,21 +2,25 @@
 // from 0, and a block has m or n = 12k bits: place m + 20 is bit 12k + 21.
 #![tactic(auto)]
 
-ghost use Rattle.std.specs.Prelude.{◌≡◌, ◌++◌, ◌+◌, ◌*◌, ◌^◌, ◌<◌, ◌≤◌, length};
-ghost use Rattle.octets.specs.Bits.{value_of, bits_of, part};
-ghost use Rattle.remainder.specs.Division.{Remainder, RemainderFrom, polynomial};
+ghost use Rattle.std.specs.Prelude.{◌≡◌, ◌^◌, ◌<◌};
+ghost use Rattle.octets.specs.Bits.{bits_of, part};
+ghost use Rattle.remainder.specs.Division.{RemainderFrom};
 ghost use Rattle.dataframe.specs.Table.{end_width};
+ghost use Rattle.dataframe.specs.Forms.{form_number};
 ghost use Rattle.dataframe.specs.Frame.{six_generator};
 ghost use Rattle.dataframe.specs.Refusals.{is_room};
-ghost use Rattle.datacrc.specs.Promises.{RoomChecked, CrcGiven};
+ghost use Rattle.dataframe.specs.Rooms.{DueIn, carried_by};
+ghost use Rattle.datacrc.specs.Promises.{RoomChecked, SixesGiven, CrcGiven};
+
+use answer::Refused;
+use dataframe::{Form, Room};
 
 // The generator's degree: so many check bits.
 const DEGREE: u32 = 6;
 
-// What `crc` gives: the answer, the six that stand in the frame, and the six that the next frame has to carry. crc1 weighs 32.
-#[derive(Drop)]
+// The six that stand in a frame, and the six that the next frame has to carry. crc1 weighs 32.
+#[derive(Clone, Copy)]
 pub struct Sixes {
-    pub answer: u32,
     pub carried: u32,
     pub due: u32,
 }
@@ -29,37 +33,36 @@ fn left(start: u32, frame: &[u8], at: usize, n: u32) -> u32
     remainder::from_start(remainder::SIX, remainder::SIX_DEGREE, start, frame, at, n).unwrap()
 }
 
-// What is left of the covered bits, where a block has n bits and `spare` bits stand behind the last: the bits between sync, the three pairs of
-// check bits, and the end.
-fn due(frame: &[u8], n: u32, spare: u32) -> u32
-    requires { (n ≤ 3468) × (spare ≤ 2) }
-    ensures { Remainder 6 six_generator
-        (part 14 (n + 6) (bits_of frame.now) ++ (part (n + 22) (n + 8) (bits_of frame.now)
-        ++ (part (2 * n + 32) (n + 8) (bits_of frame.now) ++ part (3 * n + 42) (n + 4 + spare) (bits_of frame.now)))) result }
+// The spare bits behind the last payload bit.
+fn spare(form: Form) -> u32
+    ensures { result ≡ end_width (form_number form) 0 }
 {
-    let m = n as usize;
-    let first = left(0, frame, 14, n + 6);
-    let second = left(first, frame, m + 22, n + 8);
-    let third = left(second, frame, 2 * m + 32, n + 8);
-    left(third, frame, 3 * m + 42, n + 4 + spare)
+    match form {
+        Form::Synchronous => 2,
+        Form::Plesiochronous => 0,
+    }
 }
 
-// The two bits from a place on.
-fn pair(frame: &[u8], at: usize) -> u32
-    ensures { (result ≡ value_of (part at 2 (bits_of frame.now))) × (result < 4) }
+// What is left of the covered bits: those between sync, the three pairs of check bits, and the end.
+fn due(room: Room<'_>) -> u32
+    ensures { DueIn room.entry result }
 {
-    bitfields::field(frame, at, 2)
+    let n = room.block();
+    let m = n as usize;
+    let first = left(0, room.octets, 14, n + 6);
+    let second = left(first, room.octets, m + 22, n + 8);
+    let third = left(second, room.octets, 2 * m + 32, n + 8);
+    left(third, room.octets, 3 * m + 42, n + 4 + spare(room.form))
 }
 
 // The six that stand in the frame, two behind each of the first three blocks.
-fn carried(frame: &[u8], m: usize) -> u32
-    requires { (m ≤ 3468) × (3 * m + 42 ≤ 8 * length frame.now) }
-    ensures { result ≡ polynomial (part (m + 20) 2 (bits_of frame.now) ++ (part (2 * m + 30) 2 (bits_of frame.now)
-        ++ part (3 * m + 40) 2 (bits_of frame.now))) }
+fn carried(room: Room<'_>) -> u32
+    ensures { result ≡ (carried_by room.entry).crc }
 {
-    let first = pair(frame, m + 20);
-    let second = pair(frame, 2 * m + 30);
-    let third = pair(frame, 3 * m + 40);
+    let m = room.block() as usize;
+    let first = room.piece(m + 20, 2);
+    let second = room.piece(2 * m + 30, 2);
+    let third = room.piece(3 * m + 40, 2);
     bitfields::turned(DEGREE, first + 4 * (second + 4 * third))
 }
 
@@ -67,57 +70,41 @@ fn carried(frame: &[u8], m: usize) -> u32
 fn is_room(form: u32, octets: usize) -> bool
     ensures { result ≡ is_room form octets }
 {
-    if octets == dataframe::SYNCHRONOUS_OCTETS {
-        return form != dataframe::PLESIOCHRONOUS;
+    match octets {
+        dataframe::SYNCHRONOUS_OCTETS => form != dataframe::PLESIOCHRONOUS,
+        dataframe::PLESIOCHRONOUS_OCTETS => form != dataframe::SYNCHRONOUS,
+        _ => false,
     }
-    if octets == dataframe::PLESIOCHRONOUS_OCTETS {
-        return form != dataframe::SYNCHRONOUS;
-    }
-    false
 }
 
-// What is wrong with a room, a form and a size, or 0.
-pub fn refusal(form: u32, size: u32, frame: &[u8]) -> u32
-    ensures { RoomChecked form size frame.now result }
+// A room whose length, form and size are right.
+pub fn room<'a>(form: u32, size: u32, octets: &'a [u8]) -> Result<Room<'a>, Refused>
+    ensures { RoomChecked form size octets.entry result }
 {
-    if !is_room(form, frame.len()) {
-        return answer::LENGTH;
+    if !is_room(form, octets.len()) {
+        return Err(Refused::Length);
     }
-    if dataframe::PLESIOCHRONOUS < form {
-        return answer::UNKNOWN;
+    let form = Form::try_from(form)?;
+    if !(dataframe::SMALLEST..=dataframe::LARGEST).contains(&size) {
+        return Err(Refused::Range);
     }
-    if size < dataframe::SMALLEST {
-        return answer::RANGE;
-    }
-    if dataframe::LARGEST < size {
-        return answer::RANGE;
-    }
-    answer::DONE
-}
-
-// The spare bits behind the last payload bit.
-fn spare(form: u32) -> u32
-    ensures { result ≡ end_width form 0 }
-{
-    if form == dataframe::SYNCHRONOUS { 2 } else { 0 }
+    Ok(Room { form, size, octets })
 }
 
 // The six that stand in a frame and the six due in the next one. Sync, stuffing bits and the room behind the frame are not looked at.
-pub fn crc(form: u32, size: u32, frame: &[u8]) -> Sixes
+pub fn sixes_in(room: Room<'_>) -> Sixes
+    ensures { SixesGiven room.entry result }
+{
+    Sixes {
+        carried: carried(room),
+        due: due(room),
+    }
+}
+
+// The same, where room, form and size are right.
+pub fn crc(form: u32, size: u32, frame: &[u8]) -> Result<Sixes, Refused>
     ensures { CrcGiven form size frame.now result }
 {
-    let no = refusal(form, size, frame);
-    if no != answer::DONE {
-        return Sixes {
-            answer: no,
-            carried: 0,
-            due: 0,
-        };
-    }
-    let n = dataframe::SUB_BLOCKS * size;
-    Sixes {
-        answer: answer::DONE,
-        carried: carried(frame, n as usize),
-        due: due(frame, n, spare(form)),
-    }
+    let room = room(form, size, frame)?;
+    Ok(sixes_in(room))
 }

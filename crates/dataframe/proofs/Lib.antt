@@ -1,5 +1,6 @@
 pub mod Rows
 pub mod Refused
+pub mod Rooms
 pub mod Streams
 pub mod RoundTrip
 pub mod Order

@@ -1,7 +1,13 @@
 // The data-mode frame's measures (002, clauses 7.1.2 to 7.1.5). What they mean is in specs/: one table gives every place.
 #![tactic(auto)]
 
-// The two forms.
+ghost use Rattle.std.specs.Prelude.{◌≡◌, ◌≤◌, length};
+ghost use Rattle.dataframe.specs.Table.{smallest, largest, room_of};
+ghost use Rattle.dataframe.specs.Forms.{form_number};
+
+use answer::Refused;
+
+// The two forms' numbers.
 pub const SYNCHRONOUS: u32 = 0;
 
 pub const PLESIOCHRONOUS: u32 = 1;
@@ -52,4 +58,56 @@ pub struct Overhead {
     pub stuffing: u32,
     // crc1 to crc6, as they stand in the frame: those of the frame before it.
     pub crc: u32,
+}
+
+// The two forms: the line's clock is locked to that of payload, or stuffing bits make up for what it is not.
+#[derive(Clone, Copy, PartialEq, Eq)]
+pub enum Form {
+    Synchronous,
+    Plesiochronous,
+}
+
+impl TryFrom<u32> for Form {
+    type Error = Refused;
+
+    ghost use Rattle.dataframe.specs.Forms.{FormGiven};
+
+    ghost try_from_gives = { FormGiven };
+
+    fn try_from(number: u32) -> Result<Form, Refused> {
+        match number {
+            SYNCHRONOUS => Ok(Form::Synchronous),
+            PLESIOCHRONOUS => Ok(Form::Plesiochronous),
+            _ => Err(Refused::Unknown),
+        }
+    }
+}
+
+// A frame's octets, or room for it, with a form and a size: all three are right.
+#[derive(Clone, Copy)]
+pub struct Room<'a> {
+    pub form: Form,
+    pub size: u32,
+    pub octets: &'a [u8],
+    pub ghost least: { smallest ≤ size },
+    pub ghost most: { size ≤ largest },
+    pub ghost whole: { length octets.now ≡ room_of (form_number form) },
+}
+
+impl<'a> Room<'a> {
+    ghost use Rattle.dataframe.specs.Rooms.{BlockGiven, PieceRead};
+
+    // The bits of one of the four payload blocks.
+    pub fn block(self) -> u32
+        ensures { BlockGiven self.entry result }
+    {
+        SUB_BLOCKS * self.size
+    }
+
+    // The w bits from a place on, the first lowest.
+    pub fn piece(self, at: usize, w: u32) -> u32
+        ensures { PieceRead self.entry at w result }
+    {
+        bitfields::field(self.octets, at, w)
+    }
 }

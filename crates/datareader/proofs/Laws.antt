@@ -1,20 +1,25 @@
 -- Laws of reading a data-mode frame. Assumes nothing.
-use mathlib.Core.Path.{◌≡◌, sym, ap, ap₂, ◌∙◌}
+use mathlib.Core.Path.{◌≡◌, sym, ap, ap₂, ◌∙◌, subst}
 use mathlib.Core.List.{List, ◌++◌}
-use Prim.Native.Nat.{ℕ, zero, suc, ◌+◌, ◌*◌, ◌^◌, ◌≤◌}
+use Prim.Native.Nat.{ℕ, ◌+◌, ◌*◌, ◌^◌, ◌≤◌}
 use native.Mathlib.Nat.{add_comm, mul_comm}
 use native.Mathlib.Omega.{arith}
 use lib.ListN.{length, drop, length-append, length-drop}
 use lib.Seq.{length-take-le}
 use Rattle.octets.specs.Bits.{value_of, bits_of, octets_of, part, laid}
-use Rattle.octets.proofs.Digits.{Bits, value-append}
+use Rattle.octets.proofs.Digits.{Bits, value-append, no_value}
 use Rattle.octets.proofs.Laws.{bits-length, bits-part, laid_next, laid_end}
 use Rattle.remainder.specs.Division.{polynomial}
 use Rattle.dataframe.specs.declared.Overhead.{Overhead}
-use Rattle.dataframe.specs.Table.{indicators, eoc, spare, crc, room_of}
+use Rattle.dataframe.specs.Table.{indicators, eoc, spare, crc}
 use Rattle.dataframe.specs.Frame.{carried, stuffed_in, overhead_in, payload_in}
 use Rattle.dataframe.proofs.Rows.{indicators-are, eoc-is, spare-is, no-spare, payload-is}
-use Rattle.datareader.specs.Reading.{spare_bits}
+use Rattle.dataframe.specs.declared.Form.{Form}
+use Rattle.dataframe.specs.declared.Form.TheVariants.{Synchronous, Plesiochronous}
+use Rattle.dataframe.specs.declared.Room.{Room}
+use Rattle.dataframe.specs.Forms.{form_number}
+use Rattle.dataframe.specs.Rooms.{form_in, carried_by, payload_at}
+use Rattle.dataframe.proofs.Rooms.{form-known, room-holds}
 
 -- ---- numbers of pieces: the first w bits, and the value of the rest above them
 
@@ -123,18 +128,60 @@ module _ (form k : ℕ) (bits : List ℕ) (h : form ≤ 1) where
       ++ part (y + 46) (12 * k) bits)))) twice thrice
       ∙ ap₂ octets_of l (sym (payload-is k bits form h))
 
-pub spare-in : (form k : ℕ) (bits : List ℕ) → form ≤ 1 → (r : ℕ) → r ≡ value_of (spare_bits form (12 * k) bits) → r ≡ value_of (carried spare form k bits)
-spare-in zero k bits h r e =
-    let p : 2 * (12 * k) ≡ 24 * k = omega arith in
-    let q : 4 * (12 * k) ≡ 48 * k = omega arith in
-    e ∙ ap₂ (λ (x y : ℕ). value_of (part (12 * k + 23) 1 bits ++ (part (x + 35) 1 bits ++ part (y + 46) 2 bits))) p q ∙ ap value_of (sym (spare-is k bits))
-spare-in (suc zero) k bits h r e = e ∙ ap value_of (sym (no-spare k bits))
-spare-in (suc (suc f)) k bits h r e = absurd (omega arith)
+-- ---- in a room whose blocks have m bits
 
-pub room-holds : (form k : ℕ) (frame : List ℕ) → form ≤ 1 → k ≤ 289 → length frame ≡ room_of form → 4 * (12 * k) + 46 ≤ 8 * length frame
-room-holds zero k frame h m l = omega (arith, l, m)
-room-holds (suc zero) k frame h m l = omega (arith, l, m)
-room-holds (suc (suc f)) k frame h m l = absurd (omega arith)
+module _ (r : Room) (m : ℕ) (l : m ≡ 12 * r.size) where
+  abbrev K : ℕ
+  K = r.size
+
+  abbrev S : List ℕ
+  S = r.octets.now
+
+  holds : 4 * m + 46 ≤ 8 * length S
+  holds = omega (arith, l, room-holds r)
+
+  pub indicators-read : (a b c : ℕ) → a ≡ value_of (part 14 2 (bits_of S)) → b ≡ value_of (part (m + 22) 1 (bits_of S)) → c ≡ value_of (part (2 * m + 32) 1 (bits_of S))
+      → a + 4 * (b + 2 * c) ≡ (carried_by r).indicators
+  indicators-read a b c e f g =
+      let v = a + 4 * (b + 2 * c) in
+      indicators-in (form_in r) K (bits_of S) (form-known r.form) v
+      (subst (λ (x : ℕ). v ≡ value_of (part 14 2 (bits_of S) ++ (part (x + 22) 1 (bits_of S) ++ part (2 * x + 32) 1 (bits_of S)))) l
+      (indicators-value S m holds a b c e f g))
+
+  pub eoc-read : (a b c d e f : ℕ) → a ≡ value_of (part (m + 16) 4 (bits_of S)) → b ≡ value_of (part (m + 24) 2 (bits_of S))
+      → c ≡ value_of (part (2 * m + 26) 4 (bits_of S)) → d ≡ value_of (part (2 * m + 33) 2 (bits_of S)) → e ≡ value_of (part (3 * m + 36) 4 (bits_of S))
+      → f ≡ value_of (part (3 * m + 42) 4 (bits_of S)) → a + 16 * (b + 4 * (c + 16 * (d + 4 * (e + 16 * f)))) ≡ (carried_by r).eoc
+  eoc-read a b c d e f ea eb ec ed ee ef =
+      let v = a + 16 * (b + 4 * (c + 16 * (d + 4 * (e + 16 * f)))) in
+      eoc-in (form_in r) K (bits_of S) (form-known r.form) v
+      (subst (λ (x : ℕ). v ≡ value_of (part (x + 16) 4 (bits_of S) ++ (part (x + 24) 2 (bits_of S) ++ (part (2 * x + 26) 4 (bits_of S)
+      ++ (part (2 * x + 33) 2 (bits_of S) ++ (part (3 * x + 36) 4 (bits_of S) ++ part (3 * x + 42) 4 (bits_of S))))))) l
+      (eoc-value S m holds a b c d e f ea eb ec ed ee ef))
+
+  pub spare-read : r.form ≡ Synchronous → (a b c : ℕ) → a ≡ value_of (part (m + 23) 1 (bits_of S)) → b ≡ value_of (part (2 * m + 35) 1 (bits_of S))
+      → c ≡ value_of (part (4 * m + 46) 2 (bits_of S)) → a + 2 * (b + 2 * c) ≡ (carried_by r).spare
+  spare-read p a b c e f g =
+      let x : m + 23 ≡ 12 * K + 23 = omega (arith, l) in
+      let y : 2 * m + 35 ≡ 24 * K + 35 = omega (arith, l) in
+      let z : 4 * m + 46 ≡ 48 * K + 46 = omega (arith, l) in
+      spare-value S m holds a b c e f g
+      ∙ ap₂ (λ (i j : ℕ). value_of (part i 1 (bits_of S) ++ (part j 1 (bits_of S) ++ part (4 * m + 46) 2 (bits_of S)))) x y
+      ∙ ap (λ (i : ℕ). value_of (part (12 * K + 23) 1 (bits_of S) ++ (part (24 * K + 35) 1 (bits_of S) ++ part i 2 (bits_of S)))) z
+      ∙ ap value_of (sym (spare-is K (bits_of S)))
+      ∙ ap (λ (x : Form). value_of (carried spare (form_number x) K (bits_of S))) (sym p)
+
+  pub payload-read : (p p₁ p₂ p₃ p₄ : List ℕ) → length p ≡ 6 * K → p₁ ≡ laid p 0 (part 16 m (bits_of S)) → p₂ ≡ laid p₁ m (part (m + 26) m (bits_of S))
+      → p₃ ≡ laid p₂ (2 * m) (part (2 * m + 36) m (bits_of S)) → p₄ ≡ laid p₃ (3 * m) (part (3 * m + 46) m (bits_of S)) → p₄ ≡ payload_at r
+  payload-read p p₁ p₂ p₃ p₄ h e₁ e₂ e₃ e₄ =
+      payload-in (form_in r) K (bits_of S) (form-known r.form) p₄ (length p) h
+      (subst (λ (x : ℕ). p₄ ≡ octets_of (length p) (part 16 x (bits_of S) ++ (part (x + 26) x (bits_of S) ++ (part (2 * x + 36) x (bits_of S)
+      ++ part (3 * x + 46) x (bits_of S))))) l
+      (payload-laid p S m (omega (arith, h, l)) holds p₁ p₂ p₃ p₄ e₁ e₂ e₃ e₄))
+
+pub no-spare-read : (r : Room) → r.form ≡ Plesiochronous → 0 ≡ (carried_by r).spare
+no-spare-read r p =
+    sym no_value ∙ ap value_of (sym (no-spare r.size (bits_of r.octets.now)))
+    ∙ ap (λ (x : Form). value_of (carried spare (form_number x) r.size (bits_of r.octets.now))) (sym p)
 
 pub overhead-is : (form k : ℕ) (bits : List ℕ) (i e s t c : ℕ) → i ≡ value_of (carried indicators form k bits) → e ≡ value_of (carried eoc form k bits)
     → s ≡ value_of (carried spare form k bits) → t ≡ stuffed_in form k bits → c ≡ polynomial (carried crc form k bits)

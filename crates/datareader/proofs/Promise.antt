@@ -1,94 +1,71 @@
 -- What `read` gives and leaves is its promise. Assumes nothing.
-use mathlib.Core.Path.{◌≡◌, refl, sym, ap, ◌∙◌, subst}
+use mathlib.Core.Path.{◌≡◌, sym, ap, ◌∙◌}
 use mathlib.Core.Bool.{not}
 use mathlib.Core.List.{List}
-use Prim.Native.Nat.{ℕ, zero, suc, ◌*◌}
+use Prim.Native.Nat.{ℕ, ◌*◌}
 use native.Mathlib.Omega.{arith}
+use denote.Ref.{Bor}
 use borrow.Author.Tests.{eq-eqb, ne_eqb}
 use lib.ListN.{length}
-use Rattle.answer.specs.Answer.{Refusal, answer, held}
-use Rattle.answer.proofs.Laws.{refused, passed}
+use Rattle.std.specs.Prelude.{Ok, Err}
+use Rattle.answer.specs.declared.Refused.{Refused}
+use Rattle.answer.specs.declared.Refused.TheVariants.{Length}
+use Rattle.answer.specs.Given.{number_of}
+use Rattle.answer.specs.Answer.{Refusal, answer}
+use Rattle.answer.proofs.Laws.{refused, passed, kept, given}
+use Rattle.answer.proofs.Given.{refused-number}
 use Rattle.octets.specs.Bits.{bits_of}
-use Rattle.remainder.specs.Division.{polynomial}
-use Rattle.dataframe.specs.declared.Overhead.{Overhead}
-use Rattle.dataframe.specs.Table.{crc}
-use Rattle.dataframe.specs.Frame.{carried, stuffed_in, overhead_in, payload_in, Due}
-use Rattle.dataframe.specs.Refusals.{crc_refusals, frame_refusals, check_refusals, read_refusals}
-use Rattle.dataframe.proofs.Refused.{Fit, fit}
+use Rattle.dataframe.specs.Frame.{overhead_in, payload_in, Due}
+use Rattle.dataframe.specs.Refusals.{check_refusals, read_refusals}
+use Rattle.dataframe.specs.Rooms.{carried_by, payload_at}
+use Rattle.dataframe.proofs.Rooms.{by-room}
 use Rattle.datachecker.specs.declared.Verdict.{Verdict}
-use Rattle.datachecker.specs.Promises.{verdict_of, VerdictGiven}
-use Rattle.datareader.specs.declared.Found.{Found}
-use Rattle.datareader.specs.Promises.{no_overhead, found_of, DataRead}
+use Rattle.datachecker.specs.Promises.{DataChecked, Found}
+use Rattle.datareader.specs.Promises.{DataRead}
+use Rattle.datareader.proofs.Laws.{overhead-is}
 
-module _ (form k word next : ℕ) (frame octets : List ℕ) where
+module _ (form k word next : ℕ) (frame : Bor (List ℕ)) (octets : List ℕ) where
   abbrev R : List Refusal
-  R = read_refusals form k word next frame octets
+  R = read_refusals form k word next frame.now octets
 
   abbrev S : List Refusal
-  S = check_refusals form k word next frame
+  S = check_refusals form k word next frame.now
 
   abbrev B : List ℕ
-  B = bits_of frame
+  B = bits_of frame.now
 
   long : length octets ≡ 6 * k → answer R ≡ answer S
   long h = passed 1 S (ap not (eq-eqb (length octets) (6 * k) h))
 
-  refused-with : (n : ℕ) → n ≡ answer R → (n ≡ 0 → ⊥) → (n ≡ 7 → Due form k B next → ⊥)
-      → DataRead form k word next frame octets (record { answer = n; overhead = no_overhead }) octets
-  refused-with zero e h w = absurd (h refl)
-  refused-with (suc n) e h w =
+  refused-with : (e : Refused) → number_of e ≡ answer R → (number_of e ≡ 7 → Due form k B next → ⊥) → DataRead form k word next frame.now octets (Err e) octets
+  refused-with e h w =
+      let p = refused-number e in
       record {
-        found = ap (λ (m : ℕ). found_of m form k B) e;
-        payload_left = ap (λ (m : ℕ). held m octets (payload_in form k B)) e;
-        due_right = λ z. absurd (h z);
+        answered = h;
+        found = tt;
+        payload_left = sym (kept (answer R) octets (payload_in form k B) (λ z. omega (arith, h, p, z)));
+        due_right = λ z. absurd (omega (arith, p, z));
         due_wrong = w;
       }
 
-  pub short : (length octets ≡ 6 * k → ⊥) → (r : Found) → r ≡ record { answer = 1; overhead = no_overhead } → DataRead form k word next frame octets r octets
-  short h r e =
-      subst (λ (x : Found). DataRead form k word next frame octets x octets) (sym e)
-      (refused-with 1 (sym (refused 1 S (ap not (ne_eqb (length octets) (6 * k) h)))) (λ z. omega (arith, z)) (λ z. absurd (omega (arith, z))))
+  pub short : (length octets ≡ 6 * k → ⊥) → DataRead form k word next frame.now octets (Err Length) octets
+  short h = refused-with Length (sym (refused 1 S (ap not (ne_eqb (length octets) (6 * k) h)))) (λ z. absurd (omega (arith, z)))
 
-  pub wrong : length octets ≡ 6 * k → (v : Verdict) → VerdictGiven form k word next frame v → (v.answer ≡ 0 → ⊥)
-      → (r : Found) → r ≡ record { answer = v.answer; overhead = no_overhead } → DataRead form k word next frame octets r octets
-  wrong l v g h r e =
-      subst (λ (x : Found). DataRead form k word next frame octets x octets) (sym e)
-      (refused-with v.answer (g.checked.answered ∙ sym (long l)) h g.checked.due_wrong)
+  pub wrong : length octets ≡ 6 * k → (e : Refused) → DataChecked form k word next frame.now (number_of e) → DataRead form k word next frame.now octets (Err e) octets
+  wrong l e c = refused-with e (c.answered ∙ sym (long l)) c.due_wrong
 
-  -- nothing is refused
-  module _ (v : Verdict) (g : VerdictGiven form k word next frame v) (z : v.answer ≡ 0) where
-    none_is : answer S ≡ 0
-    none_is = sym g.checked.answered ∙ z
-
-    v-is : v ≡ verdict_of 0 form k B
-    v-is = g.given ∙ ap (λ (m : ℕ). verdict_of m form k B) none_is
-
-    pub right : Fit form k frame
-    right = fit form k frame (first (answer (crc_refusals form k frame)) refl)
-      where
-        first : (n : ℕ) → answer (crc_refusals form k frame) ≡ n → n ≡ 0
-        first zero e = refl
-        first (suc n) e = absurd (never (stopped-is (λ y. omega (arith, e, y))))
-          where
-            stopped-is : (answer (crc_refusals form k frame) ≡ 0 → ⊥) → answer S ≡ answer (crc_refusals form k frame)
-            stopped-is = Rattle.answer.proofs.Laws.stopped (crc_refusals form k frame) (frame_refusals form k word next B)
-
-            never : answer S ≡ answer (crc_refusals form k frame) → ⊥
-            never f = omega (arith, f, e, none_is)
-
-    pub stuffing-found : v.stuffing ≡ stuffed_in form k B
-    stuffing-found = ap (λ (x : Verdict). x.stuffing) v-is
-
-    pub crc-found : v.crc ≡ polynomial (carried crc form k B)
-    crc-found = ap (λ (x : Verdict). x.crc) v-is
-
-    pub done : length octets ≡ 6 * k → (o : Overhead) (exit : List ℕ) → o ≡ overhead_in form k B → exit ≡ payload_in form k B
-        → DataRead form k word next frame octets (record { answer = 0; overhead = o }) exit
-    done l o exit e f =
-        let y : 0 ≡ answer R = sym (long l ∙ none_is) in
-        record {
-          found = ap (λ (x : Overhead). record { answer = 0; overhead = x }) e ∙ ap (λ (m : ℕ). found_of m form k B) y;
-          payload_left = f ∙ ap (λ (m : ℕ). held m octets (payload_in form k B)) y;
-          due_right = λ w. g.checked.due_right z;
-          due_wrong = λ w. absurd (omega (arith, w));
-        }
+  pub done : length octets ≡ 6 * k → (v : Verdict) → Found form k frame v → DataChecked form k word next frame.now 0
+      → (i e s : ℕ) (exit : List ℕ) → i ≡ (carried_by v.room).indicators → e ≡ (carried_by v.room).eoc → s ≡ (carried_by v.room).spare → exit ≡ payload_at v.room
+      → DataRead form k word next frame.now octets (Ok (record { indicators = i; eoc = e; spare = s; stuffing = v.stuffing; crc = v.crc })) exit
+  done l v f c i e s exit ei ee es ex =
+      let y : 0 ≡ answer R = c.answered ∙ sym (long l) in
+      let x = by-room (λ f m o. exit ≡ payload_in f m (bits_of o.now)) form k frame v.room f.room_is ex in
+      record {
+        answered = y;
+        found = overhead-is form k B i e s v.stuffing v.crc (by-room (λ f m o. i ≡ (overhead_in f m (bits_of o.now)).indicators) form k frame v.room f.room_is ei)
+            (by-room (λ f m o. e ≡ (overhead_in f m (bits_of o.now)).eoc) form k frame v.room f.room_is ee)
+            (by-room (λ f m o. s ≡ (overhead_in f m (bits_of o.now)).spare) form k frame v.room f.room_is es) f.stuffing_is f.crc_is;
+        payload_left = x ∙ sym (given (answer R) octets (payload_in form k B) (sym y));
+        due_right = λ z. c.due_right z;
+        due_wrong = λ w. absurd (omega (arith, w));
+      }

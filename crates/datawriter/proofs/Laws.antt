@@ -16,6 +16,9 @@ use Rattle.octets.proofs.Laws.{bits-length, bits-part, laid_next, laid_end}
 use Rattle.octets.proofs.Turn.{turn-digits}
 use Rattle.octets.proofs.Words.{digits-drop, digits-join}
 use Rattle.remainder.specs.Division.{check_bits}
+use Rattle.dataframe.specs.declared.Form.{Form}
+use Rattle.dataframe.specs.declared.Form.TheVariants.{Synchronous, Plesiochronous}
+use Rattle.dataframe.specs.Forms.{form_number}
 use Rattle.dataframe.specs.declared.Overhead.{Overhead}
 use Rattle.dataframe.specs.Frame.{mark_of}
 use Rattle.dataframe.specs.Refusals.{is_stuffing}
@@ -185,3 +188,15 @@ module _ (word : ℕ) (o : Overhead) (m : Marks) (c : ℕ) (t : c ≡ value_of (
         end_is = refl;
         ends_is = refl;
       }
+
+-- ---- by the form itself
+
+pub marks-synchronous : (f : Form) (spare stuffed : ℕ) → f ≡ Synchronous
+    → MarksOf (form_number f) spare stuffed (record { first = spare; second = spare / 2; end = spare / 4; ends = 2 })
+marks-synchronous f spare stuffed p = marks-first (form_number f) spare stuffed (ap form_number p)
+
+pub marks-plesiochronous : (f : Form) (spare stuffed : ℕ) → f ≡ Plesiochronous → is_stuffing (form_number f) stuffed ≡ true
+    → MarksOf (form_number f) spare stuffed (record { first = stuffed / 4; second = stuffed / 4; end = 15; ends = stuffed })
+marks-plesiochronous f spare stuffed p h =
+    let o : form_number f ≡ 1 = ap form_number p in
+    marks-second (form_number f) spare stuffed (λ z. omega (arith, o, z)) h

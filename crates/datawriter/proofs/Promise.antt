@@ -1,23 +1,25 @@
 -- What `write` answers and leaves is its promise. Assumes nothing.
-use mathlib.Core.Path.{◌≡◌, refl, sym, ap, ◌∙◌, subst}
+use mathlib.Core.Path.{◌≡◌, sym, ap, ◌∙◌, subst}
+use native.Mathlib.Omega.{arith}
 use mathlib.Core.Bool.{true, not, ◌&&◌}
 use mathlib.Core.List.{List, ◌++◌}
-use Prim.Native.Nat.{ℕ, zero, suc, ◌*◌, ◌^◌, ◌≤◌}
+use Prim.Native.Nat.{ℕ, ◌*◌, ◌^◌}
 use borrow.Author.Tests.{eq-eqb, ne_eqb, not-false}
 use lib.Dec.{eqb, leb}
 use lib.ListN.{length, drop}
-use Rattle.octets.proofs.Laws.{octets-length}
-use Rattle.answer.specs.Answer.{Refusal, answer, held}
-use Rattle.answer.proofs.Laws.{none, refused, passed, stopped}
+use Rattle.answer.specs.Answer.{Refusal, answer}
+use Rattle.answer.proofs.Laws.{none, refused, passed, stopped, kept, given as held-given}
 use Rattle.octets.specs.Bits.{bits_of}
 use Rattle.dataframe.specs.declared.Overhead.{Overhead}
-use Rattle.dataframe.specs.Table.{room_of}
-use Rattle.dataframe.specs.Frame.{data_bits, data_octets, due_of}
+use Rattle.dataframe.specs.Frame.{data_octets, due_of, Due}
 use Rattle.dataframe.specs.Refusals.{is_stuffing, crc_refusals, value_refusals, write_refusals}
-use Rattle.dataframe.proofs.Refused.{Fit, fit, fits, behind-is}
-use Rattle.datacrc.specs.declared.Sixes.{Sixes}
-use Rattle.datacrc.specs.Promises.{crc_of, CrcGiven}
-use Rattle.datawriter.specs.Promises.{written_of, DataWritten}
+use Rattle.dataframe.proofs.Refused.{behind-is}
+use Rattle.std.specs.Prelude.{Ok, Err}
+use Rattle.answer.specs.declared.Refused.{Refused}
+use Rattle.answer.specs.declared.Refused.TheVariants.{Length}
+use Rattle.answer.specs.Given.{number_of}
+use Rattle.answer.proofs.Given.{refused-number}
+use Rattle.datawriter.specs.Promises.{DataWritten}
 
 -- numbers that are not refused have stuffing of their form
 pub stuffing-right : (form word : ℕ) (o : Overhead) → answer (value_refusals form word o) ≡ 0 → is_stuffing form o.stuffing ≡ true
@@ -37,41 +39,49 @@ module _ (form k word : ℕ) (o : Overhead) (octets frame : List ℕ) where
   abbrev exact : List ℕ
   exact = data_octets form k word o octets
 
-  pub short : (length octets ≡ 6 * k → ⊥) → 1 ≡ answer R
-  short h = sym (refused 1 (crc_refusals form k frame ++ value_refusals form word o) (ap not (ne_eqb (length octets) (6 * k) h)))
+  not-written : (e : Refused) → number_of e ≡ answer R → DataWritten form k word o octets frame (Err e) frame
+  not-written e h =
+      let p = refused-number e in
+      record {
+        answered = h;
+        given = tt;
+        left = sym (kept (answer R) frame exact (λ z. omega (arith, h, p, z)));
+        due_right = tt;
+      }
+
+  pub short : (length octets ≡ 6 * k → ⊥) → DataWritten form k word o octets frame (Err Length) frame
+  short h = not-written Length (sym (refused 1 (crc_refusals form k frame ++ value_refusals form word o) (ap not (ne_eqb (length octets) (6 * k) h))))
 
   long : length octets ≡ 6 * k → answer R ≡ answer (crc_refusals form k frame ++ value_refusals form word o)
   long h = passed 1 (crc_refusals form k frame ++ value_refusals form word o) (ap not (eq-eqb (length octets) (6 * k) h))
 
-  pub room-wrong : (n : ℕ) → length octets ≡ 6 * k → n ≡ answer (crc_refusals form k frame) → (n ≡ 0 → ⊥) → n ≡ answer R
-  room-wrong n h e z = sym (long h ∙ stopped (crc_refusals form k frame) (value_refusals form word o) (λ y. z (e ∙ y)) ∙ sym e)
+  pub room-wrong : (e : Refused) → length octets ≡ 6 * k → number_of e ≡ answer (crc_refusals form k frame) → DataWritten form k word o octets frame (Err e) frame
+  room-wrong e h z =
+      let p = refused-number e in
+      not-written e (sym (long h ∙ stopped (crc_refusals form k frame) (value_refusals form word o) (λ y. omega (arith, z, p, y)) ∙ sym z))
 
-  pub value-answered : (n : ℕ) → length octets ≡ 6 * k → answer (crc_refusals form k frame) ≡ 0 → n ≡ answer (value_refusals form word o) → n ≡ answer R
+  value-answered : (n : ℕ) → length octets ≡ 6 * k → answer (crc_refusals form k frame) ≡ 0 → n ≡ answer (value_refusals form word o) → n ≡ answer R
   value-answered n h z e = sym (long h ∙ behind-is form k frame z (value_refusals form word o) ∙ sym e)
 
-  pub not_written : (n : ℕ) → n ≡ answer R → (n ≡ 0 → ⊥) → DataWritten form k word o octets frame (record { answer = n; crc = 0 }) frame
-  not_written zero e h = absurd (h refl)
-  not_written (suc n) e h =
+  pub value-wrong : (e : Refused) → length octets ≡ 6 * k → answer (crc_refusals form k frame) ≡ 0 → number_of e ≡ answer (value_refusals form word o)
+      → DataWritten form k word o octets frame (Err e) frame
+  value-wrong e h z v = not-written e (value-answered (number_of e) h z v)
+
+  pub was-written : (exit : List ℕ) (six : ℕ) → length octets ≡ 6 * k → answer (crc_refusals form k frame) ≡ 0 → 0 ≡ answer (value_refusals form word o)
+      → exit ≡ exact → six ≡ due_of form k (bits_of exit) → Due form k (bits_of exit) six → DataWritten form k word o octets frame (Ok six) exit
+  was-written exit six h z v e d r =
+      let y = value-answered 0 h z v in
       record {
-        given = ap (λ (m : ℕ). written_of m form k (bits_of exact)) e;
-        left = ap (λ (m : ℕ). held m frame exact) e;
-        due_right = λ z. absurd (h z);
+        answered = y;
+        given = d ∙ ap (λ (s : List ℕ). due_of form k (bits_of s)) e;
+        left = e ∙ sym (held-given (answer R) frame exact (sym y));
+        due_right = r;
       }
 
-  -- the room of what was written is the room that was lent
-  exact-fit : Fit form k frame → Fit form k exact
-  exact-fit f =
-      let l : length exact ≡ length frame = octets-length (room_of form) (data_bits form k word o octets) ∙ sym f.room in
-      record { known = f.known; least = f.least; most = f.most; room = l ∙ f.room; wide = subst (λ (n : ℕ). 1740 ≤ n) (sym l) f.wide }
-
-  pub was-written : (exit : List ℕ) (six : Sixes) → answer (crc_refusals form k frame) ≡ 0 → 0 ≡ answer R → exit ≡ exact → CrcGiven form k exit six
-      → DataWritten form k word o octets frame (record { answer = 0; crc = six.due }) exit
-  was-written exit six y z e c =
-      let f = subst (Fit form k) (sym e) (exact-fit (fit form k frame y)) in
-      let g : six ≡ crc_of 0 form k (bits_of exit) = c.given ∙ ap (λ (n : ℕ). crc_of n form k (bits_of exit)) (fits form k exit f) in
-      record {
-        given = ap (λ (d : ℕ). record { answer = 0; crc = d }) (ap (λ (x : Sixes). x.due) g ∙ ap (λ (s : List ℕ). due_of form k (bits_of s)) e)
-            ∙ ap (λ (m : ℕ). written_of m form k (bits_of exact)) z;
-        left = e ∙ ap (λ (m : ℕ). held m frame exact) z;
-        due_right = λ o'. c.due_right (ap (λ (x : Sixes). x.answer) g);
-      }
+-- the same by a number that is the form's
+pub written-by : (n form k word : ℕ) (o : Overhead) (octets frame exit : List ℕ) (six : ℕ) → n ≡ form → length octets ≡ 6 * k
+    → 0 ≡ answer (crc_refusals form k frame) → 0 ≡ answer (value_refusals n word o) → exit ≡ data_octets n k word o octets
+    → six ≡ due_of n k (bits_of exit) → Due n k (bits_of exit) six → DataWritten form k word o octets frame (Ok six) exit
+written-by n form k word o octets frame exit six p h y v e d r =
+    subst (λ (x : ℕ). DataWritten x k word o octets frame (Ok six) exit) p
+    (was-written n k word o octets frame exit six h (sym (subst (λ (x : ℕ). 0 ≡ answer (crc_refusals x k frame)) (sym p) y)) v e d r)

@@ -3,19 +3,17 @@
 
 ghost use Rattle.std.specs.Prelude.{◌≡◌, true, ◌++◌, ◌+◌, ◌*◌, ◌≤◌, length};
 ghost use Rattle.answer.specs.Answer.{answer};
+ghost use Rattle.answer.specs.Given.{answer_of};
 ghost use Rattle.octets.specs.Bits.{digits_of, bits_of, octets_of, part, laid};
 ghost use Rattle.dataframe.specs.Table.{payload_length, room_of};
+ghost use Rattle.dataframe.specs.Forms.{form_number};
 ghost use Rattle.dataframe.specs.Frame.{data_octets};
 ghost use Rattle.dataframe.specs.Refusals.{is_stuffing, end_refusals, value_refusals};
 ghost use Rattle.datawriter.specs.Laying.{MarksOf, RowsOf, laid_frame};
 ghost use Rattle.datawriter.specs.Promises.{DataWritten};
 
-// What writing gives: the answer, and the six check bits that the next frame has to carry.
-#[derive(Drop)]
-pub struct Written {
-    pub answer: u32,
-    pub crc: u32,
-}
+use answer::Refused;
+use dataframe::{Form, Overhead, Room};
 
 // sbid1 and sbid2 in the lowest digit, and what stands behind the last payload bit: so many digits.
 #[derive(Drop)]
@@ -39,23 +37,23 @@ pub struct Rows {
 }
 
 // Spare bits of the synchronous form; of the plesiochronous form, stuffing bits and what announces them.
-fn marks_of(form: u32, spare: u32, stuffing: u32) -> Marks
-    requires { (form ≤ 1) × (is_stuffing form stuffing ≡ true) }
-    ensures { MarksOf form spare stuffing result }
+fn marks_of(form: Form, spare: u32, stuffing: u32) -> Marks
+    requires { is_stuffing (form_number form) stuffing ≡ true }
+    ensures { MarksOf (form_number form) spare stuffing result }
 {
-    if form == dataframe::SYNCHRONOUS {
-        return Marks {
+    match form {
+        Form::Synchronous => Marks {
             first: spare,
             second: spare / 2,
             end: spare / 4,
             ends: 2,
-        };
-    }
-    Marks {
-        first: stuffing / 4,
-        second: stuffing / 4,
-        end: dataframe::ONES,
-        ends: stuffing,
+        },
+        Form::Plesiochronous => Marks {
+            first: stuffing / 4,
+            second: stuffing / 4,
+            end: dataframe::ONES,
+            ends: stuffing,
+        },
     }
 }
 
@@ -88,7 +86,7 @@ fn second_last(segd: u32, eoc: u32, mark: u32) -> u32
 }
 
 // All bits but payload.
-fn rows_of(sync: u32, overhead: dataframe::Overhead, marks: Marks) -> Rows
+fn rows_of(sync: u32, overhead: Overhead, marks: Marks) -> Rows
     ensures { RowsOf sync overhead marks result }
 {
     let indicators = overhead.indicators;
@@ -132,64 +130,36 @@ fn put(frame: &mut [u8], rows: Rows, payload: &[u8], n: u32, rest: u32)
     octets::clear(frame, 4 * m + 46 + (ends as usize), rest);
 }
 
-// What is wrong with spare and stuffing of a form that is known, or 0.
-fn end_wrong(form: u32, spare: u32, stuffing: u32) -> u32
-    requires { form ≤ 1 }
-    ensures { result ≡ answer (end_refusals form spare stuffing) }
+// Whether spare and stuffing may be so.
+fn end_allowed(form: Form, spare: u32, stuffing: u32) -> Result<(), Refused>
+    ensures { answer_of result ≡ answer (end_refusals (form_number form) spare stuffing) }
 {
-    if form == dataframe::SYNCHRONOUS {
-        if dataframe::FOURS <= spare {
-            return answer::RANGE;
-        }
-        if stuffing != 0 {
-            return answer::STUFFING;
-        }
-        return answer::DONE;
+    match (form, stuffing) {
+        (Form::Synchronous, _) if dataframe::FOURS <= spare => Err(Refused::Range),
+        (_, 0) | (Form::Plesiochronous, dataframe::STUFFING) => Ok(()),
+        _ => Err(Refused::Stuffing),
     }
-    if stuffing == 0 {
-        return answer::DONE;
-    }
-    if stuffing == dataframe::STUFFING {
-        return answer::DONE;
-    }
-    answer::STUFFING
 }
 
-// What is wrong with the numbers that are to stand in a frame, or 0.
-fn wrong(form: u32, sync: u32, overhead: dataframe::Overhead) -> u32
-    requires { form ≤ 1 }
-    ensures { result ≡ answer (value_refusals form sync overhead) }
+// Whether the numbers that are to stand in a frame may.
+fn allowed(form: Form, sync: u32, overhead: Overhead) -> Result<(), Refused>
+    ensures { answer_of result ≡ answer (value_refusals (form_number form) sync overhead) }
 {
-    let indicators = overhead.indicators;
-    let eoc = overhead.eoc;
-    let crc = overhead.crc;
-    if dataframe::SYNCS <= sync {
-        return answer::RANGE;
+    if dataframe::SYNCS <= sync
+        || dataframe::FOURS <= overhead.indicators
+        || dataframe::EOCS <= overhead.eoc
+        || dataframe::CRCS <= overhead.crc
+    {
+        return Err(Refused::Range);
     }
-    if dataframe::FOURS <= indicators {
-        return answer::RANGE;
-    }
-    if dataframe::EOCS <= eoc {
-        return answer::RANGE;
-    }
-    if dataframe::CRCS <= crc {
-        return answer::RANGE;
-    }
-    end_wrong(form, overhead.spare, overhead.stuffing)
+    end_allowed(form, overhead.spare, overhead.stuffing)
 }
 
 // A frame, and zeros behind it, where all is right.
-fn put_frame(
-    form: u32,
-    size: u32,
-    sync: u32,
-    overhead: dataframe::Overhead,
-    payload: &[u8],
-    frame: &mut [u8],
-)
-    requires { (form ≤ 1) × (size ≤ 289) × (is_stuffing form overhead.stuffing ≡ true) × (length payload.now ≡ payload_length size)
-        × (length frame.old ≡ room_of form) }
-    ensures { frame.new ≡ data_octets form size sync overhead payload.now }
+fn put_frame(form: Form, size: u32, sync: u32, overhead: Overhead, payload: &[u8], frame: &mut [u8])
+    requires { (size ≤ 289) × (is_stuffing (form_number form) overhead.stuffing ≡ true) × (length payload.now ≡ payload_length size)
+        × (length frame.old ≡ room_of (form_number form)) }
+    ensures { frame.new ≡ data_octets (form_number form) size sync overhead payload.now }
 {
     let marks = marks_of(form, overhead.spare, overhead.stuffing);
     let ends = marks.ends;
@@ -198,38 +168,28 @@ fn put_frame(
     put(frame, rows_of(sync, overhead, marks), payload, n, rest);
 }
 
-// A data-mode frame. Its check bits are those that the caller has of the frame before; its own go into the next.
+// A data-mode frame. Its check bits are those that the caller has of the frame before; what it gives are its own, which go into the next.
 pub fn write(
     form: u32,
     size: u32,
     sync: u32,
-    overhead: dataframe::Overhead,
+    overhead: Overhead,
     payload: &[u8],
     frame: &mut [u8],
-) -> Written
+) -> Result<u32, Refused>
     ensures { DataWritten form size sync overhead payload.now frame.old result frame.new }
 {
     if payload.len() != dataframe::PAYLOAD_OCTETS * (size as usize) {
-        return Written {
-            answer: answer::LENGTH,
-            crc: 0,
-        };
+        return Err(Refused::Length);
     }
-    let no = datacrc::refusal(form, size, frame);
-    if no != answer::DONE {
-        return Written { answer: no, crc: 0 };
-    }
-    let bad = wrong(form, sync, overhead);
-    if bad != answer::DONE {
-        return Written {
-            answer: bad,
-            crc: 0,
-        };
-    }
+    let form = datacrc::room(form, size, frame)?.form;
+    allowed(form, sync, overhead)?;
     put_frame(form, size, sync, overhead, payload, frame);
-    let six = datacrc::crc(form, size, frame);
-    Written {
-        answer: answer::DONE,
-        crc: six.due,
-    }
+    let room = Room {
+        form,
+        size,
+        octets: frame,
+    };
+    let six = datacrc::sixes_in(room);
+    Ok(six.due)
 }

@@ -8,12 +8,9 @@ use Rattle.octets.specs.Bits.{bits_of}
 use Rattle.octets.proofs.Laws.{bits-bits}
 use Rattle.dataframe.specs.Frame.{data_octets, payload_in, Due}
 use Rattle.dataframe.proofs.Order.{due}
-use Rattle.datawriter.specs.Promises.{written_of}
-use Rattle.datacrc.specs.Promises.{crc_of}
 use Rattle.datachecker.specs.Promises.{DataChecked}
-use Rattle.datareader.specs.Promises.{found_of}
 use Rattle.host.specs.declared.data.DataOverhead.{DataOverhead}
-use Rattle.host.specs.Data.{overhead_of, overhead_for, DataFrameWritten, DataCrcGiven, DataFrameRead}
+use Rattle.host.specs.Data.{overhead_of, written_of, crc_of, found_of, DataFrameWritten, DataCrcGiven, DataFrameRead}
 use Rattle.demands.specs.Handed.{Outcome, None, none}
 use Rattle.demands.specs.HandedData.{DataWriteCall, DataCrcCall, Sixes, DataCheckCall, DataReadCall}
 use Rattle.demands.specs.Checks.{data_write_checks, data_crc_checks, data_check_checks, data_read_checks}
@@ -42,7 +39,7 @@ abbrev pub reads : DataReadCall → Outcome DataOverhead (List ℕ)
 reads c =
     let n = answer (data_read_checks c) in
     let f = found_of n c.form c.size (bits_of c.frame) in
-    record { answer = f.answer; numbers = overhead_for f.overhead; memory = held n c.payload (payload_in c.form c.size (bits_of c.frame)) }
+    record { answer = f.answer; numbers = f.overhead; memory = held n c.payload (payload_in c.form c.size (bits_of c.frame)) }
 
 -- ---- they keep the contracts
 

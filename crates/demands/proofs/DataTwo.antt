@@ -17,14 +17,11 @@ use Rattle.dataframe.specs.Frame.{data_octets, carried, overhead_in, payload_in,
 use Rattle.dataframe.specs.Refusals.{is_room, crc_refusals, bit_refusals, check_refusals}
 use Rattle.dataframe.proofs.Refused.{fit}
 use Rattle.dataframe.proofs.RoundTrip.{Right as Taken, write-takes, writes, again}
-use Rattle.datawriter.specs.declared.Written.{Written}
-use Rattle.datawriter.specs.Promises.{written_of}
-use Rattle.datacrc.specs.declared.Sixes.{Sixes as CrcSixes}
-use Rattle.datacrc.specs.Promises.{crc_of}
-use Rattle.datareader.specs.declared.Found.{Found}
-use Rattle.datareader.specs.Promises.{found_of}
+use Rattle.host.specs.declared.data.DataSent.{DataSent}
+use Rattle.host.specs.declared.data.DataCrcs.{DataCrcs}
+use Rattle.host.specs.declared.data.DataFields.{DataFields}
 use Rattle.host.specs.declared.data.DataOverhead.{DataOverhead}
-use Rattle.host.specs.Data.{overhead_of, overhead_for}
+use Rattle.host.specs.Data.{overhead_of, overhead_for, written_of, crc_of, found_of}
 use Rattle.demands.specs.Handed.{Outcome, None, none}
 use Rattle.demands.specs.HandedData.{DataWriteCall, DataCrcCall, Sixes, DataReadCall}
 use Rattle.demands.specs.Library.{Library}
@@ -44,20 +41,20 @@ module _ (x : Library) (k : Keeps x) where
   written : (c : DataWriteCall) → Right (data_write_checks c) → x.data_write c ≡ done (due_of c.form c.size (bits_of (frame_for c))) (frame_for c)
   written c h =
       let e = (k.data_write c refl).given ∙ ap (λ (n : ℕ). written_of n c.form c.size (bits_of (frame_for c))) h in
-      same (ap (λ (w : Written). w.answer) e) (ap (λ (w : Written). w.crc) e)
+      same (ap (λ (w : DataSent). w.answer) e) (ap (λ (w : DataSent). w.crc) e)
       ((k.data_write c refl).left ∙ held-given (answer (data_write_checks c)) c.frame (frame_for c) h)
 
   sixes : (c : DataCrcCall) → Right (data_crc_checks c) → x.data_crc c
       ≡ done (record { carried = polynomial (carried crc c.form c.size (bits_of c.frame)); due = due_of c.form c.size (bits_of c.frame) }) none
   sixes c h =
       let e = (k.data_crc c refl).given ∙ ap (λ (n : ℕ). crc_of n c.form c.size (bits_of c.frame)) h in
-      same (ap (λ (s : CrcSixes). s.answer) e) (ap (λ (s : CrcSixes). record { carried = s.carried; due = s.due }) e) (only _)
+      same (ap (λ (s : DataCrcs). s.answer) e) (ap (λ (s : DataCrcs). record { carried = s.carried; due = s.due }) e) (only _)
 
   read : (c : DataReadCall) → Right (data_read_checks c)
       → x.data_read c ≡ done (overhead_for (overhead_in c.form c.size (bits_of c.frame))) (payload_in c.form c.size (bits_of c.frame))
   read c h =
       let e = (k.data_read c refl).found ∙ ap (λ (n : ℕ). found_of n c.form c.size (bits_of c.frame)) h in
-      same (ap (λ (f : Found). f.answer) e) (ap (λ (f : Found). overhead_for f.overhead) e)
+      same (ap (λ (f : DataFields). f.answer) e) (ap (λ (f : DataFields). f.overhead) e)
       ((k.data_read c refl).payload_left ∙ held-given (answer (data_read_checks c)) c.payload (payload_in c.form c.size (bits_of c.frame)) h)
 
   pub data-exact : DataFrames x

@@ -11,9 +11,8 @@ use Rattle.remainder.specs.Division.{polynomial}
 use Rattle.dataframe.specs.Table.{crc}
 use Rattle.dataframe.specs.Frame.{data_octets, carried, due_of, Due}
 use Rattle.dataframe.proofs.Order.{due}
-use Rattle.datareader.specs.Promises.{no_overhead}
 use Rattle.host.specs.declared.data.DataOverhead.{DataOverhead}
-use Rattle.host.specs.Data.{overhead_of, overhead_for}
+use Rattle.host.specs.Data.{overhead_of, overhead_for, no_overhead}
 use Rattle.demands.specs.Handed.{Outcome}
 use Rattle.demands.specs.HandedData.{DataWriteCall, DataReadCall}
 use Rattle.demands.specs.One.{Answers, One}

@@ -5,11 +5,8 @@ use Prim.Native.Nat.{ℕ}
 use Rattle.answer.specs.Answer.{answer, held}
 use Rattle.eoc.specs.Message.{written, padded, contents_most, form_most}
 use Rattle.eoc.specs.Reading.{message_in}
-use Rattle.eocwriter.specs.Promises.{written_of}
-use Rattle.eocreader.specs.Promises.{found_of}
 use Rattle.eocunits.specs.Units.{units_after}
-use Rattle.eocunits.specs.Promises.{handed_of}
-use Rattle.host.specs.Channel.{EocWritten, EocRead, EocHanded}
+use Rattle.host.specs.Channel.{written_of, found_of, handed_of, EocWritten, EocRead, EocHanded}
 use Rattle.demands.specs.Handed.{Outcome}
 use Rattle.demands.specs.HandedEoc.{EocWriteCall, EocReadCall, EocFields, EocUnitsCall}
 use Rattle.demands.specs.Checks.{eoc_write_checks, eoc_read_checks, eoc_hand_up_checks}

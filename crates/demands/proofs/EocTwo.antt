@@ -19,14 +19,12 @@ use Rattle.eoc.specs.Message.{fields_of as octets_of}
 use Rattle.eoc.specs.Reading.{fields_in, body_in, sequence_in, message_in}
 use Rattle.eoc.specs.Refusals.{form_refusals, read_refusals, write_refusals}
 use Rattle.eoc.proofs.RoundTrip.{fields-written, reads-back, writes-back}
-use Rattle.eocwriter.specs.declared.Written.{Written}
-use Rattle.eocwriter.specs.Promises.{written_of}
+use Rattle.host.specs.declared.channel.EocForm.{EocForm}
 use Rattle.eocwriter.proofs.Promise.{write-sound}
-use Rattle.eocreader.specs.declared.Found.{Found}
-use Rattle.eocreader.specs.Promises.{found_of}
-use Rattle.eocunits.specs.declared.HandedUp.{HandedUp}
+use Rattle.host.specs.declared.channel.EocMessage.{EocMessage}
+use Rattle.host.specs.declared.channel.EocHandedUp.{EocHandedUp}
 use Rattle.eocunits.specs.Units.{records_in, count_taking, units_after, hand_up_refusals}
-use Rattle.eocunits.specs.Promises.{handed_of}
+use Rattle.host.specs.Channel.{written_of, found_of, handed_of}
 use Rattle.demands.specs.Handed.{Outcome}
 use Rattle.demands.specs.HandedEoc.{EocWriteCall, EocReadCall, EocFields, EocUnitsCall}
 use Rattle.demands.specs.Library.{Library}
@@ -69,22 +67,22 @@ module _ (x : Library) (k : Keeps x) where
   written_form : (c : EocWriteCall) → Right (eoc_write_checks c) → x.eoc_write c ≡ done (length (written (message_of c))) (padded form_most (written (message_of c)))
   written_form c h =
       let e = (k.eoc_write c refl).returned ∙ ap (λ (n : ℕ). written_of n (message_of c)) h in
-      same (ap (λ (w : Written). w.answer) e) (ap (λ (w : Written). w.length) e)
+      same (ap (λ (w : EocForm). w.answer) e) (ap (λ (w : EocForm). w.length) e)
       ((k.eoc_write c refl).room_left ∙ held-given (answer (eoc_write_checks c)) c.room (padded form_most (written (message_of c))) h)
 
   read : (c : EocReadCall) → Right (eoc_read_checks c)
       → x.eoc_read c ≡ done (fields_of (message_in c.octets)) (padded contents_most (message_in c.octets).contents)
   read c h =
       let e = (k.eoc_read c refl).returned ∙ ap (λ (n : ℕ). found_of n (message_in c.octets)) h in
-      same (ap (λ (f : Found). f.answer) e)
-      (ap (λ (f : Found). record { source = f.source; destination = f.destination; number = f.number; length = f.length }) e)
+      same (ap (λ (f : EocMessage). f.answer) e)
+      (ap (λ (f : EocMessage). record { source = f.source; destination = f.destination; number = f.number; length = f.length }) e)
       ((k.eoc_read c refl).room_left ∙ held-given (answer (eoc_read_checks c)) c.contents (padded contents_most (message_in c.octets).contents) h)
 
   handed_up : (c : EocUnitsCall) → Right (eoc_hand_up_checks c)
       → x.eoc_hand_up c ≡ done (count_taking (message_in c.octets) (records_in c.units)) (units_after (message_in c.octets) c.units)
   handed_up c h =
       let e = (k.eoc_hand_up c refl).returned ∙ ap (λ (n : ℕ). handed_of n (message_in c.octets) c.units) h in
-      same (ap (λ (u : HandedUp). u.answer) e) (ap (λ (u : HandedUp). u.units) e)
+      same (ap (λ (u : EocHandedUp). u.answer) e) (ap (λ (u : EocHandedUp). u.units) e)
       ((k.eoc_hand_up c refl).units_left ∙ held-given (answer (eoc_hand_up_checks c)) c.units (units_after (message_in c.octets) c.units) h)
 
 -- the form that is written

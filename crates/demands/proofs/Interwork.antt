@@ -23,7 +23,8 @@ use Rattle.layout.proofs.Reserved.{zeros-octets}
 use Rattle.numbers.specs.Promises.{numbers_of, number_octets}
 use Rattle.recurrence.specs.Line.{newest}
 use Rattle.scrambler.specs.Ends.{tap_of}
-use Rattle.recurrence.specs.Run.{scramble, descramble, run_of, after_of}
+use Rattle.recurrence.specs.Run.{run_of, after_of}
+use Rattle.recurrence.specs.declared.Way.TheVariants.{Scramble as scramble, Descramble as descramble}
 use Rattle.scrambler.specs.Promises.{given, clocked, around, frame_out}
 use Rattle.scrambler.specs.declared.Scrambler.{Scrambler}
 use Rattle.recurrence.proofs.Laws.{run-bits}

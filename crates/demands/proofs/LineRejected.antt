@@ -17,7 +17,7 @@ use Rattle.octets.proofs.Words.{octets-octets}
 use Rattle.layout.specs.Frame.{final_sync, frame_bits, final_bits}
 use Rattle.layout.specs.Refusals.{bit_refusals, check_refusals}
 use Rattle.layout.proofs.RoundTrip.{final-laid, final-answers}
-use Rattle.recurrence.specs.Run.{scramble}
+use Rattle.recurrence.specs.declared.Way.TheVariants.{Scramble as scramble}
 use Rattle.scrambler.specs.Promises.{frame_out}
 use Rattle.scrambler.specs.declared.Scrambler.{Scrambler}
 use Rattle.receiver.specs.Stream.{state_at}

@@ -20,10 +20,9 @@ use Rattle.layout.specs.Refusals.{check_refusals}
 use Rattle.receiver.specs.Stream.{state_at, frame_at}
 use Rattle.receiver.specs.Sent.{sent_bits}
 use Rattle.receiver.specs.Given.{Given, GivenOf}
-use Rattle.receiver.specs.Promises.{joined, found, gives, place_on, received_of, line_after, room_after}
+use Rattle.receiver.specs.Promises.{Got, joined, found, gives, place_on, received_of, line_after, room_after}
 use Rattle.receiver.specs.Calls.{joined_bits, Calls, none as no_call, call, all_handed, shares}
 use Rattle.receiver.specs.declared.Receiver.{Receiver as State}
-use Rattle.receiver.specs.declared.Received.{Received as Got}
 use Rattle.receiver.proofs.Given.{given-one}
 use Rattle.receiver.proofs.Cut.{any-cut}
 use Rattle.receiver.proofs.InCall.{in_its_call}

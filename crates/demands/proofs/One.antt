@@ -20,22 +20,19 @@ use Rattle.dataframe.specs.Refusals.{data_order}
 use Rattle.eoc.specs.Refusals.{eoc_order}
 use Rattle.eoc.proofs.Order.{write-order as eoc-write-order, read-order as eoc-read-order}
 use Rattle.eocunits.proofs.Order.{hand-up-order}
-use Rattle.eocwriter.specs.declared.Written.{Written as EocWritten}
-use Rattle.eocwriter.specs.Promises.{message_from, written_of as eoc_written_of}
-use Rattle.eocreader.specs.declared.Found.{Found as EocFound}
-use Rattle.eocreader.specs.Promises.{found_of as eoc_found_of}
-use Rattle.eocunits.specs.declared.HandedUp.{HandedUp}
-use Rattle.eocunits.specs.Promises.{handed_of}
+use Rattle.host.specs.declared.channel.EocForm.{EocForm}
+use Rattle.eocwriter.specs.Promises.{message_from}
+use Rattle.host.specs.Channel.{written_of as eoc_written_of, found_of as eoc_found_of, handed_of}
+use Rattle.host.specs.declared.channel.EocMessage.{EocMessage}
+use Rattle.host.specs.declared.channel.EocHandedUp.{EocHandedUp}
 use Rattle.eoc.specs.Message.{Message}
 use Rattle.eoc.specs.Reading.{message_in}
 use Rattle.dataframe.proofs.Order.{write-order as data-write-order, crc-order as data-crc-order, check-order as data-check-order, read-order as data-read-order}
-use Rattle.datawriter.specs.declared.Written.{Written}
-use Rattle.datawriter.specs.Promises.{written_of}
-use Rattle.datacrc.specs.declared.Sixes.{Sixes}
-use Rattle.datacrc.specs.Promises.{crc_of}
-use Rattle.datareader.specs.declared.Found.{Found as DataFound}
-use Rattle.datareader.specs.Promises.{found_of as data_found_of, no_overhead}
-use Rattle.recurrence.specs.Run.{Way, scramble, descramble}
+use Rattle.host.specs.declared.data.DataSent.{DataSent}
+use Rattle.host.specs.declared.data.DataCrcs.{DataCrcs}
+use Rattle.host.specs.declared.data.DataFields.{DataFields}
+use Rattle.recurrence.specs.declared.Way.{Way}
+use Rattle.recurrence.specs.declared.Way.TheVariants.{Scramble as scramble, Descramble as descramble}
 use Rattle.scrambler.proofs.One.{step-order as bit-order, run-order as scrambler-order, frame-order}
 use Rattle.symbol.specs.declared.Encoder.{Encoder}
 use Rattle.symbol.specs.Levels.{activation_tests, data_tests, back_tests}
@@ -48,7 +45,7 @@ use Rattle.precoder.proofs.Order.{run-order as precoder-order}
 use Rattle.supervisor.specs.declared.Supervisor.{Supervisor as State}
 use Rattle.supervisor.specs.Step.{state_refusals, step_of}
 use Rattle.supervisor.proofs.One.{start-in-order, step-in-order, state-in-order}
-use Rattle.startup.specs.declared.Run.{Run as StartupRun}
+use Rattle.startup.specs.Run.{Run as StartupRun}
 use Rattle.startup.specs.Run.{event_of, goes_on, opens, ends, noted, taken_of, run_from, begun}
 use Rattle.host.specs.declared.frames.FrameFields.{FrameFields}
 use Rattle.host.specs.declared.scrambling.Scrambled.{Scrambled}
@@ -57,13 +54,12 @@ use Rattle.host.specs.declared.supervising.Stepped.{Stepped}
 use Rattle.host.specs.declared.supervising.Run.{Run}
 use Rattle.host.specs.Supervising.{state_in, state_of, run_fields_of}
 use Rattle.host.specs.Frames.{found_of}
-use Rattle.host.specs.Data.{overhead_of, overhead_for}
-use Rattle.host.specs.Scrambling.{crossing, bit_crossing}
+use Rattle.host.specs.Data.{overhead_of, overhead_for, written_of, crc_of, no_overhead, found_of as data_found_of}
 use Rattle.host.specs.Symbols.{encoder}
 use Rattle.host.proofs.One.{frame-send-order, frame-read-order, history-start-order}
 use Rattle.demands.specs.Handed.{Outcome, None, none}
 use Rattle.demands.specs.HandedData.{DataWriteCall, DataCrcCall, DataReadCall}
-use Rattle.receiver.specs.declared.Received.{Received as Got}
+use Rattle.receiver.specs.Promises.{Got}
 use Rattle.receiver.proofs.One.{receive-order}
 use Rattle.receiver.proofs.Cut.{answer-is, refused-is}
 use Rattle.host.specs.Receiving.{receiver_in}
@@ -234,7 +230,7 @@ pub data-found-answer : (n form k : ℕ) (bits : List ℕ) → (data_found_of n 
 data-found-answer zero form k bits = refl
 data-found-answer (suc n) form k bits = refl
 
-data-found-none : (n form k : ℕ) (bits : List ℕ) → (n ≡ 0 → ⊥) → (data_found_of n form k bits).overhead ≡ no_overhead
+data-found-none : (n form k : ℕ) (bits : List ℕ) → (n ≡ 0 → ⊥) → (data_found_of n form k bits).overhead ≡ overhead_for no_overhead
 data-found-none zero form k bits h = absurd (h refl)
 data-found-none (suc n) form k bits h = refl
 
@@ -266,21 +262,21 @@ handed-none (suc n) m units h = refl
 module _ (x : Library) (k : Keeps x) where
   pub eoc-write-answer : (c : EocWriteCall) → (x.eoc_write c).answer ≡ answer (eoc_write_checks c)
   eoc-write-answer c =
-      ap (λ (w : EocWritten). w.answer) (k.eoc_write c refl).returned
+      ap (λ (w : EocForm). w.answer) (k.eoc_write c refl).returned
       ∙ eoc-written-answer (answer (eoc_write_checks c)) (message_from c.source c.destination c.number c.contents)
 
   pub eoc-read-answer : (c : EocReadCall) → (x.eoc_read c).answer ≡ answer (eoc_read_checks c)
   eoc-read-answer c =
-      ap (λ (f : EocFound). f.answer) (k.eoc_read c refl).returned ∙ eoc-found-answer (answer (eoc_read_checks c)) (message_in c.octets)
+      ap (λ (f : EocMessage). f.answer) (k.eoc_read c refl).returned ∙ eoc-found-answer (answer (eoc_read_checks c)) (message_in c.octets)
 
   pub eoc-hand-up-answer : (c : EocUnitsCall) → (x.eoc_hand_up c).answer ≡ answer (eoc_hand_up_checks c)
   eoc-hand-up-answer c =
-      ap (λ (h : HandedUp). h.answer) (k.eoc_hand_up c refl).returned ∙ handed-answer (answer (eoc_hand_up_checks c)) (message_in c.octets) c.units
+      ap (λ (h : EocHandedUp). h.answer) (k.eoc_hand_up c refl).returned ∙ handed-answer (answer (eoc_hand_up_checks c)) (message_in c.octets) c.units
 
   eoc-write-is : Answers x.eoc_write eoc_write_checks (λ c. c.room) 0
   eoc-write-is =
       eoc-answers ordered.eoc_write eoc-write-answer
-      (λ c h. ap (λ (w : EocWritten). w.length) (k.eoc_write c refl).returned
+      (λ c h. ap (λ (w : EocForm). w.length) (k.eoc_write c refl).returned
       ∙ eoc-written-none (answer (eoc_write_checks c)) (message_from c.source c.destination c.number c.contents) (other (eoc-write-answer c) h))
       (λ c h. (k.eoc_write c refl).room_left ∙ kept (answer (eoc_write_checks c)) c.room _ (other (eoc-write-answer c) h))
 
@@ -295,25 +291,25 @@ module _ (x : Library) (k : Keeps x) where
   eoc-hand-up-is : Answers x.eoc_hand_up eoc_hand_up_checks (λ c. c.units) 0
   eoc-hand-up-is =
       eoc-answers ordered.eoc_hand_up eoc-hand-up-answer
-      (λ c h. ap (λ (u : HandedUp). u.units) (k.eoc_hand_up c refl).returned
+      (λ c h. ap (λ (u : EocHandedUp). u.units) (k.eoc_hand_up c refl).returned
       ∙ handed-none (answer (eoc_hand_up_checks c)) (message_in c.octets) c.units (other (eoc-hand-up-answer c) h))
       (λ c h. (k.eoc_hand_up c refl).units_left ∙ kept (answer (eoc_hand_up_checks c)) c.units _ (other (eoc-hand-up-answer c) h))
 
   pub data-write-answer : (c : DataWriteCall) → (x.data_write c).answer ≡ answer (data_write_checks c)
   data-write-answer c =
-      ap (λ (w : Written). w.answer) (k.data_write c refl).given ∙ written-answer (answer (data_write_checks c)) c.form c.size _
+      ap (λ (w : DataSent). w.answer) (k.data_write c refl).given ∙ written-answer (answer (data_write_checks c)) c.form c.size _
 
   pub data-crc-answer : (c : DataCrcCall) → (x.data_crc c).answer ≡ answer (data_crc_checks c)
-  data-crc-answer c = ap (λ (s : Sixes). s.answer) (k.data_crc c refl).given ∙ crc-answer (answer (data_crc_checks c)) c.form c.size (bits_of c.frame)
+  data-crc-answer c = ap (λ (s : DataCrcs). s.answer) (k.data_crc c refl).given ∙ crc-answer (answer (data_crc_checks c)) c.form c.size (bits_of c.frame)
 
   pub data-read-answer : (c : DataReadCall) → (x.data_read c).answer ≡ answer (data_read_checks c)
   data-read-answer c =
-      ap (λ (f : DataFound). f.answer) (k.data_read c refl).found ∙ data-found-answer (answer (data_read_checks c)) c.form c.size (bits_of c.frame)
+      ap (λ (f : DataFields). f.answer) (k.data_read c refl).found ∙ data-found-answer (answer (data_read_checks c)) c.form c.size (bits_of c.frame)
 
   data-write-is : Answers x.data_write data_write_checks (λ c. c.frame) 0
   data-write-is =
       data-answers ordered.data_write data-write-answer
-      (λ c h. ap (λ (w : Written). w.crc) (k.data_write c refl).given
+      (λ c h. ap (λ (w : DataSent). w.crc) (k.data_write c refl).given
       ∙ written_none (answer (data_write_checks c)) c.form c.size _ (other (data-write-answer c) h))
       (λ c h. (k.data_write c refl).left ∙ kept (answer (data_write_checks c)) c.frame _ (other (data-write-answer c) h))
 
@@ -328,8 +324,8 @@ module _ (x : Library) (k : Keeps x) where
   data-read-is : Answers x.data_read data_read_checks (λ c. c.payload) (overhead_for no_overhead)
   data-read-is =
       data-answers ordered.data_read data-read-answer
-      (λ c h. ap (λ (f : DataFound). overhead_for f.overhead) (k.data_read c refl).found
-      ∙ ap overhead_for (data-found-none (answer (data_read_checks c)) c.form c.size (bits_of c.frame) (other (data-read-answer c) h)))
+      (λ c h. ap (λ (f : DataFields). f.overhead) (k.data_read c refl).found
+      ∙ data-found-none (answer (data_read_checks c)) c.form c.size (bits_of c.frame) (other (data-read-answer c) h))
       (λ c h. (k.data_read c refl).payload_left ∙ kept (answer (data_read_checks c)) c.payload _ (other (data-read-answer c) h))
 
   receive-start-is : Answers x.receive_start receive_start_checks (λ c. record { end = c; heard = 0; from = 0 }) (record { given = 0; place = 0 })
@@ -359,24 +355,22 @@ module _ (x : Library) (k : Keeps x) where
 
   bit_is : (way : Way) → Answers (x.bit way) bit_checks (λ c. c.state) 0
   bit_is way =
-      answers ordered.bit (λ c. ap (λ (r : ScrambledBit). r.answer) ((k.bit way c refl).crossed ∙ ap bit_crossing (k.bit way c refl).promise))
+      answers ordered.bit (λ c. ap (λ (r : ScrambledBit). r.answer) (k.bit way c refl))
       (λ c h.
-      let e = (k.bit way c refl).crossed ∙ ap bit_crossing (k.bit way c refl).promise in
+      let e = k.bit way c refl in
       ap (λ (r : ScrambledBit). r.bit) e ∙ kept _ _ _ (other (ap (λ (r : ScrambledBit). r.answer) e) h))
       (λ c h.
-      let e = (k.bit way c refl).crossed ∙ ap bit_crossing (k.bit way c refl).promise in
+      let e = k.bit way c refl in
       ap (λ (r : ScrambledBit). r.state) e ∙ kept _ _ _ (other (ap (λ (r : ScrambledBit). r.answer) e) h))
 
   run_is : (way : Way) → Answers (x.run way) run_checks (λ c. record { state = c.state; output = c.output }) none
   run_is way =
       answers ordered.run
-      (λ c. ap (λ (r : Scrambled). r.answer) (k.run way c refl).crossed ∙ (k.run way c refl).promise.answered) (λ c h. only _)
+      (λ c. (k.run way c refl).answered) (λ c h. only _)
       (λ c h.
       let w = k.run way c refl in
-      let e : (x.run way c).answer ≡ w.ran.answer = ap (λ (r : Scrambled). r.answer) w.crossed in
-      let s : (x.run way c).memory.state ≡ c.state =
-      ap (λ (r : Scrambled). r.state) w.crossed ∙ ap (λ (y : _). y.state) w.promise.next ∙ kept w.ran.answer _ _ (other e h) in
-      let o : (x.run way c).memory.output ≡ c.output = w.promise.left ∙ kept w.ran.answer _ _ (other e h) in
+      let s : (x.run way c).memory.state ≡ c.state = w.next ∙ kept (x.run way c).answer _ _ h in
+      let o : (x.run way c).memory.output ≡ c.output = w.left ∙ kept (x.run way c).answer _ _ h in
       λ i. record { state = s i; output = o i })
 
   send-is : Answers x.send send_checks (λ c. record { state = c.state; output = c.output }) none
@@ -390,13 +384,11 @@ module _ (x : Library) (k : Keeps x) where
   frame_is : Answers x.descramble_frame frame_checks (λ c. record { state = c.state; output = c.output }) none
   frame_is =
       answers ordered.descramble_frame
-      (λ c. ap (λ (r : Scrambled). r.answer) (k.descramble_frame c refl).crossed ∙ (k.descramble_frame c refl).promise.answered) (λ c h. only _)
+      (λ c. (k.descramble_frame c refl).answered) (λ c h. only _)
       (λ c h.
       let w = k.descramble_frame c refl in
-      let e : (x.descramble_frame c).answer ≡ w.ran.answer = ap (λ (r : Scrambled). r.answer) w.crossed in
-      let s : (x.descramble_frame c).memory.state ≡ c.state =
-      ap (λ (r : Scrambled). r.state) w.crossed ∙ ap (λ (y : _). y.state) w.promise.next ∙ kept w.ran.answer _ _ (other e h) in
-      let o : (x.descramble_frame c).memory.output ≡ c.output = w.promise.left ∙ kept w.ran.answer _ _ (other e h) in
+      let s : (x.descramble_frame c).memory.state ≡ c.state = w.next ∙ kept (x.descramble_frame c).answer _ _ h in
+      let o : (x.descramble_frame c).memory.output ≡ c.output = w.left ∙ kept (x.descramble_frame c).answer _ _ h in
       λ i. record { state = s i; output = o i })
 
   codes-answer : (c : _) → (x.run_codes c).answer ≡ answer (state_refusals (state_in c.state))
@@ -424,8 +416,8 @@ module _ (x : Library) (k : Keeps x) where
     eoc_read = eoc-read-is;
     eoc_hand_up = eoc-hand-up-is;
     scrambler_start = answers ordered.scrambler_start
-        (λ e. ap (λ (r : Scrambled). r.answer) ((k.scrambler_start e refl).crossed ∙ ap crossing (k.scrambler_start e refl).promise)) (λ e h. only _)
-        (λ e h. ap (λ (r : Scrambled). r.state) ((k.scrambler_start e refl).crossed ∙ ap crossing (k.scrambler_start e refl).promise));
+        (λ e. ap (λ (r : Scrambled). r.answer) (k.scrambler_start e refl)) (λ e h. only _)
+        (λ e h. ap (λ (r : Scrambled). r.state) (k.scrambler_start e refl));
     bit = bit_is;
     run = run_is;
     descramble_frame = frame_is;

@@ -15,7 +15,8 @@ use Rattle.checker.proofs.Laws.{checked}
 use Rattle.reader.specs.Promises.{vendor_octets, reserved_left}
 use Rattle.scrambler.specs.Ends.{tap_of}
 use Rattle.scrambler.specs.Promises.{given, clocked, around}
-use Rattle.recurrence.specs.Run.{scramble, descramble, out_of, next_of, run_of, after_of}
+use Rattle.recurrence.specs.Run.{out_of, next_of, run_of, after_of}
+use Rattle.recurrence.specs.declared.Way.TheVariants.{Scramble as scramble, Descramble as descramble}
 use Rattle.symbol.specs.Levels.{activation_levels, data_levels, level_at, place_in, activation_tests, data_tests, back_tests}
 use Rattle.symbol.specs.Encoder.{code_of, codes_of, x1, sent_after, held_in, register_of, with_register}
 use Rattle.samples.specs.Samples.{is_signal, at_start}
@@ -192,30 +193,10 @@ ours-keep = record {
   eoc_hand_up = λ c h. eoc-hands-up-keep c;
   receive_start = λ end h. starts-keep end;
   receive = λ c h. receives-lump-keep c;
-  scrambler_start = λ end h. record {
-    ran = record { answer = (ours.scrambler_start end).answer; next = record { end = end; state = 0 } };
-    crossed = refl;
-    promise = refl;
-  };
-  bit = λ way c h. record {
-    step = record {
-      answer = (ours.bit way c).answer;
-      bit = (ours.bit way c).numbers;
-      next = record { end = c.end; state = (ours.bit way c).memory };
-    };
-    crossed = refl;
-    promise = refl;
-  };
-  run = λ way c h. record {
-    ran = record { answer = (ours.run way c).answer; next = record { end = c.end; state = (ours.run way c).memory.state } };
-    crossed = refl;
-    promise = record { answered = refl; next = refl; left = refl };
-  };
-  descramble_frame = λ c h. record {
-    ran = record { answer = (ours.descramble_frame c).answer; next = record { end = c.end; state = (ours.descramble_frame c).memory.state } };
-    crossed = refl;
-    promise = record { answered = refl; next = refl; left = refl };
-  };
+  scrambler_start = λ end h. refl;
+  bit = λ way c h. refl;
+  run = λ way c h. record { answered = refl; next = refl; left = refl };
+  descramble_frame = λ c h. record { answered = refl; next = refl; left = refl };
   activation = λ b h. record { answered = refl; level = refl };
   level = λ b h. record { answered = refl; level = refl };
   code = λ l h. record { answered = refl; code = refl };

@@ -4,12 +4,11 @@ use mathlib.Core.List.{List}
 use Prim.Native.Nat.{ℕ}
 use Rattle.answer.specs.Answer.{answer, held}
 use Rattle.answer.proofs.Laws.{kept}
-use Rattle.recurrence.specs.Run.{Way}
+use Rattle.recurrence.specs.declared.Way.{Way}
 use Rattle.supervisor.specs.declared.Supervisor.{Supervisor as State}
-use Rattle.datareader.specs.Promises.{no_overhead}
 use Rattle.host.specs.declared.data.DataOverhead.{DataOverhead}
 use Rattle.host.specs.declared.supervising.Supervisor.{Supervisor}
-use Rattle.host.specs.Data.{overhead_for}
+use Rattle.host.specs.Data.{overhead_for, no_overhead}
 use Rattle.host.specs.Supervising.{state_in, state_of}
 use Rattle.demands.specs.Handed.{Outcome, None, none, SendCall, ReadCall, Fields, Rooms, RunCall, FrameCall, Line, EncodeRunCall, Codes, PrecodeCall}
 use Rattle.demands.specs.Handed.{Signal}

@@ -22,7 +22,9 @@ use Rattle.layout.proofs.Laws.{used-length, training-length}
 use Rattle.layout.proofs.Fields.{a-field, b-field}
 use Rattle.layout.proofs.RoundTrip.{training-laid, final-laid, final-answers}
 use Rattle.numbers.specs.Promises.{numbers_of, number_octets}
-use Rattle.recurrence.specs.Run.{Way, scramble, descramble, run_of, after_of}
+use Rattle.recurrence.specs.Run.{run_of, after_of}
+use Rattle.recurrence.specs.declared.Way.{Way}
+use Rattle.recurrence.specs.declared.Way.TheVariants.{Scramble as scramble, Descramble as descramble}
 use Rattle.scrambler.specs.Promises.{given, clocked, around, frame_out}
 use Rattle.scrambler.proofs.Frames.{received}
 use Rattle.recurrence.proofs.Exactly.{scrambles-run, descrambles-run}

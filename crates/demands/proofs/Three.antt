@@ -7,14 +7,14 @@ use Prim.Native.Nat.{ℕ, suc, ◌≤◌}
 use native.Mathlib.Omega.{arith}
 use lib.ListN.{take}
 use Rattle.supervisor.specs.declared.Supervisor.{Supervisor as State}
-use Rattle.supervisor.specs.declared.Answer.{Answer}
+use Rattle.supervisor.specs.Step.{Numbered}
 use Rattle.supervisor.specs.Names.{Settling, Exception}
 use Rattle.supervisor.specs.Step.{start_of, fresh}
 use Rattle.startup.specs.Reports.{at, one}
 use Rattle.startup.specs.Attempts.{Needs, needs_of, meant}
 use Rattle.startup.specs.Stands.{Stands}
 use Rattle.startup.specs.Scan.{Attempt, attempts}
-use Rattle.startup.specs.declared.Run.{Run as StartupRun}
+use Rattle.startup.specs.Run.{Run as StartupRun}
 use Rattle.startup.specs.Agrees.{summary}
 use Rattle.startup.specs.Make.{Reply, Ran, Make, steps_by, phase_at, reply_to, FirstShows, ran_over, Taken, steps, ours}
 use Rattle.startup.proofs.Simulates.{k_of, sound}
@@ -174,10 +174,10 @@ three x k end silence h t = (
         let e = k.start (record { end = end; silence = silence }) refl in
         let w = start-answers end silence h t in
         record {
-          answer = ap (λ (r : Stepped). r.answer) e ∙ ap (λ (r : Answer). r.answer) w;
-          phase = ap (λ (r : Stepped). r.phase) e ∙ ap (λ (r : Answer). r.phase) w;
-          in_it = ap (λ (r : Stepped). r.state.phase) e ∙ ap (λ (r : Answer). r.state.phase) w;
-          attempt = ap (λ (r : Stepped). r.attempt) e ∙ ap (λ (r : Answer). r.attempt) w;
+          answer = ap (λ (r : Stepped). r.answer) e ∙ ap (λ (r : Numbered). r.answer) w;
+          phase = ap (λ (r : Stepped). r.phase) e ∙ ap (λ (r : Numbered). r.phase) w;
+          in_it = ap (λ (r : Stepped). r.state.phase) e ∙ ap (λ (r : Numbered). r.state.phase) w;
+          attempt = ap (λ (r : Stepped). r.attempt) e ∙ ap (λ (r : Numbered). r.attempt) w;
         }
 
     alike : (s : Supervisor) (c : ℕ) → let r = (supervisor x).step s c in

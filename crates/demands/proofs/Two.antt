@@ -16,7 +16,9 @@ use Rattle.numbers.specs.Promises.{numbers_of, number_octets}
 use Rattle.scrambler.specs.Ends.{tap_of}
 use Rattle.scrambler.specs.Promises.{given, clocked, around, frame_out}
 use Rattle.recurrence.specs.Line.{Scrambles, Descrambles, newest}
-use Rattle.recurrence.specs.Run.{Way, scramble, descramble, out_of, next_of, run_of, after_of}
+use Rattle.recurrence.specs.Run.{out_of, next_of, run_of, after_of}
+use Rattle.recurrence.specs.declared.Way.{Way}
+use Rattle.recurrence.specs.declared.Way.TheVariants.{Scramble as scramble, Descramble as descramble}
 use Rattle.scrambler.specs.declared.Scrambler.{Scrambler}
 use Rattle.scrambler.proofs.Laws.{tap-range, run_sound, frame-sound}
 use Rattle.scrambler.proofs.Frames.{frame_back}
@@ -28,7 +30,6 @@ use Rattle.symbol.proofs.Levels.{code-of-level}
 use Rattle.samples.specs.Shaper.{Exactly}
 use Rattle.host.specs.declared.scrambling.Scrambled.{Scrambled}
 use Rattle.host.specs.declared.scrambling.ScrambledBit.{ScrambledBit}
-use Rattle.host.specs.Scrambling.{crossing, bit_crossing}
 use Rattle.host.specs.declared.frames.FrameFields.{FrameFields}
 use Rattle.host.specs.Frames.{found_of, coefficient_octets}
 use Rattle.reader.specs.Promises.{vendor_octets, reserved_octets, reserved_left}
@@ -144,7 +145,7 @@ module _ (x : Library) (k : Keeps x) where
   bit_is : (way : Way) (c : BitCall) → Right (bit_checks c)
       → x.bit way c ≡ done (out_of (tap_of c.end) c.state c.bit) (next_of way (tap_of c.end) c.state c.bit)
   bit_is way c h =
-      let e = (k.bit way c refl).crossed ∙ ap bit_crossing (k.bit way c refl).promise in
+      let e = k.bit way c refl in
       same (ap (λ (r : ScrambledBit). r.answer) e ∙ h) (ap (λ (r : ScrambledBit). r.bit) e ∙ held-given _ _ _ h)
       (ap (λ (r : ScrambledBit). r.state) e ∙ held-given _ _ _ h)
 
@@ -156,10 +157,10 @@ module _ (x : Library) (k : Keeps x) where
       })
   run_is way c h =
       let w = k.run way c refl in
-      let z : w.ran.answer ≡ 0 = w.promise.answered ∙ h in
-      let s = ap (λ (r : Scrambled). r.state) w.crossed ∙ ap (λ (y : Scrambler). y.state) w.promise.next ∙ held-given _ _ _ z in
-      let o = w.promise.left ∙ held-given _ _ _ z in
-      same (ap (λ (r : Scrambled). r.answer) w.crossed ∙ z) (only _) (λ i. record { state = s i; output = o i })
+      let z = w.answered ∙ h in
+      let s = w.next ∙ held-given _ _ _ z in
+      let o = w.left ∙ held-given _ _ _ z in
+      same z (only _) (λ i. record { state = s i; output = o i })
 
   frame_is : (c : FrameCall) → Right (frame_checks c) → x.descramble_frame c ≡ done none
       (record {
@@ -168,15 +169,15 @@ module _ (x : Library) (k : Keeps x) where
       })
   frame_is c h =
       let w = k.descramble_frame c refl in
-      let z : w.ran.answer ≡ 0 = w.promise.answered ∙ h in
-      let s = ap (λ (r : Scrambled). r.state) w.crossed ∙ ap (λ (y : Scrambler). y.state) w.promise.next ∙ held-given _ _ _ z in
-      let o = w.promise.left ∙ held-given _ _ _ z in
-      same (ap (λ (r : Scrambled). r.answer) w.crossed ∙ z) (only _) (λ i. record { state = s i; output = o i })
+      let z = w.answered ∙ h in
+      let s = w.next ∙ held-given _ _ _ z in
+      let o = w.left ∙ held-given _ _ _ z in
+      same z (only _) (λ i. record { state = s i; output = o i })
 
   pub scrambling : Scrambling x
   scrambling = record {
     started = λ end h.
-        let e = (k.scrambler_start end refl).crossed ∙ ap crossing (k.scrambler_start end refl).promise in
+        let e = k.scrambler_start end refl in
         same (ap (λ (r : Scrambled). r.answer) e ∙ h) (only _) (ap (λ (r : Scrambled). r.state) e);
     bit_scrambled = λ c h.
         let t = tap-range c.end in

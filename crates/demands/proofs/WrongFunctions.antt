@@ -18,7 +18,9 @@ use Rattle.layout.specs.Places.{a_field, b_field}
 use Rattle.layout.specs.Frame.{training_sync, field_of}
 use Rattle.layout.specs.Refusals.{has_sync}
 use Rattle.recurrence.specs.Line.{Scrambles}
-use Rattle.recurrence.specs.Run.{Way, scramble, descramble, out_of, run_of}
+use Rattle.recurrence.specs.Run.{out_of, run_of}
+use Rattle.recurrence.specs.declared.Way.{Way}
+use Rattle.recurrence.specs.declared.Way.TheVariants.{Scramble as scramble, Descramble as descramble}
 use Rattle.recurrence.proofs.Laws.{run-bits}
 use Rattle.recurrence.proofs.Exactly.{run-scrambles}
 use Rattle.scrambler.specs.Ends.{tap_of}

@@ -6,7 +6,7 @@ use Rattle.layout.specs.Places.{vendor_length, reserved_length, frame_length}
 use Rattle.layout.specs.Frame.{used}
 use Rattle.numbers.specs.Promises.{coefficients_length, numbers_of, number_octets}
 use Rattle.scrambler.specs.Promises.{given}
-use Rattle.recurrence.specs.Run.{scramble, descramble}
+use Rattle.recurrence.specs.declared.Way.TheVariants.{Scramble as scramble, Descramble as descramble}
 use Rattle.demands.specs.Handed.{Outcome, None, none, SendCall, BitCall, RunCall, Line, PrecodeCall}
 use Rattle.demands.specs.Library.{Library}
 use Rattle.demands.specs.Checks.{frame_of, send_checks, bit_checks, run_checks, precode_checks}

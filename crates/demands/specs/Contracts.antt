@@ -3,7 +3,7 @@
 -- make, `KeepsFor from_c`. The demands speak of all numbers and lists, `Keeps`. The step between is a theorem, `widened`: a library that keeps the
 -- contracts for what C can hand in does there what a library does that keeps them for every call. So C sees no more and no less than the demands.
 use Rattle.std.specs.Prelude.{◌≡◌, true, List, ℕ, ℤ}
-use Rattle.recurrence.specs.Run.{Way}
+use Rattle.recurrence.specs.declared.Way.{Way}
 use Rattle.checker.specs.Promises.{Checked}
 use Rattle.datachecker.specs.Promises.{DataChecked}
 use Rattle.precoder.specs.Runs.{PrecodesRun, DecodesRun}

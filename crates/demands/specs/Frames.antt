@@ -11,7 +11,7 @@ use Rattle.numbers.specs.Promises.{numbers_of, number_octets}
 use Rattle.recurrence.specs.Line.{Scrambles, Descrambles, newest}
 use Rattle.scrambler.specs.Ends.{tap_of}
 use Rattle.scrambler.specs.Promises.{given, clocked, around, frame_out}
-use Rattle.recurrence.specs.Run.{scramble, descramble}
+use Rattle.recurrence.specs.declared.Way.TheVariants.{Scramble as scramble, Descramble as descramble}
 use Rattle.demands.specs.Handed.{Outcome, none, SendCall, ReadCall, BitCall, RunCall, FrameCall}
 use Rattle.demands.specs.Library.{Library}
 use Rattle.demands.specs.Checks.{send_checks, read_checks, scrambler_start_checks, bit_checks, run_checks, frame_checks}

@@ -1,6 +1,6 @@
 -- A library of any make: each function of sdsl.h as a function from what is handed in to what comes back, so a call always ends, with one result.
 use Rattle.std.specs.Prelude.{List, ℕ, Float, ℤ}
-use Rattle.recurrence.specs.Run.{Way}
+use Rattle.recurrence.specs.declared.Way.{Way}
 use Rattle.host.specs.declared.data.DataOverhead.{DataOverhead}
 use Rattle.host.specs.declared.receiving.Receiver.{Receiver}
 use Rattle.host.specs.declared.supervising.Supervisor.{Supervisor}

@@ -2,7 +2,7 @@
 -- refusing everything, or a frame for its reserved bits, cannot meet "None is given otherwise", and is built to meet the rest.
 use Rattle.std.specs.Prelude.{◌≡◌, true}
 use Rattle.answer.specs.Table.{in_table}
-use Rattle.recurrence.specs.Run.{Way}
+use Rattle.recurrence.specs.declared.Way.{Way}
 use Rattle.demands.specs.Handed.{Outcome, ReadCall, Fields, Rooms}
 use Rattle.demands.specs.Library.{Library}
 use Rattle.demands.specs.One.{One}

@@ -8,12 +8,11 @@ use Rattle.answer.specs.Table.{rising, in_table, in_turn}
 use Rattle.layout.specs.Refusals.{check_refusals}
 use Rattle.dataframe.specs.Refusals.{data_order}
 use Rattle.eoc.specs.Refusals.{eoc_order}
-use Rattle.datareader.specs.Promises.{no_overhead}
-use Rattle.recurrence.specs.Run.{Way}
+use Rattle.recurrence.specs.declared.Way.{Way}
 use Rattle.symbol.specs.Levels.{activation_tests, data_tests, back_tests}
 use Rattle.samples.specs.Shaper.{shaper_tests}
 use Rattle.supervisor.specs.Step.{none as no_state}
-use Rattle.host.specs.Data.{overhead_for}
+use Rattle.host.specs.Data.{overhead_for, no_overhead}
 use Rattle.host.specs.Supervising.{state_of}
 use Rattle.demands.specs.Handed.{Outcome, none}
 use Rattle.demands.specs.Library.{Library}

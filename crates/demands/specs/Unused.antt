@@ -1,6 +1,6 @@
 -- "8 is never given again and its number stays unused": by no function, for no call.
 use Rattle.std.specs.Prelude.{◌≡◌}
-use Rattle.recurrence.specs.Run.{Way}
+use Rattle.recurrence.specs.declared.Way.{Way}
 use Rattle.demands.specs.Handed.{Outcome}
 use Rattle.demands.specs.Library.{Library}
 

@@ -1,6 +1,6 @@
 -- From the calls that C can make to every call: the two libraries of the theorem `widened`.
 use Rattle.std.specs.Prelude.{◌≡◌, true, List, ℕ, ℤ}
-use Rattle.recurrence.specs.Run.{Way}
+use Rattle.recurrence.specs.declared.Way.{Way}
 use Rattle.demands.specs.Library.{Library}
 use Rattle.demands.specs.Handed.{SendCall, ReadCall, BitCall, RunCall, FrameCall, WordsCall, EncodeCall, EncodeRunCall, PrecodeCall}
 use Rattle.demands.specs.HandedData.{DataWriteCall, DataCrcCall, DataCheckCall, DataReadCall}

@@ -4,7 +4,8 @@ use Rattle.octets.specs.Bits.{value_of, bits_of}
 use Rattle.layout.specs.Places.{a_field, b_field}
 use Rattle.layout.specs.Frame.{field_of}
 use Rattle.recurrence.specs.Line.{Scrambles}
-use Rattle.recurrence.specs.Run.{Way, scramble}
+use Rattle.recurrence.specs.declared.Way.{Way}
+use Rattle.recurrence.specs.declared.Way.TheVariants.{Scramble as scramble}
 use Rattle.scrambler.specs.Ends.{tap_of}
 use Rattle.scrambler.specs.Promises.{given, frame_out}
 use Rattle.demands.specs.Handed.{Outcome, SendCall, ReadCall, RunCall}

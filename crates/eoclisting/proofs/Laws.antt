@@ -1,5 +1,5 @@
 -- Laws of the texts of messages. Assumes nothing.
-use mathlib.Core.Path.{◌≡◌, refl, ap, ◌∙◌}
+use mathlib.Core.Path.{◌≡◌, refl, sym, ap, ◌∙◌}
 use mathlib.Core.Bool.{Bool, true, false, cond, ◌&&◌}
 use mathlib.Core.List.{List, [], ◌∷◌, ◌++◌}
 use Prim.Native.Nat.{ℕ, zero, suc, ◌+◌, ◌-◌, ◌≤◌, ◌<◌}
@@ -15,16 +15,6 @@ use Rattle.forms.specs.Forms.{formed}
 use Rattle.eoclisting.specs.Contents.{hex_part, margin_text, string_length, string_by, string_text}
 use Rattle.eoclisting.specs.Contents.{short_part, margins_text, status_part, inventory_text, inventory_part, contents_text}
 use Rattle.eoclisting.specs.Totals.{left_text, count_text}
-
--- ---- contents in hex
-
-pub hex-none : (c : List ℕ) → length c ≡ 0 → [] ≡ hex_part c
-unfolding hex_part
-hex-none c e = simp (eq-eqb (length c) 0 e)
-
-pub hex-some : (c : List ℕ) → (length c ≡ 0 → ⊥) → text ": " ++ hexes c ≡ hex_part c
-unfolding hex_part
-hex-some c h = simp (ne_eqb (length c) 0 h)
 
 -- ---- a margin
 
@@ -155,14 +145,24 @@ module _ (f : List ℕ) (n : ℕ) (e : n ≡ string_length f) where
 
 -- ---- totals
 
-pub left-none : (a b : ℕ) → (eqb a 0 && eqb b 0) ≡ true → [] ≡ left_text a b
+pub left-none : (a b : ℕ) → a ≡ 0 → b ≡ 0 → [] ≡ left_text a b
 unfolding left_text
-left-none a b e = simp e
+left-none a b e f = simp (eq-eqb a 0 e, eq-eqb b 0 f)
 
-pub left-some : (a b : ℕ) → (eqb a 0 && eqb b 0) ≡ false
-    → formed (text "left out: octets before the first flag: #, behind the last: #\n") (a ∷ b ∷ []) ≡ left_text a b
+abbrev left : ℕ → ℕ → List ℕ
+left a b = formed (text "left out: octets before the first flag: #, behind the last: #\n") (a ∷ b ∷ [])
+
+pub left-before : (a b : ℕ) → (a ≡ 0 → ⊥) → left a b ≡ left_text a b
 unfolding left_text
-left-some a b e = simp e
+left-before a b h = simp (ne_eqb a 0 h)
+
+pub left-behind : (a b : ℕ) → (b ≡ 0 → ⊥) → left a b ≡ left_text a b
+unfolding left_text
+left-behind a b h = go (eqb a 0) ∙ ap (λ (t : Bool). cond (eqb a 0 && t) [] (left a b)) (sym (ne_eqb b 0 h))
+  where
+    go : (t : Bool) → left a b ≡ cond (t && false) [] (left a b)
+    go true = refl
+    go false = refl
 
 module _ (n good refused : ℕ) (e : refused ≡ n - good) where
   pub count-one : n ≡ 1 → formed (text "# message: # good, # refused") (n ∷ good ∷ refused ∷ []) ≡ count_text n good

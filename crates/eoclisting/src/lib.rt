@@ -1,22 +1,25 @@
 // The text of operations channel messages for the bench: a line for each (specs/Line.antt), put into a lent room.
 #![tactic(auto)]
 
-ghost use Rattle.std.specs.Prelude.{◌≡◌, ◌++◌, ◌-◌, ◌≤◌, ◌<◌, length};
-ghost use Rattle.octets.specs.Bits.{part};
+ghost use Rattle.std.specs.Prelude.{◌≡◌, ◌++◌, ◌-◌, ◌≤◌, length};
+ghost use Rattle.answer.specs.Given.{number_of};
 ghost use Rattle.forms.specs.Forms.{row_of};
-ghost use Rattle.ascii.specs.Promises.{Put};
+ghost use Rattle.ascii.specs.Promises.{Puts};
 ghost use Rattle.eoclisting.specs.Names.{units, source_row, request_row, response_row, name_row, name_of};
 ghost use Rattle.eoclisting.specs.Contents.{hex_part, short_part, margin_text, margins_text, status_part, string_length, string_text};
-ghost use Rattle.eoclisting.specs.Contents.{software_text, vendor_id, vendor_text, inventory_part, contents_text};
+ghost use Rattle.eoclisting.specs.Contents.{software_text, vendor_text, inventory_part, contents_text};
 ghost use Rattle.eoclisting.specs.Line.{way_text, message_line, reason_row, refused_line};
 ghost use Rattle.eoclisting.specs.Promises.{Lined};
 ghost use Rattle.eoclisting.specs.Totals.{left_text, count_text, taken_text, Totalled};
 
-// What becomes of a message: the answer of reading it, to whom it goes, and how many octets its line has.
+use answer::Refused;
+use ascii::Text;
+use eocreader::Found;
+
+// What becomes of a message: to whom it goes, or why it is refused; and how many octets its line has.
 #[derive(Drop)]
 pub struct Listed {
-    pub answer: u32,
-    pub destination: u32,
+    pub destination: Result<u32, Refused>,
     pub length: usize,
 }
 
@@ -32,17 +35,15 @@ pub struct Counts {
     pub taken: u32,
 }
 
-// The message numbers whose contents are told in words, and how many octets these have at least.
+// The message numbers whose contents are told in words, and how many octets those of an inventory have at least.
 const INVENTORY: u32 = 130;
 
 const STATUS: u32 = 139;
 
 const INVENTORY_OCTETS: usize = 67;
 
-const STATUS_OCTETS: usize = 3;
-
 // A margin that is not available.
-const NO_MARGIN: u32 = 127;
+const NO_MARGIN: u8 = 127;
 
 // The rows of no unit: 15 and 0 as a source.
 const FIFTEEN: u32 = 16;
@@ -52,63 +53,50 @@ const ZERO: u32 = 17;
 // ---- names
 
 // A unit by its row: by its address, as a destination.
-fn put_unit(room: &mut [u8], at: usize, row: u32) -> usize
-    ensures { Put room.old at (row_of units row) result room.new }
+fn put_unit(text: &mut Text<'_>, row: u32)
+    ensures { Puts text.old (row_of units row) text.new }
 {
-    forms::put_row(
-        room,
-        at,
+    text.word(forms::row(
         b"adjacent unit\nLTU\nNTU\nregenerator 1\nregenerator 2\nregenerator 3\nregenerator 4\nregenerator 5\nregenerator 6\n\
           regenerator 7\nregenerator 8\naddress 11\naddress 12\naddress 13\naddress 14\nall\naddress 15\naddress 0\n",
         row,
-    )
+    ));
 }
 
 // The row of a source.
 fn source_row(address: u32) -> u32
     ensures { result ≡ source_row address }
 {
-    if address == eoc::EVERY_UNIT {
-        return FIFTEEN;
+    match address {
+        eoc::EVERY_UNIT => FIFTEEN,
+        eoc::ADJACENT => ZERO,
+        _ => address,
     }
-    if address == eoc::ADJACENT {
-        return ZERO;
-    }
-    address
 }
 
 // From whom to whom.
-fn put_way(room: &mut [u8], at: usize, source: u32, destination: u32) -> usize
-    ensures { Put room.old at (way_text source destination) result room.new }
+fn put_way(text: &mut Text<'_>, source: u32, destination: u32)
+    ensures { Puts text.old (way_text source destination) text.new }
 {
-    let mut next = put_unit(room, at, source_row(source));
-    next = ascii::put_word(room, next, b" to ");
-    put_unit(room, next, destination)
+    put_unit(text, source_row(source));
+    text.word(b" to ");
+    put_unit(text, destination);
 }
 
 // The row of a request.
 fn request_row(number: u32) -> u32
     ensures { result ≡ request_row number }
 {
-    if number < 23 {
-        return number;
+    match number {
+        0..=22 => number,
+        23..=63 => 23,
+        64..=88 => 24,
+        89..=111 => 25,
+        112..=119 => 26,
+        120..=121 => number - 93,
+        122..=124 => 25,
+        _ => 29,
     }
-    if number < 64 {
-        return 23;
-    }
-    if number < 89 {
-        return 24;
-    }
-    if number < 112 {
-        return 25;
-    }
-    if number < 120 {
-        return 26;
-    }
-    if number < 122 {
-        return number - 93;
-    }
-    if number < 125 { 25 } else { 29 }
 }
 
 // The row of a response.
@@ -116,22 +104,15 @@ fn response_row(number: u32) -> u32
     requires { 128 ≤ number }
     ensures { result ≡ response_row number }
 {
-    if number < 151 {
-        return number - 98;
+    match number {
+        0..=150 => number - 98,
+        151..=191 => 23,
+        192..=216 => 53,
+        217..=239 => 23,
+        240..=247 => 54,
+        248..=252 => 25,
+        253.. => 29,
     }
-    if number < 192 {
-        return 23;
-    }
-    if number < 217 {
-        return 53;
-    }
-    if number < 240 {
-        return 23;
-    }
-    if number < 248 {
-        return 54;
-    }
-    if number < 253 { 25 } else { 29 }
 }
 
 // The row of a message number.
@@ -139,18 +120,17 @@ fn name_row(number: u32) -> u32
     ensures { result ≡ name_row number }
 {
     if number < 128 {
-        return request_row(number);
+        request_row(number)
+    } else {
+        response_row(number)
     }
-    response_row(number)
 }
 
 // The name of a message.
-fn put_name(room: &mut [u8], at: usize, number: u32) -> usize
-    ensures { Put room.old at (name_of number) result room.new }
+fn put_name(text: &mut Text<'_>, number: u32)
+    ensures { Puts text.old (name_of number) text.new }
 {
-    forms::put_row(
-        room,
-        at,
+    text.word(forms::row(
         b"Reserved\nDiscovery Probe\nInventory Request\nConfiguration Request - SDSL\nReserved for Application Interface Configuration\n\
           Configuration Request - Loopback Time-Out\nVirtual Terminal Connect Request\nVirtual Terminal Disconnect Request\n\
           Keyboard Data Message\nMaintenance Request - System Loopback\nMaintenance Request - Element Loopback\nStatus Request\n\
@@ -166,77 +146,59 @@ fn put_name(room: &mut [u8], at: usize, number: u32) -> usize
           Reserved for Voice Transport Response (Future)\nISDN Response\nLAPV5 POTS and ISDN setup Response\nDeactivation Acknowledge\n\
           Segment Management Response (reserved)\nProprietary Message Response\n",
         name_row(number),
-    )
+    ));
 }
 
 // ---- contents
 
-// An octet as a number.
-fn wide(octet: u8) -> u32
-    ensures { result ≡ octet }
-{
-    octet as u32
-}
-
 // Contents in hex, where there are some.
-fn put_hex(room: &mut [u8], at: usize, contents: &[u8]) -> usize
-    ensures { Put room.old at (hex_part contents.now) result room.new }
+fn put_hex(text: &mut Text<'_>, contents: &[u8])
+    ensures { Puts text.old (hex_part contents.now) text.new }
 {
-    if contents.len() == 0 {
-        return at;
+    if !contents.is_empty() {
+        text.word(b": ");
+        text.hexes(contents);
     }
-    let next = ascii::put_word(room, at, b": ");
-    ascii::put_hexes(room, next, contents)
 }
 
 // Contents with fewer octets than the table has.
-fn put_short(room: &mut [u8], at: usize, contents: &[u8]) -> usize
-    ensures { Put room.old at (short_part contents.now) result room.new }
+fn put_short(text: &mut Text<'_>, contents: &[u8])
+    ensures { Puts text.old (short_part contents.now) text.new }
 {
-    let next = ascii::put_word(room, at, b": contents are short");
-    put_hex(room, next, contents)
+    text.word(b": contents are short");
+    put_hex(text, contents);
 }
 
 // A margin.
-fn put_margin(room: &mut [u8], at: usize, margin: u32) -> usize
-    requires { margin < 256 }
-    ensures { Put room.old at (margin_text margin) result room.new }
+fn put_margin(text: &mut Text<'_>, margin: u8)
+    ensures { Puts text.old (margin_text margin) text.new }
 {
-    if margin == NO_MARGIN {
-        return ascii::put_word(room, at, b"not available");
+    match margin {
+        NO_MARGIN => text.word(b"not available"),
+        0..=126 => forms::form(text, b"# dB", &[u32::from(margin)]),
+        _ => forms::form(text, b"-# dB", &[256 - u32::from(margin)]),
     }
-    if margin < 128 {
-        return forms::put_form(room, at, b"# dB", &[margin]);
-    }
-    forms::put_form(room, at, b"-# dB", &[256 - margin])
 }
 
 // A status.
-fn put_margins(room: &mut [u8], at: usize, network: u32, customer: u32, loops: u32) -> usize
-    requires { (network < 256) × (customer < 256) }
-    ensures { Put room.old at (margins_text network customer loops) result room.new }
+fn put_margins(text: &mut Text<'_>, network: u8, customer: u8, loops: u8)
+    ensures { Puts text.old (margins_text network customer loops) text.new }
 {
-    let mut next = ascii::put_word(room, at, b": network side ");
-    next = put_margin(room, next, network);
-    next = ascii::put_word(room, next, b", customer side ");
-    next = put_margin(room, next, customer);
-    forms::put_form(room, next, b", loop #", &[loops])
+    text.word(b": network side ");
+    put_margin(text, network);
+    text.word(b", customer side ");
+    put_margin(text, customer);
+    forms::form(text, b", loop #", &[u32::from(loops)]);
 }
 
 // The contents of a status.
-fn put_status(room: &mut [u8], at: usize, contents: &[u8]) -> usize
-    ensures { Put room.old at (status_part contents.now) result room.new }
+fn put_status(text: &mut Text<'_>, contents: &[u8])
+    ensures { Puts text.old (status_part contents.now) text.new }
 {
-    if contents.len() < STATUS_OCTETS {
-        return put_short(room, at, contents);
+    match contents {
+        &[network, customer, loops, ..] => put_margins(text, network, customer, loops),
+        _ => put_short(text, contents),
     }
-    put_margins(
-        room,
-        at,
-        wide(contents[0]),
-        wide(contents[1]),
-        wide(contents[2]),
-    )
 }
 
 // How long a string is.
@@ -244,236 +206,199 @@ fn string_length(field: &[u8]) -> usize
     ensures { result ≡ string_length field.now }
 {
     let mut last = 0;
-    let mut k = 0;
-    while k < field.len() {
-        let octet = field[k];
+    for (k, &octet) in field.iter().enumerate() {
         if octet == 0 {
             return last;
         }
-        k += 1;
         if octet != b' ' {
-            last = k;
+            last = k + 1;
         }
     }
     last
 }
 
-// A string of n octets in quotes; where an octet of it cannot be printed, its field in hex.
-fn put_string(room: &mut [u8], at: usize, field: &[u8]) -> usize
-    ensures { Put room.old at (string_text field.now) result room.new }
+// A string in quotes; where an octet of it cannot be printed, its field in hex.
+fn put_string(text: &mut Text<'_>, field: &[u8])
+    ensures { Puts text.old (string_text field.now) text.new }
 {
-    let n = string_length(field);
-    if ascii::text_length(&field[..n]) != n {
-        return ascii::put_hexes(room, at, field);
+    let string = &field[..string_length(field)];
+    if ascii::text_length(string) == string.len() {
+        text.put(b'"');
+        text.word(string);
+        text.put(b'"');
+    } else {
+        text.hexes(field);
     }
-    let mut next = ascii::put(room, at, b'"');
-    next = ascii::put_word(room, next, &field[..n]);
-    ascii::put(room, next, b'"')
 }
 
-// A string of an inventory, behind what it is: the octets from one place to another.
-fn put_field(
-    room: &mut [u8],
-    at: usize,
-    label: &[u8],
-    contents: &[u8],
-    from: usize,
-    to: usize,
-) -> usize
-    requires { (from ≤ to) × (to ≤ length contents.now) }
-    ensures { Put room.old at (label.now ++ string_text (part from (to - from) contents.now)) result room.new }
+// A string of an inventory, behind what it is.
+fn put_field(text: &mut Text<'_>, label: &[u8], field: &[u8])
+    ensures { Puts text.old (label.now ++ string_text field.now) text.new }
 {
-    let next = ascii::put_word(room, at, label);
-    put_string(room, next, &contents[from..to])
+    text.word(label);
+    put_string(text, field);
 }
 
 // An inventory up to the software's version.
-fn put_software(room: &mut [u8], at: usize, contents: &[u8]) -> usize
+fn put_software(text: &mut Text<'_>, contents: &[u8])
     requires { 67 ≤ length contents.now }
-    ensures { Put room.old at (software_text contents.now) result room.new }
+    ensures { Puts text.old (software_text contents.now) text.new }
 {
-    let mut next = forms::put_form(room, at, b": SDSL version #", &[wide(contents[0])]);
-    next = put_field(room, next, b", list ", contents, 1, 4);
-    next = put_field(room, next, b", issue ", contents, 4, 6);
-    put_field(room, next, b", software ", contents, 6, 12)
-}
-
-// The vendor ID.
-fn put_vendor_id(room: &mut [u8], at: usize, contents: &[u8]) -> usize
-    requires { 67 ≤ length contents.now }
-    ensures { Put room.old at (vendor_id contents.now) result room.new }
-{
-    let next = ascii::put_word(room, at, b", vendor ID ");
-    ascii::put_hexes(room, next, &contents[23..31])
+    forms::form(text, b": SDSL version #", &[u32::from(contents[0])]);
+    put_field(text, b", list ", &contents[1..4]);
+    put_field(text, b", issue ", &contents[4..6]);
+    put_field(text, b", software ", &contents[6..12]);
 }
 
 // An inventory from the vendor ID on.
-fn put_vendor(room: &mut [u8], at: usize, contents: &[u8]) -> usize
+fn put_vendor(text: &mut Text<'_>, contents: &[u8])
     requires { 67 ≤ length contents.now }
-    ensures { Put room.old at (vendor_text contents.now) result room.new }
+    ensures { Puts text.old (vendor_text contents.now) text.new }
 {
-    let mut next = put_vendor_id(room, at, contents);
-    next = put_field(room, next, b", model ", contents, 31, 43);
-    next = put_field(room, next, b", serial ", contents, 43, 55);
-    put_field(room, next, b", other ", contents, 55, 67)
+    text.word(b", vendor ID ");
+    text.hexes(&contents[23..31]);
+    put_field(text, b", model ", &contents[31..43]);
+    put_field(text, b", serial ", &contents[43..55]);
+    put_field(text, b", other ", &contents[55..67]);
 }
 
 // The contents of an inventory.
-fn put_inventory(room: &mut [u8], at: usize, contents: &[u8]) -> usize
-    ensures { Put room.old at (inventory_part contents.now) result room.new }
+fn put_inventory(text: &mut Text<'_>, contents: &[u8])
+    ensures { Puts text.old (inventory_part contents.now) text.new }
 {
     if contents.len() < INVENTORY_OCTETS {
-        return put_short(room, at, contents);
+        put_short(text, contents);
+    } else {
+        put_software(text, contents);
+        put_field(text, b", unit ", &contents[12..22]);
+        put_vendor(text, contents);
     }
-    let mut next = put_software(room, at, contents);
-    next = put_field(room, next, b", unit ", contents, 12, 22);
-    put_vendor(room, next, contents)
 }
 
 // The contents of a message.
-fn put_contents(room: &mut [u8], at: usize, number: u32, contents: &[u8]) -> usize
-    ensures { Put room.old at (contents_text number contents.now) result room.new }
+fn put_contents(text: &mut Text<'_>, number: u32, contents: &[u8])
+    ensures { Puts text.old (contents_text number contents.now) text.new }
 {
-    if number == STATUS {
-        return put_status(room, at, contents);
+    match number {
+        STATUS => put_status(text, contents),
+        INVENTORY => put_inventory(text, contents),
+        _ => put_hex(text, contents),
     }
-    if number == INVENTORY {
-        return put_inventory(room, at, contents);
-    }
-    put_hex(room, at, contents)
 }
 
 // ---- lines
 
 // The line of a message.
-fn put_message(room: &mut [u8], n: u32, found: eocreader::Found, contents: &[u8]) -> usize
-    ensures { Put room.old 0 (message_line n (record {
+fn put_message(text: &mut Text<'_>, n: u32, found: Found, contents: &[u8])
+    ensures { Puts text.old (message_line n (record {
       source = found.source;
       destination = found.destination;
       number = found.number;
       contents = contents.now;
-    })) result room.new }
+    })) text.new }
 {
-    let mut next = forms::put_form(room, 0, b"# ", &[n]);
-    next = put_way(room, next, found.source, found.destination);
-    next = forms::put_form(room, next, b": # ", &[found.number]);
-    next = put_name(room, next, found.number);
-    next = put_contents(room, next, found.number, contents);
-    ascii::put(room, next, b'\n')
+    let number = u32::from(found.number);
+    forms::form(text, b"# ", &[n]);
+    put_way(text, u32::from(found.source), u32::from(found.destination));
+    forms::form(text, b": # ", &[number]);
+    put_name(text, number);
+    put_contents(text, number, contents);
+    text.put(b'\n');
 }
 
 // The row of a refusal.
-fn reason_row(no: u32) -> u32
-    ensures { result ≡ reason_row no }
+fn reason_row(no: Refused) -> u32
+    ensures { result ≡ reason_row (number_of no) }
 {
-    if no == answer::CHECK {
-        return 0;
+    match no {
+        Refused::Flag => 1,
+        Refused::Escape => 2,
+        Refused::Size => 3,
+        _ => 0,
     }
-    if no < 9 { 0 } else { no - 9 }
 }
 
 // The line of a message that is refused.
-fn put_refused(room: &mut [u8], n: u32, no: u32) -> usize
-    ensures { Put room.old 0 (refused_line n no) result room.new }
+fn put_refused(text: &mut Text<'_>, n: u32, no: Refused)
+    ensures { Puts text.old (refused_line n (number_of no)) text.new }
 {
-    let mut next = forms::put_form(room, 0, b"# refused #: ", &[n, no]);
-    next = forms::put_row(
-        room,
-        next,
+    forms::form(text, b"# refused #: ", &[n, no.number()]);
+    text.word(forms::row(
         b"the check bits differ\na flag is missing or stands inside the message\nan escape other than 7D 5E and 7D 5D\n\
           the message is too long or too short\n",
         reason_row(no),
-    );
-    ascii::put(room, next, b'\n')
+    ));
+    text.put(b'\n');
 }
 
 // The line of message number n of the channel, which came as these octets.
 pub fn line(n: u32, octets: &[u8], room: &mut [u8]) -> Listed
     ensures { Lined n octets.now room.old result room.new }
 {
+    let mut text = Text { room, at: 0 };
     let mut contents = [0u8; eoc::CONTENTS];
-    let found = eocreader::read(octets, &mut contents);
-    let no = found.answer;
-    if no != answer::DONE {
-        let length = put_refused(room, n, no);
-        return Listed {
-            answer: no,
-            destination: 0,
-            length,
-        };
-    }
-    let m = found.length as usize;
-    let length = put_message(room, n, found, &contents[..m]);
+    let destination = match eocreader::read(octets, &mut contents) {
+        Ok(found) => {
+            put_message(&mut text, n, found, &contents[..usize::from(found.length)]);
+            Ok(u32::from(found.destination))
+        },
+        Err(no) => {
+            put_refused(&mut text, n, no);
+            Err(no)
+        },
+    };
     Listed {
-        answer: no,
-        destination: found.destination,
-        length,
+        destination,
+        length: text.at,
     }
 }
 
 // ---- totals
 
 // What was left out.
-fn put_left(room: &mut [u8], before: u32, behind: u32) -> usize
-    ensures { Put room.old 0 (left_text before behind) result room.new }
+fn put_left(text: &mut Text<'_>, before: u32, behind: u32)
+    ensures { Puts text.old (left_text before behind) text.new }
 {
-    if (before == 0) & (behind == 0) {
-        return 0;
+    if before != 0 || behind != 0 {
+        forms::form(
+            text,
+            b"left out: octets before the first flag: #, behind the last: #\n",
+            &[before, behind],
+        );
     }
-    forms::put_form(
-        room,
-        0,
-        b"left out: octets before the first flag: #, behind the last: #\n",
-        &[before, behind],
-    )
-}
-
-// How many are refused, where so many of n are good.
-fn others(n: u32, good: u32) -> u32
-    ensures { result ≡ n - good }
-{
-    if n < good { 0 } else { n - good }
 }
 
 // How many messages there are.
-fn put_count(room: &mut [u8], at: usize, n: u32, good: u32) -> usize
-    ensures { Put room.old at (count_text n good) result room.new }
+fn put_count(text: &mut Text<'_>, n: u32, good: u32)
+    ensures { Puts text.old (count_text n good) text.new }
 {
-    let refused = others(n, good);
+    let numbers = [n, good, n.saturating_sub(good)];
     if n == 1 {
-        return forms::put_form(
-            room,
-            at,
-            b"# message: # good, # refused",
-            &[n, good, refused],
-        );
+        forms::form(text, b"# message: # good, # refused", &numbers);
+    } else {
+        forms::form(text, b"# messages: # good, # refused", &numbers);
     }
-    forms::put_form(
-        room,
-        at,
-        b"# messages: # good, # refused",
-        &[n, good, refused],
-    )
 }
 
 // How many of them a unit takes.
-fn put_taken(room: &mut [u8], at: usize, own: u32, taken: u32) -> usize
-    ensures { Put room.old at (taken_text own taken) result room.new }
+fn put_taken(text: &mut Text<'_>, own: u32, taken: u32)
+    ensures { Puts text.old (taken_text own taken) text.new }
 {
-    if eoc::ADDRESSES <= own {
-        return at;
+    if own < eoc::ADDRESSES {
+        text.word(b"; ");
+        put_unit(text, own);
+        forms::form(text, b" takes #", &[taken]);
     }
-    let mut next = ascii::put_word(room, at, b"; ");
-    next = put_unit(room, next, own);
-    forms::put_form(room, next, b" takes #", &[taken])
 }
 
 // The totals, and how much of the room they take.
 pub fn totals(counts: Counts, room: &mut [u8]) -> usize
     ensures { Totalled counts room.old result room.new }
 {
-    let mut next = put_left(room, counts.before, counts.behind);
-    next = put_count(room, next, counts.messages, counts.good);
-    next = put_taken(room, next, counts.own, counts.taken);
-    ascii::put(room, next, b'\n')
+    let mut text = Text { room, at: 0 };
+    put_left(&mut text, counts.before, counts.behind);
+    put_count(&mut text, counts.messages, counts.good);
+    put_taken(&mut text, counts.own, counts.taken);
+    text.put(b'\n');
+    text.at
 }

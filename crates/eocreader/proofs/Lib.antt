@@ -1,4 +1,3 @@
 pub mod Laws
 pub mod Judging
-pub mod Promise
 pub mod One

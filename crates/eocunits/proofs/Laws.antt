@@ -2,20 +2,35 @@
 use mathlib.Core.Path.{◌≡◌, refl, sym, ap, ap₂, ◌∙◌, subst}
 use mathlib.Core.Bool.{Bool, true, false, cond, ◌||◌}
 use mathlib.Core.List.{List, [], ◌∷◌, ◌++◌, map, append_assoc, append-nil}
-use Prim.Native.Nat.{ℕ, suc, ◌+◌, ◌-◌, ◌*◌, ◌≤◌, ◌<◌}
+use Prim.Native.Nat.{ℕ, suc, ◌+◌, ◌-◌, ◌*◌, ◌/◌, ◌≤◌, ◌<◌}
 use native.Mathlib.Nat.{add-zero, zero-add}
 use native.Mathlib.Omega.{arith}
-use borrow.Author.Tests.{le-leb, lt-leb}
-use lib.Dec.{lit≤}
-use lib.ListN.{length, get_or, take, drop, set, length-set, length-take, length-drop, length-append, take-append-drop}
+use lib.Dec.{leb}
+use lib.ListN.{length, get_or, take, drop, set, length-take, length-drop, length-append, take-append-drop}
 use lib.Seq.{get_or-drop, get_or-take, drop-drop, take_at, drop_at, take_all, length-take-le}
-use Rattle.octets.specs.Bits.{bits_of, part, laid}
-use Rattle.octets.proofs.Laws.{Octets}
-use Rattle.octets.proofs.Whole.{set-octets, copied, drop_all}
+use borrow.Rule.Slice.PartMut.{put_mid}
+use Rattle.octets.proofs.Whole.{drop_all}
 use Rattle.eoc.specs.Message.{addresses}
 use Rattle.eoc.specs.Addresses.{is_meant}
-use Rattle.eocunits.specs.Units.{own_of, records_of, joined, some_wide}
+use Rattle.eocunits.specs.Units.{own_of, records_of, records_in, joined, some_wide}
 use Rattle.eocunits.specs.Handing.{put_in, count_meant}
+
+-- ---- the first record, and those behind it
+
+records-cons : (x rest : List ℕ) → length x ≡ 79 → records_in (x ++ rest) ≡ x ∷ records_in rest
+unfolding records_of
+records-cons x rest l =
+    let n : length (x ++ rest) / 79 ≡ suc (length rest / 79) = omega (arith, length-append x rest) in
+    ap (λ (k : ℕ). records_of k (x ++ rest)) n ∙ ap₂ (λ (y z : List ℕ). y ∷ records_of (length rest / 79) z) (take_at x rest 79 l) (drop_at x rest 79 l)
+
+-- whether an own address is wide: the first, or one behind it
+pub wide-cons : (s x rest : List ℕ) → s ≡ x ++ rest → length x ≡ 79 → some_wide (records_in s) ≡ leb addresses (get_or x 0 0) || some_wide (records_in rest)
+unfolding some_wide
+wide-cons s x rest e l = ap (λ (y : List ℕ). some_wide (records_in y)) e ∙ ap some_wide (records-cons x rest l)
+
+pub none-wide : (s : List ℕ) → length s < 79 → some_wide (records_in s) ≡ false
+unfolding some_wide records_of
+none-wide s h = let n : length s / 79 ≡ 0 = omega arith in ap (λ (k : ℕ). some_wide (records_of k s)) n
 
 module _ (s : List ℕ) (count : ℕ) where
   -- record j, and those from it on
@@ -46,25 +61,6 @@ module _ (s : List ℕ) (count : ℕ) where
 
   pub nth-length : count * 79 ≡ length s → (j : ℕ) → j < count → length (nth j) ≡ 79
   nth-length e j h = omega (arith, length-take 79 (drop (j * 79) s), length-drop (j * 79) s, there e j h)
-
-  pub nth-own : (j : ℕ) → own_of (nth j) ≡ get_or s (j * 79) 0
-  nth-own j = get_or-take 79 (drop (j * 79) s) 0 0 (omega arith) ∙ get_or-drop (j * 79) s 0 0 ∙ ap (λ (n : ℕ). get_or s n 0) (add-zero (j * 79))
-
-  -- ---- own addresses
-
-  pub wide-here : (j : ℕ) → j < count → addresses ≤ get_or s (j * 79) 0 → some_wide (rest_of j) ≡ true
-  unfolding some_wide
-  wide-here j h l =
-      ap some_wide (rest-next j h) ∙ ap (λ (b : Bool). b || some_wide (rest_of (j + 1))) (le-leb addresses _ (subst (λ (n : ℕ). addresses ≤ n) (sym (nth-own j)) l))
-
-  pub not_wide : (j : ℕ) → j < count → get_or s (j * 79) 0 < addresses → some_wide (rest_of j) ≡ some_wide (rest_of (j + 1))
-  unfolding some_wide
-  not_wide j h l =
-      ap some_wide (rest-next j h) ∙ ap (λ (b : Bool). b || some_wide (rest_of (j + 1))) (lt-leb addresses _ (subst (λ (n : ℕ). n < addresses) (sym (nth-own j)) l))
-
-  pub none-wide : (j : ℕ) → count ≤ j → some_wide (rest_of j) ≡ false
-  unfolding some_wide
-  none-wide j h = ap some_wide (rest-none j h)
 
   -- ---- the message put into the records that are meant
 
@@ -157,22 +153,12 @@ module _ (s : List ℕ) (count : ℕ) where
 -- ---- one record
 
 -- the octets of a record, put one after the other
-pub record-put : (unit exit contents : List ℕ) (a b c d : ℕ) → length unit ≡ 79 → Octets unit → length contents ≡ 73 → Octets contents → a < 256 → b < 256 → c < 256
-    → d < 256 → exit ≡ laid (set (set (set (set (set unit 1 1) 2 a) 3 b) 4 c) 5 d) 48 (part 0 584 (bits_of contents))
-    → exit ≡ get_or unit 0 0 ∷ (1 ∷ a ∷ b ∷ c ∷ d ∷ contents)
-record-put unit exit contents a b c d l o m p ha hb hc hd e =
-    let u₁ = set unit 1 1 in
-    let u₂ = set u₁ 2 a in
-    let u₃ = set u₂ 3 b in
-    let u₄ = set u₃ 4 c in
-    let U = set u₄ 5 d in
-    let o₂ : Octets u₂ = set-octets u₁ 2 a (set-octets unit 1 1 o (lit≤ tt)) ha in
-    let oU : Octets U = set-octets u₄ 5 d (set-octets u₃ 4 c (set-octets u₂ 3 b o₂ hb) hc) hd in
-    let lU : length U ≡ 79 = simp length-set l in
-    let all : part 0 73 contents ≡ contents = take_all 73 contents (omega (arith, m)) in
-    e ∙ copied U contents 6 0 73 oU p (omega (arith, m)) (omega (arith, lU))
-    ∙ ap₂ (λ (x y : List ℕ). take 6 U ++ (x ++ y)) all (drop_all (6 + 73) U (omega (arith, lU)))
-    ∙ ap (λ (x : List ℕ). take 6 U ++ x) (append-nil contents) ∙ ap (λ (x : List ℕ). x ++ contents) (six unit l)
+pub record-put : (unit exit contents : List ℕ) (a b c d : ℕ) → length unit ≡ 79 → exit ≡ contents
+    → let U = set (set (set (set (set unit 1 1) 2 a) 3 b) 4 c) 5 d in put_mid 6 (length U - 6) U exit ≡ get_or unit 0 0 ∷ (1 ∷ a ∷ b ∷ c ∷ d ∷ contents)
+record-put unit exit contents a b c d l e =
+    let U = set (set (set (set (set unit 1 1) 2 a) 3 b) 4 c) 5 d in
+    ap₂ (λ (x y : List ℕ). x ++ (exit ++ y)) (six unit l) (drop_all (length U - 6) (drop 6 U) (omega (arith, length-drop 6 U)))
+    ∙ ap (λ (x : List ℕ). get_or unit 0 0 ∷ (1 ∷ a ∷ b ∷ c ∷ d ∷ x)) (append-nil exit ∙ e)
   where
     six : (unit : List ℕ) → length unit ≡ 79 → take 6 (set (set (set (set (set unit 1 1) 2 a) 3 b) 4 c) 5 d) ≡ get_or unit 0 0 ∷ 1 ∷ a ∷ b ∷ c ∷ d ∷ []
     six (x ∷ x1 ∷ x2 ∷ x3 ∷ x4 ∷ x5 ∷ rest) h = refl

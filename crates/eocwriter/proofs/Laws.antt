@@ -1,17 +1,15 @@
 -- Laws of octets put one behind the other. Assumes nothing.
 use mathlib.Core.Path.{◌≡◌, refl, sym, ap, ap₂, ◌∙◌}
 use mathlib.Core.List.{List, [], ◌∷◌, ◌++◌, append_assoc, append-nil}
-use Prim.Native.Nat.{ℕ, zero, suc, ◌+◌, ◌-◌, ◌*◌, ◌≤◌, ◌<◌}
+use Prim.Native.Nat.{ℕ, suc, ◌+◌, ◌-◌, ◌*◌, ◌≤◌, ◌<◌}
 use native.Mathlib.Omega.{arith}
-use borrow.Author.Tests.{eq-eqb, ne_eqb}
 use lib.Dec.{lit≤}
-use lib.ListN.{length, get_or, take, drop, set, replicate, length-set, length-append}
-use lib.Seq.{take-suc-set, lt-length-set, take-length, take_at}
-use Rattle.octets.specs.Bits.{bits_of, part, laid}
-use Rattle.octets.proofs.Laws.{Octets}
-use Rattle.octets.proofs.Whole.{set-octets, copied, cleared, drop_all}
+use lib.ListN.{length, get_or, take, drop, set, replicate, length-set, length-take, length-drop, length-append}
+use lib.Seq.{take-suc-set, lt-length-set, take_at}
+use borrow.Rule.Slice.PartMut.{put_mid}
+use Rattle.octets.proofs.Whole.{drop_all}
 use Rattle.eoc.proofs.Escapes.{encoded-most, escaped-next}
-use Rattle.eoc.specs.Message.{flag, escape, flag_mark, escape_mark, encoded, escaped, framed, padded, contents_most, form_most}
+use Rattle.eoc.specs.Message.{flag, encoded, escaped, framed, padded, form_most}
 
 -- one octet put at a place
 pub one-put : (l : List ℕ) (i j a : ℕ) → i + 1 ≡ j → i < length l → take j (set l i a) ≡ take i l ++ (a ∷ [])
@@ -25,16 +23,6 @@ two-put l i j a b e h =
     one-put (set l i a) (i + 1) j b (omega arith) (lt-length-set l i a h)
     ∙ ap (λ (x : List ℕ). x ++ (b ∷ [])) (one-put l i (i + 1) a refl (omega arith))
     ∙ append_assoc (take i l) (a ∷ []) (b ∷ [])
-
--- an octet as it is encoded
-pub encoded-flag : (o : ℕ) → o ≡ flag → encoded o ≡ escape ∷ flag_mark ∷ []
-encoded-flag o e = simp (eq-eqb o flag e)
-
-pub encoded-escape : (o : ℕ) → (o ≡ flag → ⊥) → o ≡ escape → encoded o ≡ escape ∷ escape_mark ∷ []
-encoded-escape o n e = simp (ne_eqb o flag n, eq-eqb o escape e)
-
-pub encoded-other : (o : ℕ) → (o ≡ flag → ⊥) → (o ≡ escape → ⊥) → encoded o ≡ o ∷ []
-encoded-other o n m = simp (ne_eqb o flag n, ne_eqb o escape m)
 
 -- ---- the octets between the flags
 
@@ -64,38 +52,27 @@ one_more room₀ fields room room' at k r h s e f l =
 -- ---- the whole form
 
 -- flags put round octets X that stand from place 1 to before `end`, and zeros behind
-pub form-put : (room₀ room exit X : List ℕ) (end : ℕ) → length room₀ ≡ form_most → Octets room → length room ≡ length room₀ → end ≡ 1 + length X → end < form_most
-    → take end room ≡ take 1 (set room₀ 0 flag) ++ X → exit ≡ laid (set room end flag) (8 * (end + 1)) (replicate (8 * (form_most - (end + 1))) 0)
-    → exit ≡ padded form_most (framed X)
-form-put room₀ room exit X end h o l e b f g =
-    let n = form_most - (end + 1) in
+pub form-put : (room₀ room zeros X : List ℕ) (end : ℕ) → length room₀ ≡ form_most → length room ≡ length room₀ → end ≡ 1 + length X → end < form_most
+    → take end room ≡ take 1 (set room₀ 0 flag) ++ X
+    → let R = set room end flag in
+    zeros ≡ replicate (length (take (length R - (end + 1)) (drop (end + 1) R))) 0 → put_mid (end + 1) (length R - (end + 1)) R zeros ≡ padded form_most (framed X)
+form-put room₀ room zeros X end h l e b f g =
     let R = set room end flag in
     let lR : length R ≡ form_most = length-set room end flag ∙ l ∙ h in
     let first : take 1 (set room₀ 0 flag) ≡ flag ∷ [] = one-put room₀ 0 1 flag refl (omega (arith, h)) in
     let front : take (end + 1) R ≡ framed X =
     one-put room end (end + 1) flag refl (omega (arith, l, h)) ∙ ap (λ (x : List ℕ). x ++ (flag ∷ [])) (f ∙ ap (λ (x : List ℕ). x ++ X) first) in
-    let none : drop (end + 1 + n) R ≡ [] = drop_all (end + 1 + n) R (omega (arith, lR)) in
-    let w : form_most - length (framed X) ≡ n = omega (arith, length-append X (flag ∷ []), e) in
-    g ∙ cleared R (end + 1) n (set-octets room end flag o (lit≤ tt)) (omega (arith, lR))
-    ∙ ap₂ (λ (x y : List ℕ). x ++ (replicate n 0 ++ y)) front none
-    ∙ ap (λ (x : List ℕ). framed X ++ x) (append-nil (replicate n 0))
-    ∙ ap (λ (k : ℕ). framed X ++ replicate k 0) (sym w)
+    let none : drop (length R - (end + 1)) (drop (end + 1) R) ≡ [] = drop_all (length R - (end + 1)) (drop (end + 1) R) (omega (arith, length-drop (end + 1) R)) in
+    let w : length (take (length R - (end + 1)) (drop (end + 1) R)) ≡ form_most - length (framed X) =
+    omega (arith, length-take (length R - (end + 1)) (drop (end + 1) R), length-drop (end + 1) R, lR, length-append X (flag ∷ []), e) in
+    ap₂ (λ (x y : List ℕ). x ++ (zeros ++ y)) front none ∙ ap (λ (x : List ℕ). framed X ++ x) (append-nil zeros ∙ g ∙ ap (λ (k : ℕ). replicate k 0) w)
 
 -- addresses, message number and contents at the front of the fields
-pub body-put : (address number : ℕ) (contents fields : List ℕ) → Octets contents → length contents ≤ contents_most → address < 256 → number < 256
-    → fields ≡ laid (set (set (replicate 77 0) 0 address) 1 number) 16 (part 0 (8 * length contents) (bits_of contents))
-    → take (2 + length contents) fields ≡ address ∷ number ∷ contents
-body-put address number contents fields o h a b e =
+pub body-put : (address number : ℕ) (contents put : List ℕ) → put ≡ contents
+    → let F = set (set (replicate 77 0) 0 address) 1 number in take (2 + length contents) (put_mid 2 (2 + length contents - 2) F put) ≡ address ∷ number ∷ contents
+body-put address number contents put e =
     let n = length contents in
     let F = set (set (replicate 77 0) 0 address) 1 number in
-    let zeros : Octets (replicate 77 0) = zero-octets 77 in
-    let oF : Octets F = set-octets (set (replicate 77 0) 0 address) 1 number (set-octets (replicate 77 0) 0 address zeros a) b in
-    let c : fields ≡ take 2 F ++ (part 0 n contents ++ drop (2 + n) F) = e ∙ copied F contents 2 0 n oF o (omega arith) (omega arith) in
-    let all : part 0 n contents ≡ contents = take-length contents in
-    ap (take (2 + n)) (c ∙ ap (λ (x : List ℕ). take 2 F ++ (x ++ drop (2 + n) F)) all ∙ sym (append_assoc (take 2 F) contents (drop (2 + n) F)))
-    ∙ take_at (take 2 F ++ contents) (drop (2 + n) F) (2 + n) (length-append (take 2 F) contents)
-  where
-    zero-octets : (n : ℕ) → Octets (replicate n 0)
-    zero-octets zero i = lit≤ tt
-    zero-octets (suc n) zero = lit≤ tt
-    zero-octets (suc n) (suc i) = zero-octets n i
+    let l : length (address ∷ number ∷ contents) ≡ 2 + n = omega arith in
+    ap (λ (x : List ℕ). take (2 + n) (put_mid 2 (2 + n - 2) F x)) e
+    ∙ take_at (address ∷ number ∷ contents) (drop (2 + n - 2) (drop 2 F)) (2 + n) l

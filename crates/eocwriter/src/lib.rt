@@ -3,38 +3,34 @@
 
 ghost use Rattle.std.specs.Prelude.{◌≡◌, ◌++◌, ◌∷◌, [], ◌+◌, ◌*◌, ◌≤◌, length, take};
 ghost use Rattle.answer.specs.Answer.{answer};
+ghost use Rattle.answer.specs.Given.{answer_of};
 ghost use Rattle.fcs.specs.Sequence.{sequence_of};
 ghost use Rattle.eoc.specs.Message.{encoded, escaped, framed, padded, form_most};
 ghost use Rattle.eoc.specs.Refusals.{write_refusals};
 ghost use Rattle.eocwriter.specs.Promises.{MessageWritten};
 
-// What writing gives: the answer, and how many octets the form has.
-#[derive(Drop)]
-pub struct Written {
-    pub answer: u32,
-    pub length: u32,
-}
+use answer::Refused;
 
-// What is wrong with what is handed in, or 0.
-fn refusal(source: u32, destination: u32, number: u32, contents: &[u8], room: &[u8]) -> u32
-    ensures { result ≡ answer (write_refusals source destination number contents.now room.now) }
+// Whether what is handed in can be written.
+fn allowed(
+    source: u32,
+    destination: u32,
+    number: u32,
+    contents: &[u8],
+    room: &[u8],
+) -> Result<(), Refused>
+    ensures { answer_of result ≡ answer (write_refusals source destination number contents.now room.now) }
 {
     if room.len() != eoc::FORM {
-        return answer::LENGTH;
+        return Err(Refused::Length);
     }
-    if eoc::ADDRESSES <= source {
-        return answer::RANGE;
-    }
-    if eoc::ADDRESSES <= destination {
-        return answer::RANGE;
-    }
-    if eoc::NUMBERS <= number {
-        return answer::RANGE;
+    if eoc::ADDRESSES <= source || eoc::ADDRESSES <= destination || eoc::NUMBERS <= number {
+        return Err(Refused::Range);
     }
     if eoc::CONTENTS < contents.len() {
-        return answer::SIZE;
+        return Err(Refused::Size);
     }
-    answer::DONE
+    Ok(())
 }
 
 // The check sequence of the first n octets stands behind them, its first octet first.
@@ -66,31 +62,29 @@ fn put_encoded(room: &mut [u8], at: usize, octet: u8) -> usize
     at + 1
 }
 
-// The first n octets as they are encoded, from place 1 on; the place behind them comes back.
-fn put_escaped(room: &mut [u8], fields: &[u8], n: usize) -> usize
-    requires { (n ≤ length fields.now) × (2 * n + 1 ≤ length room.old) }
-    ensures { (result ≡ 1 + length (escaped (take n fields.now))) × (result ≤ 2 * n + 1)
-        × (take result room.new ≡ take 1 room.old ++ escaped (take n fields.now)) }
+// Octets as they are encoded, from place 1 on; the place behind them comes back.
+fn put_escaped(room: &mut [u8], fields: &[u8]) -> usize
+    requires { 2 * length fields.now + 1 ≤ length room.old }
+    ensures { (result ≡ 1 + length (escaped fields.now)) × (result ≤ 2 * length fields.now + 1)
+        × (take result room.new ≡ take 1 room.old ++ escaped fields.now) }
 {
     let mut at = 1;
-    let mut k = 0;
-    while k < n {
-        at = put_encoded(room, at, fields[k]);
-        k += 1;
+    for &octet in fields {
+        at = put_encoded(room, at, octet);
     }
     at
 }
 
-// The form of the first n octets: a flag, those octets as they are encoded, a flag, and zeros behind it. Its length comes back.
-fn put_form(room: &mut [u8], fields: &[u8], n: usize) -> usize
-    requires { (n ≤ 77) × (n ≤ length fields.now) × (length room.old ≡ form_most) }
-    ensures { (result ≡ length (framed (escaped (take n fields.now)))) × (result ≤ form_most)
-        × (room.new ≡ padded form_most (framed (escaped (take n fields.now)))) }
+// The form of octets: a flag, the octets as they are encoded, a flag, and zeros behind it. Its length comes back.
+fn put_form(room: &mut [u8], fields: &[u8]) -> usize
+    requires { (length fields.now ≤ 77) × (length room.old ≡ form_most) }
+    ensures { (result ≡ length (framed (escaped fields.now))) × (result ≤ form_most)
+        × (room.new ≡ padded form_most (framed (escaped fields.now))) }
 {
     room[0] = eoc::FLAG;
-    let end = put_escaped(room, fields, n);
+    let end = put_escaped(room, fields);
     room[end] = eoc::FLAG;
-    octets::clear(room, 8 * (end + 1), 8 * (eoc::FORM - (end + 1)) as u32);
+    room[end + 1..].fill(0);
     end + 1
 }
 
@@ -106,36 +100,27 @@ fn put_message(room: &mut [u8], address: u8, number: u8, contents: &[u8]) -> usi
     let n = 2 + contents.len();
     fields[0] = address;
     fields[1] = number;
-    octets::copy(&mut fields, 16, contents, 0, 8 * contents.len() as u32);
+    fields[2..n].copy_from_slice(contents);
     put_sequence(&mut fields, n);
-    put_form(room, &fields, n + 2)
+    put_form(room, &fields[..n + 2])
 }
 
-// A message in its one written form, and zeros behind it.
+// A message in its one written form, and zeros behind it; the form's length comes back.
 pub fn write(
     source: u32,
     destination: u32,
     number: u32,
     contents: &[u8],
     room: &mut [u8],
-) -> Written
+) -> Result<u32, Refused>
     ensures { MessageWritten source destination number contents.now room.old result room.new }
 {
-    let no = refusal(source, destination, number, contents, room);
-    if no != answer::DONE {
-        return Written {
-            answer: no,
-            length: 0,
-        };
-    }
-    let n = put_message(
+    allowed(source, destination, number, contents, room)?;
+    let length = put_message(
         room,
         (source * eoc::ADDRESSES + destination) as u8,
         number as u8,
         contents,
     );
-    Written {
-        answer: answer::DONE,
-        length: n as u32,
-    }
+    Ok(length as u32)
 }

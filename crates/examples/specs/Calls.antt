@@ -6,7 +6,8 @@ use Rattle.remainder.specs.Register.{register_of}
 use Rattle.layout.specs.Places.{reserved_width, check_width, vendor_length}
 use Rattle.layout.specs.Frame.{training_sync, final_sync, message, check_of}
 use Rattle.scrambler.specs.Ends.{tap_of}
-use Rattle.recurrence.specs.Run.{scramble, run_of}
+use Rattle.recurrence.specs.Run.{run_of}
+use Rattle.recurrence.specs.declared.Way.TheVariants.{Scramble as scramble}
 use Rattle.symbol.specs.Levels.{level_at, data_levels}
 use Rattle.symbol.specs.Encoder.{codes_of, sent_after, held_in}
 use Rattle.symbol.specs.Encoder.{register_of as encoder_register}

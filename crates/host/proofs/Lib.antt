@@ -1,7 +1,8 @@
 pub mod FrameLaws
 pub mod SendLaws
-pub mod SymbolLaws
 pub mod One
+pub mod DataLaws
 pub mod DataOne
 pub mod ChannelOne
 pub mod ReceivingOne
+pub mod ScramblingLaws

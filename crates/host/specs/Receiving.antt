@@ -1,8 +1,7 @@
 -- What the exported receiver promises: that of the crate, with the same numbers in the structs that cross.
 use Rattle.std.specs.Prelude.{List, ℕ}
 use Rattle.receiver.specs.declared.Receiver.{Receiver as State}
-use Rattle.receiver.specs.declared.Received.{Received as Got}
-use Rattle.receiver.specs.Promises.{StartPromise, ReceivePromise}
+use Rattle.receiver.specs.Promises.{Got, StartPromise, ReceivePromise}
 use Rattle.host.specs.declared.receiving.Receiver.{Receiver}
 use Rattle.host.specs.declared.receiving.Received.{Received}
 

@@ -4,7 +4,8 @@ use Rattle.answer.specs.Answer.{Refusal, wrong_length, answer, held}
 use Rattle.octets.specs.Bits.{bits_of}
 use Rattle.layout.specs.Refusals.{RightCheck}
 use Rattle.numbers.specs.Promises.{coefficients_length, numbers_of}
-use Rattle.recurrence.specs.Run.{scramble, after_of}
+use Rattle.recurrence.specs.Run.{after_of}
+use Rattle.recurrence.specs.declared.Way.TheVariants.{Scramble as scramble}
 use Rattle.scrambler.specs.Ends.{tap_of}
 use Rattle.scrambler.specs.Promises.{clocked, frame_out}
 use Rattle.sender.specs.Promises.{frame_octets, send_refusals}

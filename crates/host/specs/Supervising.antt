@@ -2,9 +2,9 @@
 -- structs that cross.
 use Rattle.std.specs.Prelude.{◌≡◌, List, ℕ}
 use Rattle.supervisor.specs.declared.Supervisor.{Supervisor as State}
-use Rattle.supervisor.specs.declared.Answer.{Answer}
+use Rattle.supervisor.specs.Step.{Numbered}
 use Rattle.supervisor.specs.Step.{step_of, start_of}
-use Rattle.startup.specs.declared.Run.{Run as StartupRun}
+use Rattle.startup.specs.Run.{Run as StartupRun}
 use Rattle.startup.specs.Run.{run_of}
 use Rattle.host.specs.declared.supervising.Supervisor.{Supervisor}
 use Rattle.host.specs.declared.supervising.Stepped.{Stepped}
@@ -19,7 +19,7 @@ abbrev pub state_of : State → Supervisor
 state_of s = record { end = s.end; phase = s.phase; ticks = s.ticks; attempt = s.attempt; silence = s.silence; converged = s.converged; seen = s.seen }
 
 -- struct sdsl_stepped
-abbrev pub stepped_of : Answer → Stepped
+abbrev pub stepped_of : Numbered → Stepped
 stepped_of r = record { answer = r.answer; phase = r.phase; attempt = r.attempt; state = state_of r.state }
 
 -- struct sdsl_run

@@ -38,10 +38,15 @@ pub fn sdsl_eoc_write(
 ) -> EocForm
     ensures { EocWritten source destination number contents.now room.old result room.new }
 {
-    let given = eocwriter::write(source, destination, number, contents, room);
-    EocForm {
-        answer: given.answer,
-        length: given.length,
+    match eocwriter::write(source, destination, number, contents, room) {
+        Ok(length) => EocForm {
+            answer: answer::DONE,
+            length,
+        },
+        Err(no) => EocForm {
+            answer: no.number(),
+            length: 0,
+        },
     }
 }
 
@@ -49,13 +54,21 @@ pub fn sdsl_eoc_write(
 pub fn sdsl_eoc_read(octets: &[u8], contents: &mut [u8]) -> EocMessage
     ensures { EocRead octets.now contents.old result contents.new }
 {
-    let found = eocreader::read(octets, contents);
-    EocMessage {
-        answer: found.answer,
-        source: found.source,
-        destination: found.destination,
-        number: found.number,
-        length: found.length,
+    match eocreader::read(octets, contents) {
+        Ok(found) => EocMessage {
+            answer: answer::DONE,
+            source: u32::from(found.source),
+            destination: u32::from(found.destination),
+            number: u32::from(found.number),
+            length: u32::from(found.length),
+        },
+        Err(no) => EocMessage {
+            answer: no.number(),
+            source: 0,
+            destination: 0,
+            number: 0,
+            length: 0,
+        },
     }
 }
 
@@ -63,9 +76,14 @@ pub fn sdsl_eoc_read(octets: &[u8], contents: &mut [u8]) -> EocMessage
 pub fn sdsl_eoc_hand_up(octets: &[u8], units: &mut [u8]) -> EocHandedUp
     ensures { EocHanded octets.now units.old result units.new }
 {
-    let handed = eocunits::hand_up(octets, units);
-    EocHandedUp {
-        answer: handed.answer,
-        units: handed.units,
+    match eocunits::hand_up(octets, units) {
+        Ok(taken) => EocHandedUp {
+            answer: answer::DONE,
+            units: taken,
+        },
+        Err(no) => EocHandedUp {
+            answer: no.number(),
+            units: 0,
+        },
     }
 }

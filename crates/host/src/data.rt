@@ -1,7 +1,10 @@
 // Data-mode frames for C (002, clauses 7.1.2 to 7.1.5): numbers by value, payload and frame as lent octets.
 ghost use Rattle.std.specs.Prelude.{◌≡◌};
 ghost use Rattle.datachecker.specs.Promises.{DataChecked};
-ghost use Rattle.host.specs.Data.{overhead_of, overhead_for, DataFrameWritten, DataCrcGiven, DataFrameRead};
+ghost use Rattle.host.specs.Data.{DataFrameWritten, DataCrcGiven, DataFrameRead};
+
+use crate::answered;
+use dataframe::Overhead;
 
 // What a frame carries beside sync word and payload.
 #[repr(C)]
@@ -40,28 +43,36 @@ pub struct DataFields {
 }
 
 // What a frame carries, as it comes from C.
-fn overhead_in(o: DataOverhead) -> dataframe::Overhead
-    ensures { result ≡ overhead_of o }
-{
-    dataframe::Overhead {
-        indicators: o.indicators,
-        eoc: o.eoc,
-        spare: o.spare,
-        stuffing: o.stuffing,
-        crc: o.crc,
+impl From<DataOverhead> for Overhead {
+    ghost use Rattle.host.specs.Data.{overhead_of};
+
+    ghost from_gives = { λ o r. r ≡ overhead_of o };
+
+    fn from(o: DataOverhead) -> Overhead {
+        Overhead {
+            indicators: o.indicators,
+            eoc: o.eoc,
+            spare: o.spare,
+            stuffing: o.stuffing,
+            crc: o.crc,
+        }
     }
 }
 
 // The same as it goes to C.
-fn overhead_out(o: dataframe::Overhead) -> DataOverhead
-    ensures { result ≡ overhead_for o }
-{
-    DataOverhead {
-        indicators: o.indicators,
-        eoc: o.eoc,
-        spare: o.spare,
-        stuffing: o.stuffing,
-        crc: o.crc,
+impl From<Overhead> for DataOverhead {
+    ghost use Rattle.host.specs.Data.{overhead_for};
+
+    ghost from_gives = { λ o r. r ≡ overhead_for o };
+
+    fn from(o: Overhead) -> DataOverhead {
+        DataOverhead {
+            indicators: o.indicators,
+            eoc: o.eoc,
+            spare: o.spare,
+            stuffing: o.stuffing,
+            crc: o.crc,
+        }
     }
 }
 
@@ -76,10 +87,15 @@ pub fn sdsl_data_write(
 ) -> DataSent
     ensures { DataFrameWritten form size sync overhead payload.now frame.old result frame.new }
 {
-    let given = datawriter::write(form, size, sync, overhead_in(overhead), payload, frame);
-    DataSent {
-        answer: given.answer,
-        crc: given.crc,
+    match datawriter::write(form, size, sync, Overhead::from(overhead), payload, frame) {
+        Ok(crc) => DataSent {
+            answer: answer::DONE,
+            crc,
+        },
+        Err(no) => DataSent {
+            answer: no.number(),
+            crc: 0,
+        },
     }
 }
 
@@ -87,11 +103,17 @@ pub fn sdsl_data_write(
 pub fn sdsl_data_crc(form: u32, size: u32, frame: &[u8]) -> DataCrcs
     ensures { DataCrcGiven form size frame.now result }
 {
-    let six = datacrc::crc(form, size, frame);
-    DataCrcs {
-        answer: six.answer,
-        carried: six.carried,
-        due: six.due,
+    match datacrc::crc(form, size, frame) {
+        Ok(six) => DataCrcs {
+            answer: answer::DONE,
+            carried: six.carried,
+            due: six.due,
+        },
+        Err(no) => DataCrcs {
+            answer: no.number(),
+            carried: 0,
+            due: 0,
+        },
     }
 }
 
@@ -99,7 +121,7 @@ pub fn sdsl_data_crc(form: u32, size: u32, frame: &[u8]) -> DataCrcs
 pub fn sdsl_data_check(form: u32, size: u32, sync: u32, next: u32, frame: &[u8]) -> u32
     ensures { DataChecked form size sync next frame.now result }
 {
-    datachecker::check(form, size, sync, next, frame)
+    answered(datachecker::check(form, size, sync, next, frame))
 }
 
 // Reads a data-mode frame: what it carries, and into lent memory its payload.
@@ -113,9 +135,20 @@ pub fn sdsl_data_read(
 ) -> DataFields
     ensures { DataFrameRead form size sync next frame.now payload.old result payload.new }
 {
-    let found = datareader::read(form, size, sync, next, frame, payload);
-    DataFields {
-        answer: found.answer,
-        overhead: overhead_out(found.overhead),
+    match datareader::read(form, size, sync, next, frame, payload) {
+        Ok(overhead) => DataFields {
+            answer: answer::DONE,
+            overhead: DataOverhead::from(overhead),
+        },
+        Err(no) => DataFields {
+            answer: no.number(),
+            overhead: DataOverhead {
+                indicators: 0,
+                eoc: 0,
+                spare: 0,
+                stuffing: 0,
+                crc: 0,
+            },
+        },
     }
 }

@@ -1,5 +1,6 @@
 // The receiver for C: a state of three numbers goes in and comes back by value; the line room beside it is the caller's.
 ghost use Rattle.std.specs.Prelude.{◌≡◌};
+ghost use Rattle.receiver.specs.Promises.{given_of, place_of_given};
 ghost use Rattle.host.specs.Receiving.{got_in, ReceiverStarted, LumpReceived};
 
 // A receiver's state, as C keeps it.
@@ -21,15 +22,14 @@ pub struct Received {
     pub state: Receiver,
 }
 
-// What a start or a call gave, as it goes to C.
-fn received_out(got: receiver::Received) -> Received
-    ensures { got_in result ≡ got }
+// What a start or a call gave, as it goes to C: the flag and the place of a place that may be given.
+fn received_out(answer: u32, place: Option<u32>, next: receiver::Receiver) -> Received
+    ensures { got_in result ≡ record { answer = answer; given = given_of place; place = place_of_given place; next = next } }
 {
-    let next = got.next;
     Received {
-        answer: got.answer,
-        given: got.given,
-        place: got.place,
+        answer,
+        given: u32::from(place.is_some()),
+        place: place.unwrap_or(0),
         state: Receiver {
             end: next.end,
             heard: next.heard,
@@ -42,7 +42,18 @@ fn received_out(got: receiver::Received) -> Received
 pub fn sdsl_receive_start(end: u32) -> Received
     ensures { ReceiverStarted end result }
 {
-    received_out(receiver::Receiver::start(end))
+    match receiver::Receiver::start(end) {
+        Ok(next) => received_out(answer::DONE, None, next),
+        Err(no) => received_out(
+            no.number(),
+            None,
+            receiver::Receiver {
+                end,
+                heard: 0,
+                from: 0,
+            },
+        ),
+    }
 }
 
 // Takes the next bits off the line.
@@ -60,5 +71,8 @@ pub fn sdsl_receive(
         heard: state.heard,
         from: state.from,
     };
-    received_out(x.receive(line, lump, bits, frame))
+    match x.receive(line, lump, bits, frame) {
+        Ok(got) => received_out(answer::DONE, got.place, got.next),
+        Err(no) => received_out(no.number(), None, x),
+    }
 }

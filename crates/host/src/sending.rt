@@ -2,7 +2,8 @@
 // the scrambler.
 ghost use Rattle.host.specs.Sending.{FrameSent};
 
-use crate::scrambling::Scrambled;
+use crate::scrambling::{Scrambled, scrambled_out};
+use answer::Refused;
 use scrambler::Scrambler;
 
 // Sends a frame of either kind.
@@ -20,17 +21,10 @@ pub fn sdsl_frame_send(
     ensures { FrameSent end state kind count coefficients.now a b vendor.now frame.old result frame.new }
 {
     if coefficients.len() != numbers::COEFFICIENT_OCTETS {
-        return Scrambled {
-            answer: answer::LENGTH,
-            state,
-        };
+        return scrambled_out(Err(Refused::Length), state);
     }
     let cs = numbers::numbers(coefficients);
     let x = Scrambler { end, state };
     let ran = sender::send(x, kind, count, &cs, a, b, vendor, frame);
-    let next = ran.next;
-    Scrambled {
-        answer: ran.answer,
-        state: next.state,
-    }
+    scrambled_out(ran, state)
 }

@@ -1,10 +1,13 @@
 // The start-up supervisor for C (clauses 4.1.2 and 4.1.8): a state of seven numbers goes in and comes back by value.
 ghost use Rattle.std.specs.Prelude.{◌≡◌};
+ghost use Rattle.supervisor.specs.Step.{numbered};
 ghost use Rattle.host.specs.Supervising.{state_in, state_of, Started, StateStepped, CodesRun, stepped_of};
+
+use answer::Refused;
 
 // A supervisor's state, as C keeps it.
 #[repr(C)]
-#[derive(Drop)]
+#[derive(Clone, Copy)]
 pub struct Supervisor {
     pub end: u32,
     pub phase: u32,
@@ -41,46 +44,70 @@ pub struct Run {
     pub state: Supervisor,
 }
 
+impl Supervisor {
+    // No state: every number is 0, which each later step refuses.
+    const NONE: Supervisor = Supervisor {
+        end: 0,
+        phase: 0,
+        ticks: 0,
+        attempt: 0,
+        silence: 0,
+        converged: 0,
+        seen: 0,
+    };
+}
+
 // A state as it comes from C.
-fn state_in(s: Supervisor) -> supervisor::Supervisor
-    ensures { result ≡ state_in s }
-{
-    supervisor::Supervisor {
-        end: s.end,
-        phase: s.phase,
-        ticks: s.ticks,
-        attempt: s.attempt,
-        silence: s.silence,
-        converged: s.converged,
-        seen: s.seen,
+impl From<Supervisor> for supervisor::Supervisor {
+    ghost from_gives = { λ s r. r ≡ state_in s };
+
+    fn from(s: Supervisor) -> supervisor::Supervisor {
+        supervisor::Supervisor {
+            end: s.end,
+            phase: s.phase,
+            ticks: s.ticks,
+            attempt: s.attempt,
+            silence: s.silence,
+            converged: s.converged,
+            seen: s.seen,
+        }
     }
 }
 
 // A state as it goes to C.
-fn state_out(s: supervisor::Supervisor) -> Supervisor
-    ensures { result ≡ state_of s }
-{
-    Supervisor {
-        end: s.end,
-        phase: s.phase,
-        ticks: s.ticks,
-        attempt: s.attempt,
-        silence: s.silence,
-        converged: s.converged,
-        seen: s.seen,
+impl From<supervisor::Supervisor> for Supervisor {
+    ghost from_gives = { λ s r. r ≡ state_of s };
+
+    fn from(s: supervisor::Supervisor) -> Supervisor {
+        Supervisor {
+            end: s.end,
+            phase: s.phase,
+            ticks: s.ticks,
+            attempt: s.attempt,
+            silence: s.silence,
+            converged: s.converged,
+            seen: s.seen,
+        }
     }
 }
 
-// What a start or a step gave, as it goes to C.
-fn stepped_out(given: supervisor::Answer) -> Stepped
-    ensures { result ≡ stepped_of given }
+// What a start or a step gave, as it goes to C: with a refusal its number, and the state that was handed in.
+fn stepped_out(given: Result<supervisor::Answer, Refused>, before: Supervisor) -> Stepped
+    ensures { result ≡ stepped_of (numbered (state_in before) given) }
 {
-    let state = given.state;
-    Stepped {
-        answer: given.answer,
-        phase: given.phase,
-        attempt: given.attempt,
-        state: state_out(state),
+    match given {
+        Ok(next) => Stepped {
+            answer: answer::DONE,
+            phase: next.phase,
+            attempt: next.attempt,
+            state: Supervisor::from(next.state),
+        },
+        Err(no) => Stepped {
+            answer: no.number(),
+            phase: 0,
+            attempt: 0,
+            state: before,
+        },
     }
 }
 
@@ -88,28 +115,42 @@ fn stepped_out(given: supervisor::Answer) -> Stepped
 pub fn sdsl_start(end: u32, silence: u32) -> Stepped
     ensures { Started end silence result }
 {
-    stepped_out(supervisor::Supervisor::start(end, silence))
+    stepped_out(
+        supervisor::Supervisor::start(end, silence),
+        Supervisor::NONE,
+    )
 }
 
 // One code.
 pub fn sdsl_step(state: Supervisor, code: u32) -> Stepped
     ensures { StateStepped state code result }
 {
-    stepped_out(state_in(state).step(code))
+    stepped_out(supervisor::Supervisor::from(state).step(code), state)
 }
 
 // A list of codes, an octet each.
 pub fn sdsl_run_codes(state: Supervisor, codes: &[u8]) -> Run
     ensures { CodesRun state codes.now result }
 {
-    let run = startup::Run::over(state_in(state), codes);
-    let after = run.state;
-    Run {
-        answer: run.answer,
-        attempts: run.attempts as u64,
-        opened_at: run.opened_at as u64,
-        outcome: run.outcome,
-        ended_at: run.ended_at as u64,
-        state: state_out(after),
+    match startup::Run::over(supervisor::Supervisor::from(state), codes) {
+        Ok(run) => Run {
+            answer: answer::DONE,
+            attempts: run.attempts as u64,
+            opened_at: run.opened_at as u64,
+            outcome: match run.outcome {
+                Some(outcome) => outcome as u32,
+                None => 0,
+            },
+            ended_at: run.ended_at as u64,
+            state: Supervisor::from(run.state),
+        },
+        Err(no) => Run {
+            answer: no.number(),
+            attempts: 0,
+            opened_at: 0,
+            outcome: 0,
+            ended_at: 0,
+            state,
+        },
     }
 }

@@ -1,8 +1,13 @@
 // Symbols for C (clauses 4.1.6, 4.3.3, 4.3.4): levels, the encoder, the precoder and the shaper's float. Each export is a function of a
 // crate below, on the same numbers.
+ghost use Rattle.std.specs.Prelude.{◌≡◌};
 ghost use Rattle.precoder.specs.Runs.{PrecodesRun, DecodesRun};
-ghost use Rattle.host.specs.Symbols.{ActivationLevelGiven, DataLevelGiven, CodeGiven};
+ghost use Rattle.host.specs.Symbols.{level_of, ActivationLevelGiven, DataLevelGiven, CodeGiven};
 ghost use Rattle.host.specs.Symbols.{EncoderStarted, SymbolEncoded, SymbolsEncoded, HistoryStarted, SampleShaped};
+
+use crate::answered;
+use answer::Refused;
+use symbol::Encoder;
 
 // A history's octets.
 const HISTORY_OCTETS: usize = 720;
@@ -49,36 +54,51 @@ pub struct Shaped {
     pub value: f32,
 }
 
+// What C is given of a level: 0 sixteenths with a refusal.
+impl From<Result<i32, Refused>> for Level {
+    ghost from_gives = { λ found level. level ≡ level_of found };
+
+    fn from(found: Result<i32, Refused>) -> Level {
+        match found {
+            Ok(sixteenths) => Level {
+                answer: answer::DONE,
+                sixteenths,
+            },
+            Err(no) => Level {
+                answer: no.number(),
+                sixteenths: 0,
+            },
+        }
+    }
+}
+
 // The level of a bit during activation.
 pub fn sdsl_activation_level(bit: u32) -> Level
     ensures { ActivationLevelGiven bit result }
 {
-    let level = symbol::activation_level(bit);
-    Level {
-        answer: level.answer,
-        sixteenths: level.sixteenths,
-    }
+    Level::from(symbol::activation_level(bit))
 }
 
 // The level of a code in data mode.
 pub fn sdsl_data_level(code: u32) -> Level
     ensures { DataLevelGiven code result }
 {
-    let level = symbol::data_level(code);
-    Level {
-        answer: level.answer,
-        sixteenths: level.sixteenths,
-    }
+    Level::from(symbol::data_level(code))
 }
 
 // The code of a level.
 pub fn sdsl_level_code(sixteenths: i32) -> Code
     ensures { CodeGiven sixteenths result }
 {
-    let found = symbol::level_code(sixteenths);
-    Code {
-        answer: found.answer,
-        code: found.code,
+    match symbol::level_code(sixteenths) {
+        Ok(code) => Code {
+            answer: answer::DONE,
+            code,
+        },
+        Err(no) => Code {
+            answer: no.number(),
+            code: 0,
+        },
     }
 }
 
@@ -86,11 +106,15 @@ pub fn sdsl_level_code(sixteenths: i32) -> Code
 pub fn sdsl_encoder_start(a: u32, b: u32) -> EncodedRun
     ensures { EncoderStarted a b result }
 {
-    let start = symbol::Encoder::start(a, b);
-    let first = start.next;
-    EncodedRun {
-        answer: start.answer,
-        register: first.register,
+    match Encoder::start(a, b) {
+        Ok(first) => EncodedRun {
+            answer: answer::DONE,
+            register: first.register,
+        },
+        Err(no) => EncodedRun {
+            answer: no.number(),
+            register: Encoder::START,
+        },
     }
 }
 
@@ -98,13 +122,19 @@ pub fn sdsl_encoder_start(a: u32, b: u32) -> EncodedRun
 pub fn sdsl_encode(a: u32, b: u32, register: u32, symbol: u32) -> Encoded
     ensures { SymbolEncoded a b register symbol result }
 {
-    let step = symbol::Encoder { a, b, register }.step(symbol);
-    let next = step.next;
-    Encoded {
-        answer: step.answer,
-        code: step.code,
-        sixteenths: step.sixteenths,
-        register: next.register,
+    match (Encoder { a, b, register }).step(symbol) {
+        Ok(step) => Encoded {
+            answer: answer::DONE,
+            code: step.code,
+            sixteenths: step.sixteenths,
+            register: step.next.register,
+        },
+        Err(no) => Encoded {
+            answer: no.number(),
+            code: 0,
+            sixteenths: 0,
+            register,
+        },
     }
 }
 
@@ -118,11 +148,15 @@ pub fn sdsl_encode_run(
 ) -> EncodedRun
     ensures { SymbolsEncoded a b register symbols.now codes.old result codes.new }
 {
-    let run = symbol::Encoder { a, b, register }.run(symbols, codes);
-    let after = run.next;
-    EncodedRun {
-        answer: run.answer,
-        register: after.register,
+    match (Encoder { a, b, register }).run(symbols, codes) {
+        Ok(next) => EncodedRun {
+            answer: answer::DONE,
+            register: next.register,
+        },
+        Err(no) => EncodedRun {
+            answer: no.number(),
+            register,
+        },
     }
 }
 
@@ -131,7 +165,7 @@ pub fn sdsl_history_start(history: &mut [u8]) -> u32
     ensures { HistoryStarted history.old result history.new }
 {
     if history.len() != HISTORY_OCTETS {
-        return answer::LENGTH;
+        return Refused::Length.number();
     }
     let past = samples::start();
     numbers::put_numbers(history, &past);
@@ -143,7 +177,7 @@ pub fn sdsl_precode(coefficients: &[u8], history: &mut [u8], xs: &[u8], ys: &mut
     ensures { PrecodesRun coefficients.now history.old xs.now ys.old result history.new
         ys.new }
 {
-    precoder::precode_run(coefficients, history, xs, ys)
+    answered(precoder::precode_run(coefficients, history, xs, ys))
 }
 
 // The receiving end.
@@ -151,16 +185,21 @@ pub fn sdsl_unprecode(coefficients: &[u8], history: &mut [u8], ys: &[u8], xs: &m
     ensures { DecodesRun coefficients.now history.old ys.now xs.old result history.new
         xs.new }
 {
-    precoder::decode_run(coefficients, history, ys, xs)
+    answered(precoder::decode_run(coefficients, history, ys, xs))
 }
 
 // A sample for the shaper: exactly y / 131,072.
 pub fn sdsl_shaper(y: i32) -> Shaped
     ensures { SampleShaped y result }
 {
-    let shaped = samples::shaper(y);
-    Shaped {
-        answer: shaped.answer,
-        value: shaped.value,
+    match samples::shaper(y) {
+        Ok(value) => Shaped {
+            answer: answer::DONE,
+            value,
+        },
+        Err(outside) => Shaped {
+            answer: outside.number(),
+            value: 0.0,
+        },
     }
 }

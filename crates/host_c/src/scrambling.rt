@@ -1,5 +1,5 @@
 // The scrambler, as C calls it.
-ghost use Rattle.recurrence.specs.Run.{scramble, descramble};
+ghost use Rattle.recurrence.specs.declared.Way.TheVariants.{Scramble as scramble, Descramble as descramble};
 ghost use Rattle.host.specs.Scrambling.{ScramblerStarted, BitScrambled, ScrambledRun, FrameDescrambled};
 
 use host::scrambling::{Scrambled, ScrambledBit};

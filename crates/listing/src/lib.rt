@@ -7,87 +7,80 @@ ghost use Rattle.remainder.specs.Division.{polynomial};
 ghost use Rattle.layout.specs.Places.{frame_length, check_field};
 ghost use Rattle.layout.specs.Frame.{field_of};
 ghost use Rattle.ascii.specs.Text.{hexes};
-ghost use Rattle.ascii.specs.Promises.{Put};
+ghost use Rattle.ascii.specs.Promises.{Puts};
 ghost use Rattle.listing.specs.Listing.{number_line, coefficient_line, coefficient_lines, vendor_line, check_line, training_lines, kind_lines};
+ghost use Rattle.answer.specs.Given.{number_of};
 ghost use Rattle.listing.specs.Promises.{Listed};
 ghost use Rattle.listing.specs.Words.{length_words, reason_words, refusal_words, vendor_words, Worded};
 
+use answer::Refused;
+use ascii::Text;
 use reader::Found;
 
 // The line of coefficient number k.
-fn put_coefficient_line(room: &mut [u8], at: usize, k: u32, c: i32) -> usize
-    ensures { Put room.old at (coefficient_line k c) result room.new }
+fn put_coefficient_line(text: &mut Text<'_>, k: u32, c: i32)
+    ensures { Puts text.old (coefficient_line k c) text.new }
 {
-    let numbered = forms::put_form(room, at, b"c # ", &[k]);
-    let next = ascii::put_signed(room, numbered, c);
-    ascii::put(room, next, b'\n')
+    forms::form(text, b"c # ", &[k]);
+    text.signed(c);
+    text.put(b'\n');
 }
 
-// A line for each of the first n coefficients.
-fn put_coefficient_lines(room: &mut [u8], at: usize, cs: &[i32], n: u32) -> usize
-    requires { (n ≤ length cs.now) × (n ≤ 180) }
-    ensures { Put room.old at (coefficient_lines 1 (take n cs.now)) result room.new }
+// A line for each coefficient.
+fn put_coefficient_lines(text: &mut Text<'_>, cs: &[i32])
+    requires { length cs.now ≤ 180 }
+    ensures { Puts text.old (coefficient_lines 1 cs.now) text.new }
 {
-    let mut next = at;
-    let mut k: u32 = 0;
-    while k < n {
-        let i = k as usize;
-        next = put_coefficient_line(room, next, k + 1, cs[i]);
-        k += 1;
+    for k in 0..cs.len() {
+        put_coefficient_line(text, k as u32 + 1, cs[k]);
     }
-    next
 }
 
 // A line that names octets.
-fn put_hex_line(room: &mut [u8], at: usize, name: &[u8], octets: &[u8]) -> usize
-    ensures { Put room.old at (name.now ++ hexes octets.now ++ (10 ∷ [])) result room.new }
+fn put_hex_line(text: &mut Text<'_>, name: &[u8], octets: &[u8])
+    ensures { Puts text.old (name.now ++ hexes octets.now ++ (10 ∷ [])) text.new }
 {
-    let named = ascii::put_word(room, at, name);
-    let next = ascii::put_hexes(room, named, octets);
-    ascii::put(room, next, b'\n')
+    text.word(name);
+    text.hexes(octets);
+    text.put(b'\n');
 }
 
 // The vendor line and the check line.
-fn put_tail(room: &mut [u8], at: usize, vendor: &[u8], check: u32) -> usize
+fn put_tail(text: &mut Text<'_>, vendor: &[u8], check: u32)
     requires { check < 65536 }
-    ensures { Put room.old at (vendor_line vendor.now ++ check_line check) result room.new }
+    ensures { Puts text.old (vendor_line vendor.now ++ check_line check) text.new }
 {
-    let next = put_hex_line(room, at, b"vendor ", vendor);
-    put_hex_line(
-        room,
-        next,
-        b"check ",
-        &[(check / 256) as u8, (check % 256) as u8],
-    )
+    put_hex_line(text, b"vendor ", vendor);
+    put_hex_line(text, b"check ", &[(check / 256) as u8, (check % 256) as u8]);
 }
 
 // The lines of a training frame before vendor data.
-fn put_training(room: &mut [u8], cs: &[i32], a: u32, b: u32) -> usize
+fn put_training(text: &mut Text<'_>, cs: &[i32], a: u32, b: u32)
     requires { length cs.now ≡ 180 }
-    ensures { Put room.old 0 (training_lines cs.now a b) result room.new }
+    ensures { Puts text.old (training_lines cs.now a b) text.new }
 {
-    let n = highest::highest(cs) as u32;
-    let mut at = forms::put_form(room, 0, b"kind training\ncoefficients #\n", &[n]);
-    at = put_coefficient_lines(room, at, cs, n);
-    forms::put_form(room, at, b"A #\nB #\n", &[a, b])
+    let n = highest::highest(cs);
+    forms::form(text, b"kind training\ncoefficients #\n", &[n as u32]);
+    put_coefficient_lines(text, &cs[..n]);
+    forms::form(text, b"A #\nB #\n", &[a, b]);
 }
 
-// The lines of a frame before vendor data.
-fn put_kind(room: &mut [u8], found: Found, cs: &[i32]) -> usize
+// The lines of a frame before vendor data, by its kind.
+fn put_kind(text: &mut Text<'_>, found: Found, cs: &[i32])
     requires { length cs.now ≡ 180 }
-    ensures { Put room.old 0 (kind_lines found cs.now) result room.new }
+    ensures { Puts text.old (kind_lines found cs.now) text.new }
 {
     match found {
-        Found::Training { a, b } => put_training(room, cs, a, b),
-        Found::Final => ascii::put_word(room, 0, b"kind final\n"),
+        Found::Training { a, b } => put_training(text, cs, a, b),
+        Found::Final => text.word(b"kind final\n"),
     }
 }
 
 // What is refused.
-fn put_refused(room: &mut [u8], n: u32) -> usize
-    ensures { Put room.old 0 (number_line "refused " n) result room.new }
+fn put_refused(text: &mut Text<'_>, n: u32)
+    ensures { Puts text.old (number_line "refused " n) text.new }
 {
-    forms::put_form(room, 0, b"refused #\n", &[n])
+    forms::form(text, b"refused #\n", &[n]);
 }
 
 // A frame's check bits as a number, c1 highest.
@@ -106,100 +99,81 @@ pub fn list(frame: &[u8], room: &mut [u8]) -> usize
     let mut cs = [0i32; layout::COEFFICIENTS];
     let mut vendor = [0u8; layout::VENDOR_OCTETS];
     let mut reserved = [0u8; layout::RESERVED_OCTETS];
+    let mut text = Text { room, at: 0 };
     match reader::read(frame, &mut cs, &mut vendor, &mut reserved) {
         Ok(found) => {
-            let at = put_kind(room, found, &cs);
-            put_tail(room, at, &vendor, check_of(frame))
+            put_kind(&mut text, found, &cs);
+            put_tail(&mut text, &vendor, check_of(frame));
+            text.at
         },
-        Err(no) => put_refused(room, no.number()),
+        Err(no) => {
+            put_refused(&mut text, no.number());
+            text.at
+        },
     }
 }
 
-// The rows of the words for a file's length: it has more octets than a frame; one; fewer, which is told by a form.
-const MORE: u32 = 1;
-
-const ONE: u32 = 2;
-
-const FEWER: u32 = 3;
-
-// The row of a file of so many octets.
-fn length_row(octets: usize) -> u32
-    ensures { result ≡ cond (ltb frame_length octets) 1 (cond (eqb octets 1) 2 3) }
+// A file that is not as long as a frame, by its octets.
+fn put_length(text: &mut Text<'_>, octets: usize)
+    ensures { Puts text.old (length_words octets) text.new }
 {
     if layout::FRAME_OCTETS < octets {
-        return MORE;
-    }
-    if octets == 1 { ONE } else { FEWER }
-}
-
-// The row of a refusal: its number, 0 where it has no words.
-fn reason_row(n: u32) -> u32
-    ensures { result ≡ cond (ltb n 5) 0 (cond (ltb 7 n) 0 n) }
-{
-    if n < answer::SYNC {
-        return 0;
-    }
-    if answer::CHECK < n { 0 } else { n }
-}
-
-// The row of a refusal with n of so many octets.
-fn why_row(n: u32, octets: usize) -> u32
-    ensures { result ≡ cond (eqb n 1) (cond (ltb frame_length octets) 1 (cond (eqb octets 1) 2 3)) (cond (ltb n 5) 0 (cond (ltb 7 n) 0 n)) }
-{
-    if n == answer::LENGTH {
-        length_row(octets)
+        text.word(
+            b"the file has more than 529 octets, a frame has 529: a file holds one frame; capture it again",
+        );
+    } else if octets == 1 {
+        text.word(b"the file has 1 octet, a frame has 529: it is cut short; capture it again");
     } else {
-        reason_row(n)
+        let form = b"the file has # octets, a frame has 529: it is cut short; capture it again";
+        forms::form(text, form, &[octets as u32]);
     }
 }
 
 // Why a frame is refused, or a file is none.
-fn put_why(room: &mut [u8], at: usize, n: u32, octets: usize) -> usize
-    ensures { Put room.old at (cond (eqb n 1) (length_words octets) (reason_words n)) result room.new }
+fn put_why(text: &mut Text<'_>, no: Refused, octets: usize)
+    ensures { Puts text.old (cond (eqb (number_of no) 1) (length_words octets) (reason_words (number_of no))) text.new }
 {
-    let row = why_row(n, octets);
-    if row == FEWER {
-        return forms::put_form(
-            room,
-            at,
-            b"the file has # octets, a frame has 529: it is cut short; capture it again",
-            &[octets as u32],
-        );
+    match no {
+        Refused::Length => put_length(text, octets),
+        Refused::Sync => text.word(
+            b"the sync word is neither of the two: this is no descrambled frame, or its octets hold the first bit highest; capture it again",
+        ),
+        Refused::Pad => text.word(
+            b"a pad bit is not zero: the last octet holds more than the end of a frame; capture it again",
+        ),
+        Refused::Check => text.word(
+            b"the check bits differ: the frame is damaged; capture it again",
+        ),
+        Refused::Unknown
+        | Refused::Count
+        | Refused::Range
+        | Refused::Stuffing
+        | Refused::Flag
+        | Refused::Escape
+        | Refused::Size => {},
     }
-    forms::put_row(
-        room,
-        at,
-        b"\n\
-          the file has more than 529 octets, a frame has 529: a file holds one frame; capture it again\n\
-          the file has 1 octet, a frame has 529: it is cut short; capture it again\n\
-          \n\n\
-          the sync word is neither of the two: this is no descrambled frame, or its octets hold the first bit highest; capture it again\n\
-          a pad bit is not zero: the last octet holds more than the end of a frame; capture it again\n\
-          the check bits differ: the frame is damaged; capture it again\n",
-        row,
-    )
 }
 
 // The line of a refusal.
-fn put_refusal(room: &mut [u8], n: u32, octets: usize) -> usize
-    ensures { Put room.old 0 (refusal_words n octets) result room.new }
+fn put_refusal(text: &mut Text<'_>, no: Refused, octets: usize)
+    ensures { Puts text.old (refusal_words (number_of no) octets) text.new }
 {
-    let mut at = ascii::put_word(room, 0, b"lister: ");
-    at = put_why(room, at, n, octets);
-    ascii::put(room, at, b'\n')
+    text.word(b"lister: ");
+    put_why(text, no, octets);
+    text.put(b'\n');
 }
 
 // The line of vendor data, where it is text.
-fn put_vendor(room: &mut [u8], vendor: &[u8]) -> usize
-    ensures { Put room.old 0 (vendor_words vendor.now) result room.new }
+fn put_vendor(text: &mut Text<'_>, vendor: &[u8])
+    ensures { Puts text.old (vendor_words vendor.now) text.new }
 {
     let n = ascii::text_length(vendor);
     if n == 0 {
-        return 0;
+        return;
     }
-    let mut at = ascii::put_word(room, 0, b"lister: vendor data as text: ");
-    at = ascii::put_word(room, at, &vendor[..n]);
-    ascii::put(room, at, b'\n')
+    text.word(b"lister: vendor data as text: ");
+    text.word(&vendor[..n]);
+    text.put(b'\n');
 }
 
 // What is said of the octets read, and how much of the room it takes.
@@ -209,8 +183,15 @@ pub fn words(frame: &[u8], room: &mut [u8]) -> usize
     let mut cs = [0i32; layout::COEFFICIENTS];
     let mut vendor = [0u8; layout::VENDOR_OCTETS];
     let mut reserved = [0u8; layout::RESERVED_OCTETS];
+    let mut text = Text { room, at: 0 };
     match reader::read(frame, &mut cs, &mut vendor, &mut reserved) {
-        Ok(_) => put_vendor(room, &vendor),
-        Err(no) => put_refusal(room, no.number(), frame.len()),
+        Ok(_) => {
+            put_vendor(&mut text, &vendor);
+            text.at
+        },
+        Err(no) => {
+            put_refusal(&mut text, no, frame.len());
+            text.at
+        },
     }
 }

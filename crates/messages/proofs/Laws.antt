@@ -1,39 +1,41 @@
 -- Laws of a channel's flags and of what is told of a message. Assumes nothing.
-use mathlib.Core.Path.{◌≡◌, refl, sym, ap, ap₂, ◌∙◌}
+use mathlib.Core.Path.{◌≡◌, refl, sym, ap, ◌∙◌}
 use mathlib.Core.Bool.{Bool, true, false, cond, ◌&&◌}
 use mathlib.Core.List.{List, [], ◌∷◌, ◌++◌, append-nil, append_assoc}
-use Prim.Native.Nat.{ℕ, zero, suc, ◌+◌, ◌≤◌, ◌<◌}
+use Prim.Native.Nat.{ℕ, suc, ◌+◌, ◌≤◌, ◌<◌}
 use native.Mathlib.Numerals.{add-one}
 use native.Mathlib.Omega.{arith}
 use borrow.Author.Tests.{eq-eqb, ne_eqb, eqb-true}
 use lib.Dec.{eqb}
-use lib.ListN.{length, get_or, take, drop, length-drop, drop_of_length-le}
-use lib.Seq.{drop-cons, get_or-drop}
+use lib.ListN.{length, get_or, take, drop, length-drop}
+use lib.Seq.{get_or-drop}
+use Rattle.std.specs.Prelude.{Result, Ok, Err, IfOk}
+use Rattle.std.proofs.lemmas.Result.{IfOk-at_ok}
 use Rattle.answer.specs.Answer.{answer}
+use Rattle.answer.specs.declared.Refused.{Refused}
+use Rattle.answer.specs.Given.{answer_of}
+use Rattle.answer.proofs.Given.{refused-number}
 use Rattle.eoc.specs.Message.{flag}
 use Rattle.eoc.specs.Reading.{message_in}
 use Rattle.eoc.specs.Refusals.{form_refusals}
 use Rattle.eoc.specs.Addresses.{is_meant}
 use Rattle.eoc.specs.Channel.{behind_flag, before, pieces_from}
-use Rattle.eoclisting.specs.Promises.{destination_by}
 use Rattle.messages.specs.Messages.{up_to_flag, flag_from, is_good, is_taken}
 
 -- ---- where the next flag stands
 
--- here
-pub flag-here : (s : List ℕ) (k : ℕ) → k < length s → get_or s k 0 ≡ flag → flag_from s k ≡ k
+-- none in no octets; at the first; behind the first
+pub none-there : up_to_flag [] ≡ 0
 unfolding up_to_flag
-flag-here s k h e = rw (drop-cons s k 0 h) (simp (eq-eqb (get_or s k 0) flag e) (omega arith))
+none-there = refl
 
--- behind any other octet
-pub flag-next : (s : List ℕ) (k : ℕ) → k < length s → (get_or s k 0 ≡ flag → ⊥) → flag_from s (k + 1) ≡ flag_from s k
+pub flag-first : (o : ℕ) (os : List ℕ) → o ≡ flag → up_to_flag (o ∷ os) ≡ 0
 unfolding up_to_flag
-flag-next s k h e = rw (add-one, drop-cons s k 0 h) (simp (ne_eqb (get_or s k 0) flag e) (omega arith))
+flag-first o os e = simp (eq-eqb o flag e)
 
--- at the channel's end, and past it
-pub flag-last : (s : List ℕ) (k : ℕ) → length s ≤ k → flag_from s k ≡ k
+pub flag-later : (o : ℕ) (os : List ℕ) → (o ≡ flag → ⊥) → up_to_flag (o ∷ os) ≡ up_to_flag os + 1
 unfolding up_to_flag
-flag-last s k h = rw (drop_of_length-le s h) (omega arith)
+flag-later o os n = simp (ne_eqb o flag n) (sym (add-one (up_to_flag os)))
 
 up-to-within : (l : List ℕ) → up_to_flag l ≤ length l
 unfolding up_to_flag
@@ -104,27 +106,17 @@ piece-none begun (o ∷ os) h = pick (eqb o flag) (piece-none (begun ++ (o ∷ [
 
 -- ---- what is told of a message
 
-module _ (s : List ℕ) (a : ℕ) (e : a ≡ answer (form_refusals s)) where
-  good-is : eqb a 0 ≡ is_good s
-  good-is = ap (λ (n : ℕ). eqb n 0) e
+-- it is good, and a unit takes it that its destination means
+pub told-ok : (s : List ℕ) (r : Result ℕ Refused) (d own : ℕ) → r ≡ Ok d → answer_of r ≡ answer (form_refusals s)
+    → IfOk r (λ n. n ≡ (message_in s).destination) → (true ≡ is_good s) × (is_meant own d ≡ is_taken own s)
+told-ok s r d own h e t =
+    let g : is_good s ≡ true = eq-eqb _ 0 (sym e ∙ ap answer_of h) in
+    (sym g, ap (is_meant own) (IfOk-at_ok _ h t) ∙ sym (ap (λ (b : Bool). b && is_meant own (message_in s).destination) g))
 
-  taken_is : (own d : ℕ) (v : Bool) → d ≡ destination_by (answer (form_refusals s)) (message_in s) → v ≡ is_meant own d
-      → (eqb a 0 && v) ≡ is_taken own s
-  taken_is own d v f g =
-      ap₂ (λ (n : ℕ) (b : Bool). eqb n 0 && b) e g ∙ go (answer (form_refusals s)) f
-    where
-      go : (n : ℕ) → d ≡ destination_by n (message_in s) → (eqb n 0 && is_meant own d) ≡ (eqb n 0 && is_meant own (message_in s).destination)
-      go zero f = ap (is_meant own) f
-      go (suc n) f = simp (ne_eqb (suc n) 0 (λ z. omega arith))
-
-  pub good-counted : (g n : ℕ) → n ≡ cond (eqb a 0) 1 0 → g + n ≡ g + cond (is_good s) 1 0
-  good-counted g n h = ap (λ (k : ℕ). g + k) (h ∙ ap {B = ℕ} (λ (b : Bool). cond b 1 0) good-is)
-
-  pub taken-counted : (own d : ℕ) (v : Bool) (t n : ℕ) → d ≡ destination_by (answer (form_refusals s)) (message_in s) → v ≡ is_meant own d
-      → n ≡ cond (eqb a 0 && v) 1 0 → t + n ≡ t + cond (is_taken own s) 1 0
-  taken-counted own d v t n f g h = ap (λ (k : ℕ). t + k) (h ∙ ap {B = ℕ} (λ (b : Bool). cond b 1 0) (taken_is own d v f g))
-
--- one or none
-pub at_most_one : (b : Bool) (n : ℕ) → n ≡ cond b 1 0 → n ≤ 1
-at_most_one true n e = omega arith
-at_most_one false n e = omega arith
+-- it is refused
+pub told-err : (s : List ℕ) (r : Result ℕ Refused) (why : Refused) (own : ℕ) → r ≡ Err why → answer_of r ≡ answer (form_refusals s)
+    → (false ≡ is_good s) × (false ≡ is_taken own s)
+told-err s r why own h e =
+    let n = refused-number why in
+    let g : is_good s ≡ false = ne_eqb _ 0 (λ z. absurd (omega (arith, sym (ap answer_of h) ∙ e ∙ z))) in
+    (sym g, sym (ap (λ (b : Bool). b && is_meant own (message_in s).destination) g))

@@ -2,7 +2,7 @@
 // crate eoclisting's; here octets are only read, parted at their flags, and lines written.
 #![tactic(auto)]
 
-ghost use Rattle.std.specs.Prelude.{◌≡◌, true, cond, ◌+◌, ◌≤◌, ◌<◌, length, IfOk};
+ghost use Rattle.std.specs.Prelude.{◌≡◌, cond, ◌+◌, ◌≤◌, ◌<◌, length, IfOk, IfSome};
 ghost use Rattle.eoc.specs.Channel.{pieces};
 ghost use Rattle.messages.specs.Messages.{most_octets, flag_from, is_good, is_taken, count_good, count_taken};
 
@@ -46,108 +46,80 @@ fn print(rt: &HostRuntime, text: &[u8]) -> bool {
 
 // The place of the first flag from a place on, or the channel's end.
 fn flag_from(channel: &[u8], at: usize) -> usize
+    requires { at ≤ length channel.now }
     ensures { result ≡ flag_from channel.now at }
 {
-    let mut k = at;
-    while k < channel.len() {
-        if channel[k] == eoc::FLAG {
-            return k;
-        }
-        k += 1;
-    }
-    k
+    let rest = &channel[at..];
+    at + rest
+        .iter()
+        .position(|&octet| octet == eoc::FLAG)
+        .unwrap_or(rest.len())
 }
 
 // What was told so far.
-#[derive(Drop)]
+#[derive(Clone, Copy)]
 struct Told {
-    // Whether all of it could be written.
-    written: bool,
     messages: u32,
     good: u32,
     taken: u32,
 }
 
-// One or none.
-fn one(yes: bool) -> u32
-    ensures { result ≡ cond yes 1 0 }
-{
-    if yes { 1 } else { 0 }
-}
-
-// Tells one message, its two flags too: one of its own number, where it is asked for.
-fn tell(rt: &HostRuntime, told: Told, octets: &[u8], own: u32) -> Told
+// Tells one message, its two flags too: one of its own number, where it is asked for. Nothing comes back where it cannot be written.
+fn tell(rt: &HostRuntime, told: Told, octets: &[u8], own: u32) -> Option<Told>
     requires { (told.messages < 1048577) × (told.good < 1048577) × (told.taken < 1048577) }
-    ensures { (result.messages ≡ told.messages + 1) × (result.good ≡ told.good + cond (is_good octets.now) 1 0)
-        × (result.taken ≡ told.taken + cond (is_taken own octets.now) 1 0) }
+    ensures { IfSome result (λ t. (t.messages ≡ told.messages + 1) × (t.good ≡ told.good + cond (is_good octets.now) 1 0)
+        × (t.taken ≡ told.taken + cond (is_taken own octets.now) 1 0)) }
 {
-    let n = told.messages + 1;
+    let messages = told.messages + 1;
     let mut room = [0u8; ROOM];
-    let line = eoclisting::line(n, octets, &mut room);
-    let good = line.answer == answer::DONE;
-    let taken = good & eocunits::is_meant(own, line.destination);
-    let mut written = true;
-    if taken | (own == NO_UNIT) {
-        let m = line.length;
-        written = print(rt, &room[..m]);
+    let line = eoclisting::line(messages, octets, &mut room);
+    let (good, taken) = match line.destination {
+        Ok(destination) => (true, eocunits::is_meant(own, destination)),
+        Err(_) => (false, false),
+    };
+    if taken || own == NO_UNIT {
+        if !print(rt, &room[..line.length]) {
+            return None;
+        }
     }
-    Told {
-        written,
-        messages: n,
-        good: told.good + one(good),
-        taken: told.taken + one(taken),
-    }
+    Some(Told {
+        messages,
+        good: told.good + u32::from(good),
+        taken: told.taken + u32::from(taken),
+    })
 }
 
-// Tells every message of a channel, from its first flag on, up to the first that cannot be written.
-fn tell_from(rt: &HostRuntime, channel: &[u8], first: usize, own: u32) -> Told
+// Tells every message of a channel, from its first flag on. Nothing comes back where one cannot be written.
+fn tell_from(rt: &HostRuntime, channel: &[u8], first: usize, own: u32) -> Option<Told>
     requires { (length channel.now ≤ most_octets) × (first ≡ flag_from channel.now 0) }
-    ensures { result.written ≡ true → (result.messages ≡ length (pieces channel.now)) × (result.good ≡ count_good (pieces channel.now))
-        × (result.taken ≡ count_taken own (pieces channel.now)) }
+    ensures { IfSome result (λ t. (t.messages ≡ length (pieces channel.now)) × (t.good ≡ count_good (pieces channel.now))
+        × (t.taken ≡ count_taken own (pieces channel.now))) }
 {
     let mut told = Told {
-        written: true,
         messages: 0,
         good: 0,
         taken: 0,
     };
     let mut at = first;
+    // Stays: `channel.split(..)` gives what stands between flags without them, and eoclisting::line takes a message with its two flags.
     while at < channel.len() {
         let end = flag_from(channel, at + 1);
         if (at + 1 < end) & (end < channel.len()) {
-            told = tell(rt, told, &channel[at..end + 1], own);
-            if !told.written {
-                return told;
-            }
+            told = tell(rt, told, &channel[at..end + 1], own)?;
         }
         at = end;
     }
-    told
-}
-
-// The place behind the last flag; 0 where there is none.
-fn behind_last(channel: &[u8]) -> usize
-    ensures { result ≤ length channel.now }
-{
-    let mut n = channel.len();
-    while 0 < n {
-        if channel[n - 1] == eoc::FLAG {
-            return n;
-        }
-        n -= 1;
-    }
-    n
+    Some(told)
 }
 
 // How many octets stand behind the last flag; none where there is no flag, since then all stand before the first.
 fn octets_behind(channel: &[u8]) -> u32
     requires { length channel.now ≤ most_octets }
 {
-    let last = behind_last(channel);
-    if last == 0 {
-        return 0;
+    match channel.iter().rposition(|&octet| octet == eoc::FLAG) {
+        Some(last) => (channel.len() - 1 - last) as u32,
+        None => 0,
     }
-    (channel.len() - last) as u32
 }
 
 // The status of what was told: there is a message, and all are good.
@@ -182,10 +154,9 @@ fn tell_channel(rt: &HostRuntime, channel: &[u8], own: u32) -> u8
     requires { length channel.now ≤ most_octets }
 {
     let first = flag_from(channel, 0);
-    let told = tell_from(rt, channel, first, own);
-    if !told.written {
+    let Some(told) = tell_from(rt, channel, first, own) else {
         return WRONG;
-    }
+    };
     tell_totals(rt, told, first as u32, octets_behind(channel), own)
 }
 
@@ -230,15 +201,22 @@ fn tell_input(rt: &HostRuntime, own: u32) -> u8 {
     }
 }
 
+// What is to be done: the messages listed, or what one of the arguments asks for; that at a place is wrong.
+#[derive(Clone, Copy, PartialEq, Eq)]
+enum Task {
+    List,
+    Help,
+    Version,
+    Refuse(usize),
+}
+
 // What the arguments ask for.
 #[derive(Clone, Copy)]
 struct Asked {
-    // options::WORD to list messages, HELP or VERSION, or UNKNOWN for an argument that is wrong: the first of them counts.
-    what: u32,
-    // The place of the wrong argument.
-    at: usize,
-    // The place of the unit's name; 0 where there is none.
-    unit: usize,
+    // What is to be done: the first argument that says so counts.
+    task: Task,
+    // The place of the unit's name.
+    unit: Option<usize>,
     // Whether that is what comes next.
     waits: bool,
     // Whether the status is asked for.
@@ -247,10 +225,9 @@ struct Asked {
 
 impl Asked {
     // The same, asking for this.
-    fn asks(mut self, what: u32, at: usize) -> Asked {
-        if self.what == options::WORD {
-            self.what = what;
-            self.at = at;
+    fn asks(mut self, task: Task) -> Asked {
+        if self.task == Task::List {
+            self.task = task;
         }
         self
     }
@@ -266,8 +243,9 @@ impl Asked {
                 self.waits = true;
                 self
             },
-            options::HELP | options::VERSION => self.asks(option, at),
-            _ => self.asks(options::UNKNOWN, at),
+            options::HELP => self.asks(Task::Help),
+            options::VERSION => self.asks(Task::Version),
+            _ => self.asks(Task::Refuse(at)),
         }
     }
 
@@ -275,7 +253,7 @@ impl Asked {
     fn with(mut self, option: u32, at: usize) -> Asked {
         if self.waits {
             self.waits = false;
-            self.unit = at;
+            self.unit = Some(at);
             return self;
         }
         self.option(option, at)
@@ -284,7 +262,7 @@ impl Asked {
     // Where the last argument is --for, it is wrong.
     fn done(self, at: usize) -> Asked {
         if self.waits {
-            return self.asks(options::UNKNOWN, at);
+            return self.asks(Task::Refuse(at));
         }
         self
     }
@@ -302,46 +280,29 @@ fn option_at(rt: &HostRuntime, i: usize) -> u32 {
 fn arguments(rt: &HostRuntime) -> Asked {
     let count = outside::arg_count(rt);
     let mut asked = Asked {
-        what: options::WORD,
-        at: 0,
-        unit: 0,
+        task: Task::List,
+        unit: None,
         waits: false,
         status: false,
     };
-    let mut i = 1;
-    while i < count {
+    for i in 1..count {
         asked = asked.with(option_at(rt, i), i);
-        i += 1;
     }
-    asked.done(i - 1)
+    asked.done(count.saturating_sub(1))
 }
 
-// The number of a regenerator by its digit, or NO_UNIT.
-fn regenerator(digit: u8) -> u32 {
-    if digit < b'1' {
-        return NO_UNIT;
+// The address of the unit of this name, LTU, NTU or R1 to R8.
+fn unit_named(word: &[u8]) -> Option<u32> {
+    match word {
+        b"LTU" | b"ltu" => Some(1),
+        b"NTU" | b"ntu" => Some(2),
+        &[b'R' | b'r', digit @ b'1'..=b'8'] => Some(u32::from(digit - b'1') + 3),
+        _ => None,
     }
-    if b'8' < digit {
-        return NO_UNIT;
-    }
-    (digit - b'1') as u32 + 3
-}
-
-// The address of the unit of this name, LTU, NTU or R1 to R8; NO_UNIT where there is none.
-fn unit_named(word: &[u8]) -> u32 {
-    if word.len() == 2 {
-        if (word[0] == b'R') | (word[0] == b'r') {
-            return regenerator(word[1]);
-        }
-    }
-    let mut own = options::number(word, b"ltu", 1, NO_UNIT);
-    own = options::number(word, b"ntu", 2, own);
-    own = options::number(word, b"LTU", 1, own);
-    options::number(word, b"NTU", 2, own)
 }
 
 // The address of the unit that argument i names.
-fn unit_at(rt: &HostRuntime, i: usize) -> u32 {
+fn unit_at(rt: &HostRuntime, i: usize) -> Option<u32> {
     let mut word = outside::buffer();
     let n = outside::word(rt, i, &mut word);
     unit_named(&word[..n])
@@ -387,26 +348,24 @@ fn version(rt: &HostRuntime) -> u8 {
     done(print(rt, b"\n"))
 }
 
-// Lists the messages of the channel, all of them or those for a unit.
-fn list(rt: &HostRuntime, unit: usize) -> u8 {
-    if unit == 0 {
+// Lists the messages of the channel, all of them or those for the unit that an argument names.
+fn list(rt: &HostRuntime, unit: Option<usize>) -> u8 {
+    let Some(i) = unit else {
         return tell_input(rt, NO_UNIT);
+    };
+    match unit_at(rt, i) {
+        Some(own) => tell_input(rt, own),
+        None => refuse(rt, i),
     }
-    let own = unit_at(rt, unit);
-    if own == NO_UNIT {
-        return refuse(rt, unit);
-    }
-    tell_input(rt, own)
 }
 
 // Does what is asked, and answers the status.
 fn run(rt: &HostRuntime, asked: Asked) -> u8 {
-    let what = asked.what;
-    match what {
-        options::HELP => help(rt),
-        options::VERSION => version(rt),
-        options::UNKNOWN => refuse(rt, asked.at),
-        _ => list(rt, asked.unit),
+    match asked.task {
+        Task::List => list(rt, asked.unit),
+        Task::Help => help(rt),
+        Task::Version => version(rt),
+        Task::Refuse(i) => refuse(rt, i),
     }
 }
 

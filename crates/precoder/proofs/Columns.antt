@@ -5,12 +5,12 @@ use Prim.Native.Nat.{ℕ, zero, suc, ◌+◌, ◌-◌, ◌*◌, ◌/◌, ◌%◌
 use native.Mathlib.Nat.{mul_comm, mul-zero, zero-mul, mul-le-mul, lt_of_mul-lt-mul_left, mod-lt, mod-eq_of_lt, add-mul-mod_self_left, div-add-mod, div-lt_iff_lt-mul}
 use native.Mathlib.Omega.{arith}
 use lib.IntN.{ℤ, pos, negsuc, neg_ℤ, nat_abs, ◌+ℤ◌, ◌-ℤ◌, ◌*ℤ◌, neg_ℤ-neg_ℤ, *ℤ_comm, +ℤ_comm, +ℤ_assoc}
-use lib.Dec.{T, leb, ltb, leb→le, ltb→lt}
+use lib.Dec.{T, leb}
 use lib.Signed.{mag, non_neg, pos-nat_abs}
 use mir.Syntax.{Width, w16, w32, w64}
 use mir.Val.{Fits, SFits, hbits, to_z, of_z}
 use mir.Facts.{to_z-of_z, to_z_pos, to_z-neg, Fits-of_lt, sfits_widen}
-use borrow.Author.Tests.{le-leb, leb-true}
+use borrow.Author.Tests.{le-leb, leb-true, le-ltb}
 use Rattle.ranges.specs.Ranges.{between}
 use Rattle.ranges.proofs.Laws.{both, mag-range, range-mag}
 use Rattle.samples.proofs.Linear.{P, N, P_pos, N-pos, P-negsuc, N-negsuc, eq_of, add-bal, sub_is, neg-P, neg-N, mul-P, mul-N, abs_is, mag_of, P-mag, N-mag}
@@ -88,6 +88,22 @@ unsigned : (z : ℤ) → N z ≤ P z → T (non_neg z)
 unfolding P N
 unsigned (pos n) h = tt
 unsigned (negsuc n) h = absurd (omega arith)
+
+-- from -m to m - 1
+pub within : (m : ℕ) (z : ℤ) → 0 < m → between (neg_ℤ (pos m)) (pos (m - 1)) z ≡ true → mag z < m
+within zero z h e = absurd (omega arith)
+within (suc j) z h e =
+    let i : suc j - 1 ≡ j = omega arith in
+    let f : mag z ≤ j = range-mag j z (ap (λ (n : ℕ). between (negsuc j) (pos n) z) (sym i) ∙ e) in
+    omega arith
+
+ends : (k : ℕ) → 0 < k → (neg_ℤ (pos k) ≡ negsuc (k - 1)) × (pos k -ℤ pos 1 ≡ pos (k - 1))
+ends zero h = absurd (omega arith)
+ends (suc j) h = let i : suc j - 1 ≡ j = omega arith in (ap negsuc (sym i), rw (le-ltb (suc j) 1 (omega arith)) refl)
+
+-- the ends of such a range, written with the raise
+pub to_raise : (k : ℕ) → 0 < k → (v : ℤ) → between (negsuc (k - 1)) (pos (k - 1)) v ≡ true → between (neg_ℤ (pos k)) (pos k -ℤ pos 1) v ≡ true
+to_raise k h v e = let d = ends k h in ap₂ (λ (a b : ℤ). between a b v) d.0 d.1 ∙ e
 
 -- z lies from -(n k) to n k - 1. Raised by n k it has no sign; its quotient by n, less k, is its high half, and the rest its low one
 module _ (n k : ℕ) (sizes : (0 < n) × (n ≤ 2 ^ 14) × (k ≤ 2 ^ 14)) (z : ℤ) (range : mag z < n * k) where
@@ -192,6 +208,13 @@ module _ (n k : ℕ) (sizes : (0 < n) × (n ≤ 2 ^ 14) × (k ≤ 2 ^ 14)) (z : 
     high_is : to_z w16 (of_z w16 (to_z w16 (bare / n) -ℤ pos k)) ≡ high
     high_is = rw quotient_is (to_z-of_z high_fits)
 
+    -- the quotient fits, and so does it less the raise
+    pub quotient-fits : SFits w16 (pos (bare / n))
+    quotient-fits = rw taken_is (record { sfits = omega (arith, quotient, sizes.2) })
+
+    pub lower-asks : SFits w16 (to_z w16 (bare / n) -ℤ pos k)
+    lower-asks = rw quotient_is high_fits
+
     pub found : (pos n *ℤ to_z w16 (of_z w16 (to_z w16 (bare / n) -ℤ pos k)) +ℤ to_z w16 (bare % n) ≡ z)
         × (between (negsuc (k - 1)) (pos (k - 1)) (to_z w16 (of_z w16 (to_z w16 (bare / n) -ℤ pos k))) ≡ true)
         × (between (pos 0) (pos (n - 1)) (to_z w16 (bare % n)) ≡ true)
@@ -222,27 +245,6 @@ halves-one n h j l k f g e =
     let above : n * (P j + N h) < n * suc (P h + N j) = omega arith in
     let same : P h + N j ≡ P j + N h = omega (arith, lt_of_mul-lt-mul_left n below, lt_of_mul-lt-mul_left n above) in
     (eq_of h j same, omega (arith, ap (λ (x : ℕ). n * x) same))
-
--- the difference of two small numbers fits
-less-fits : (w : Width) (a b : ℤ) → mag a + suc (mag b) < 2 ^ hbits w → SFits w (a -ℤ b)
-less-fits w a b h =
-    record {
-      sfits =
-          mag_of (a -ℤ b) (2 ^ hbits w) (omega (arith, sub_is a b, P-mag a, N-mag b)) (omega (arith, sub_is a b, N-mag a, P-mag b));
-    }
-
--- a number less a constant, as the code raises it
-pub raise-fits : (z : ℤ) (bits : ℕ) → mag z < 2 ^ 22 → T (ltb (mag (to_z w32 bits)) (2 ^ 22)) → SFits w32 z → SFits w32 (to_z w32 (of_z w32 z) -ℤ to_z w32 bits)
-raise-fits z bits f h fits = rw (to_z-of_z fits) (less-fits w32 z (to_z w32 bits) (omega (arith, ltb→lt (mag (to_z w32 bits)) (2 ^ 22) h)))
-
--- a quotient less a constant, as the code lowers it
-pub lower-fits : (m d bits : ℕ) → m < 2 ^ 22 → T (leb 256 d) → T (ltb (mag (to_z w16 bits)) (2 ^ 13)) → SFits w16 (to_z w16 (m / d) -ℤ to_z w16 bits)
-lower-fits m d bits f g h =
-    let some : 0 < d = omega (arith, leb→le 256 d g) in
-    let enough : m < 2 ^ 14 * d = omega (arith, leb→le 256 d g) in
-    let small : m / d < 2 ^ 14 = (div-lt_iff_lt-mul some).1 enough in
-    let e : to_z w16 (m / d) ≡ pos (m / d) = to_z_pos w16 (omega arith) in
-    rw e (less-fits w16 (pos (m / d)) (to_z w16 bits) (omega (arith, ltb→lt (mag (to_z w16 bits)) (2 ^ 13) h)))
 
 -- ---- the halves of a coefficient and of an output, and their products
 

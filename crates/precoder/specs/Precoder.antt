@@ -1,8 +1,19 @@
 -- The channel precoder (000, clause 4.3.4; the sign of v is a reading: figure 9 is not in our copy). All values are whole numbers of
 -- steps of 1/131,072.
-use Rattle.std.specs.Prelude.{◌≡◌, Bool, true, false, List, ℕ, zero, suc, ℤ, pos, ◌+ℤ◌, ◌-ℤ◌, ◌*ℤ◌, get_or}
-use Rattle.ranges.specs.Ranges.{coefficient_count}
+use Rattle.std.specs.Prelude.{◌≡◌, Bool, true, false, List, ℕ, zero, suc, ◌-◌, ◌*◌, ◌^◌, ◌≤◌, ◌<◌, ℤ, pos, neg_ℤ, ◌+ℤ◌, ◌-ℤ◌, ◌*ℤ◌, get_or}
+use Rattle.ranges.specs.Ranges.{coefficient_count, between}
 use Rattle.samples.specs.Samples.{is_signal, Rounds, Folds}
+
+-- a number that can be split in halves: the lowest is -(weight raise), and the number lies from there to below weight raise
+pub record Splits (lowest : ℤ) (weight : ℕ) (raise z : ℤ) : Type 0 where
+  pub size : ℕ
+  pub raise_is : raise ≡ pos size
+  pub lowest_is : lowest ≡ neg_ℤ (pos (weight * size))
+  pub some : 0 < weight
+  pub sized : 0 < size
+  pub weight_fits : weight ≤ 2 ^ 14
+  pub size_fits : size ≤ 2 ^ 14
+  pub range : between lowest (pos (weight * size - 1)) z ≡ true
 
 -- S over the first n places: the exact sum of C(k) times y(m-k). C(1) and y(m-1) stand at place 0
 unfoldable pub exact_sum : ℕ → List ℤ → List ℤ → ℤ

@@ -1,12 +1,15 @@
 // The channel precoder and its inverse (000, clause 4.3.4), in runs of symbols. All values are in steps of 1/131,072.
 #![tactic(auto)]
 
-ghost use Rattle.std.specs.Prelude.{◌≡◌, true, ◌%◌, ◌*◌, ◌^◌, ◌≤◌, pos, neg_ℤ, nat_abs, ◌+ℤ◌, ◌*ℤ◌, length};
+ghost use Rattle.std.specs.Prelude.{◌≡◌, true, ◌%◌, ◌-◌, ◌*◌, ◌^◌, ◌≤◌, pos, neg_ℤ, nat_abs, ◌+ℤ◌, ◌-ℤ◌, ◌*ℤ◌, length};
+ghost use Rattle.answer.specs.Given.{answer_of};
 ghost use Rattle.numbers.specs.Promises.{number_length, numbers_of};
 ghost use Rattle.ranges.specs.Ranges.{coefficient_count, between, is_coefficient, every};
 ghost use Rattle.samples.specs.Samples.{is_signal, past_after};
-ghost use Rattle.precoder.specs.Precoder.{exact_sum, Sends, Receives, Turns, line_of};
+ghost use Rattle.precoder.specs.Precoder.{Splits, exact_sum, Sends, Receives, Turns, line_of};
 ghost use Rattle.precoder.specs.Runs.{Turned, lengths_right, ranges_right, RunPromise, PrecodesRun, DecodesRun};
+
+use answer::Refused;
 
 // The taps: as many coefficients, and as many past outputs.
 const TAPS: usize = ranges::COEFFICIENTS;
@@ -16,7 +19,11 @@ const COEFFICIENT_WEIGHT: u32 = 2_048;
 
 const OUTPUT_WEIGHT: u32 = 512;
 
-// The size of the lowest value, in such weights.
+// The lowest values, and their sizes in such weights.
+const LOWEST_COEFFICIENT: i32 = ranges::LOWEST_COEFFICIENT;
+
+const LOWEST_OUTPUT: i32 = samples::LOWEST;
+
 const COEFFICIENT_RAISE: i16 = 1_024;
 
 const OUTPUT_RAISE: i16 = 256;
@@ -42,33 +49,38 @@ struct Parts {
 fn narrow(a: i16, b: i16) -> i32
     ensures { result ≡ a *ℤ b }
 {
-    (a as i32) * (b as i32)
+    i32::from(a) * i32::from(b)
 }
 
-// A coefficient in halves of 11 bits. Less the lowest value it has no sign, so that / and % split it.
+// A number in halves: less the lowest it has no sign, so that / and % split it. The lowest is -RAISE in the high half's weights.
+fn split<const LOWEST: i32, const WEIGHT: u32, const RAISE: i16>(z: i32) -> Halves
+    requires { Splits LOWEST WEIGHT RAISE z }
+    ensures { (pos WEIGHT *ℤ result.high +ℤ result.low ≡ z)
+        × (between (neg_ℤ RAISE) (RAISE -ℤ pos 1) result.high ≡ true) × (between (pos 0) (pos (WEIGHT - 1)) result.low ≡ true) }
+{
+    let raised = (z - LOWEST) as u32;
+    Halves {
+        high: (raised / WEIGHT) as i16 - RAISE,
+        low: (raised % WEIGHT) as i16,
+    }
+}
+
+// A coefficient in halves of 11 bits.
 fn coefficient_halves(coefficient: i32) -> Halves
     requires { is_coefficient coefficient ≡ true }
     ensures { (pos 2048 *ℤ result.high +ℤ result.low ≡ coefficient)
         × (between (neg_ℤ (pos 1024)) (pos 1023) result.high ≡ true) × (between (pos 0) (pos 2047) result.low ≡ true) }
 {
-    let raised = (coefficient - ranges::LOWEST_COEFFICIENT) as u32;
-    Halves {
-        high: (raised / COEFFICIENT_WEIGHT) as i16 - COEFFICIENT_RAISE,
-        low: (raised % COEFFICIENT_WEIGHT) as i16,
-    }
+    split::<LOWEST_COEFFICIENT, COEFFICIENT_WEIGHT, COEFFICIENT_RAISE>(coefficient)
 }
 
-// An output in halves of 9 bits, likewise.
+// An output in halves of 9 bits.
 fn output_halves(y: i32) -> Halves
     requires { is_signal y ≡ true }
     ensures { (pos 512 *ℤ result.high +ℤ result.low ≡ y)
         × (between (neg_ℤ (pos 256)) (pos 255) result.high ≡ true) × (between (pos 0) (pos 511) result.low ≡ true) }
 {
-    let raised = (y - samples::LOWEST) as u32;
-    Halves {
-        high: (raised / OUTPUT_WEIGHT) as i16 - OUTPUT_RAISE,
-        low: (raised % OUTPUT_WEIGHT) as i16,
-    }
+    split::<LOWEST_OUTPUT, OUTPUT_WEIGHT, OUTPUT_RAISE>(y)
 }
 
 // The exact product of a coefficient and an output, as four narrow ones.
@@ -113,14 +125,12 @@ fn sum(coefficients: &[i32; TAPS], history: &[i32; TAPS]) -> i64
     let mut hl: i32 = 0;
     let mut lh: i32 = 0;
     let mut ll: i32 = 0;
-    let mut tap = 0;
-    while tap < TAPS {
+    for tap in 0..TAPS {
         let p = product(coefficients[tap], history[tap]);
         hh += p.hh;
         hl += p.hl;
         lh += p.lh;
         ll += p.ll;
-        tap += 1;
     }
     joined(Parts { hh, hl, lh, ll })
 }
@@ -150,6 +160,7 @@ fn receive(y: i32, coefficients: &[i32; TAPS], history: &mut [i32; TAPS]) -> i32
 }
 
 // One symbol in range in either direction.
+// Stays: a bool, as Turns and line_of have it; a type or a const parameter for each direction would say the same at each call.
 fn turn(back: bool, z: i32, coefficients: &[i32; TAPS], history: &mut [i32; TAPS]) -> i32
     requires { (is_signal z ≡ true) × (every is_coefficient coefficients.now ≡ true) × (every is_signal history.old ≡ true) }
     ensures { Turns back coefficients.now history.old z result
@@ -166,9 +177,7 @@ fn numbers_in_range(octets: &[u8]) -> bool
     requires { length octets.now % number_length ≡ 0 }
     ensures { result ≡ every is_signal (numbers_of octets.now) }
 {
-    let count = octets.len() / numbers::NUMBER_OCTETS;
-    let mut i = 0;
-    while i < count {
+    for i in 0..octets.len() / numbers::NUMBER_OCTETS {
         if !ranges::in_range(
             numbers::number(octets, i),
             samples::LOWEST,
@@ -176,7 +185,6 @@ fn numbers_in_range(octets: &[u8]) -> bool
         ) {
             return false;
         }
-        i += 1;
     }
     true
 }
@@ -185,16 +193,10 @@ fn numbers_in_range(octets: &[u8]) -> bool
 fn lengths_right(coefficients: &[u8], history: &[u8], symbols: &[u8], room: &[u8]) -> bool
     ensures { result ≡ lengths_right coefficients.now history.now symbols.now room.now }
 {
-    if coefficients.len() != numbers::COEFFICIENT_OCTETS {
-        return false;
-    }
-    if history.len() != numbers::COEFFICIENT_OCTETS {
-        return false;
-    }
-    if symbols.len() % numbers::NUMBER_OCTETS != 0 {
-        return false;
-    }
-    room.len() == symbols.len()
+    coefficients.len() == numbers::COEFFICIENT_OCTETS
+        && history.len() == numbers::COEFFICIENT_OCTETS
+        && symbols.len() % numbers::NUMBER_OCTETS == 0
+        && room.len() == symbols.len()
 }
 
 // Whether all numbers of a run lie in their ranges.
@@ -202,17 +204,12 @@ fn ranges_right(coefficients: &[i32; TAPS], history: &[i32; TAPS], symbols: &[u8
     requires { length symbols.now % number_length ≡ 0 }
     ensures { result ≡ ranges_right coefficients.now history.now (numbers_of symbols.now) }
 {
-    if !ranges::all_in_range(
+    ranges::all_in_range(
         coefficients,
         ranges::LOWEST_COEFFICIENT,
         ranges::HIGHEST_COEFFICIENT,
-    ) {
-        return false;
-    }
-    if !ranges::all_in_range(history, samples::LOWEST, samples::HIGHEST) {
-        return false;
-    }
-    numbers_in_range(symbols)
+    ) && ranges::all_in_range(history, samples::LOWEST, samples::HIGHEST)
+        && numbers_in_range(symbols)
 }
 
 // Symbols in range, one after the other, in either direction.
@@ -228,45 +225,58 @@ fn turn_all(
     ensures { Turned back coefficients.now history.old (numbers_of symbols.now)
         history.new room.new }
 {
-    let count = symbols.len() / numbers::NUMBER_OCTETS;
-    let mut i = 0;
-    while i < count {
+    for i in 0..symbols.len() / numbers::NUMBER_OCTETS {
         let w = turn(back, numbers::number(symbols, i), coefficients, history);
         numbers::put_number(room, i, w);
-        i += 1;
     }
 }
 
 // A run in either direction. Coefficients and history are decoded once; everything is checked before anything is written.
-fn run(back: bool, coefficients: &[u8], history: &mut [u8], symbols: &[u8], room: &mut [u8]) -> u32
+fn run(
+    back: bool,
+    coefficients: &[u8],
+    history: &mut [u8],
+    symbols: &[u8],
+    room: &mut [u8],
+) -> Result<(), Refused>
     ensures { RunPromise back coefficients.now history.old symbols.now room.old
-        result history.new room.new }
+        (answer_of result) history.new room.new }
 {
     if !lengths_right(coefficients, history, symbols, room) {
-        return answer::LENGTH;
+        return Err(Refused::Length);
     }
     let taps = numbers::numbers(coefficients);
     let mut past = numbers::numbers(history);
     if !ranges_right(&taps, &past, symbols) {
-        return answer::RANGE;
+        return Err(Refused::Range);
     }
     turn_all(back, &taps, &mut past, symbols, room);
     numbers::put_numbers(history, &past);
-    answer::DONE
+    Ok(())
 }
 
 // Many symbols in one call, on octets, four a number, low octet first.
-pub fn precode_run(coefficients: &[u8], history: &mut [u8], xs: &[u8], ys: &mut [u8]) -> u32
+pub fn precode_run(
+    coefficients: &[u8],
+    history: &mut [u8],
+    xs: &[u8],
+    ys: &mut [u8],
+) -> Result<(), Refused>
     ensures { PrecodesRun coefficients.now history.old xs.now ys.old
-        result history.new ys.new }
+        (answer_of result) history.new ys.new }
 {
     run(false, coefficients, history, xs, ys)
 }
 
 // The receiving end of such a run.
-pub fn decode_run(coefficients: &[u8], history: &mut [u8], ys: &[u8], xs: &mut [u8]) -> u32
+pub fn decode_run(
+    coefficients: &[u8],
+    history: &mut [u8],
+    ys: &[u8],
+    xs: &mut [u8],
+) -> Result<(), Refused>
     ensures { DecodesRun coefficients.now history.old ys.now xs.old
-        result history.new xs.new }
+        (answer_of result) history.new xs.new }
 {
     run(true, coefficients, history, ys, xs)
 }

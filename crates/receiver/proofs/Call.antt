@@ -18,7 +18,7 @@ use Rattle.octets.proofs.Fields.{part-before}
 use Rattle.receiver.specs.Stream.{frame_at, lies_at}
 use Rattle.receiver.specs.Promises.{receive_refusals, joined, takes, first_that, found, received_of, line_after, room_after, ReceivePromise}
 use Rattle.receiver.specs.declared.Receiver.{Receiver}
-use Rattle.receiver.specs.declared.Received.{Received}
+use Rattle.receiver.specs.Promises.{Got}
 use Rattle.receiver.proofs.Earliest.{First, first_is, first_one}
 use Rattle.receiver.proofs.Window.{lies_more, frame-more}
 use Rattle.receiver.proofs.Cut.{call-sound, refused-is, takes-sound, takes-there}
@@ -118,7 +118,7 @@ module _ (x : Receiver) (line lump : List ℕ) (count : ℕ) (frame room : List 
       e ∙ ap (laid line 0) p ∙ laid_end line 0 (drop count J) (omega (arith, d, l)) ∙ ap (λ (n : ℕ). octets_of n (drop count J)) l
 
 -- a call that is not refused
-pub done-call : (x : Receiver) (line lump : List ℕ) (count : ℕ) (frame : List ℕ) (r : Received) (at : ℕ) (line' frame' : List ℕ)
+pub done-call : (x : Receiver) (line lump : List ℕ) (count : ℕ) (frame : List ℕ) (r : Got) (at : ℕ) (line' frame' : List ℕ)
     → answer (receive_refusals x line lump count frame) ≡ 0 → at ≡ found x line lump count → r ≡ received_of 0 x at count → line' ≡ line_after line lump count
     → frame' ≡ room_after x.end (joined line lump count) (found x line lump count) count frame → ReceivePromise x line lump count frame r line' frame'
 done-call x line lump count frame r at line' frame' z e f g h =

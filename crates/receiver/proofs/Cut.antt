@@ -21,7 +21,7 @@ use Rattle.receiver.specs.Given.{Given, given_at, GivenFrom, nothing, next, Give
 use Rattle.receiver.specs.Promises.{StartPromise, receive_refusals, joined, takes, found, gives, place_on, received_of, line_after, room_after}
 use Rattle.receiver.specs.Calls.{Lump, bits_in, joined_bits, handed, Calls, none as no_call, call, all_handed}
 use Rattle.receiver.specs.declared.Receiver.{Receiver}
-use Rattle.receiver.specs.declared.Received.{Received}
+use Rattle.receiver.specs.Promises.{Got}
 use Rattle.receiver.proofs.Earliest.{First, first_is}
 use Rattle.receiver.proofs.Window.{around, same-frame, same-lies, lies-early, lies-late, lies_more}
 use Rattle.receiver.proofs.Given.{go_on, none_left, given-one, given-extend}
@@ -214,14 +214,14 @@ module _ (end : ℕ) (L : List ℕ) (x : Receiver) (line : List ℕ) (gs : List 
           (nothing (p + 4227) (λ q h. lies-late end M q (omega (arith, M-length, first-at.from, t.0))))
 
   -- the call brings the receiver further
-  pub stands-next : length line ≡ 532 → (r : Received) (line' room room' : List ℕ) → r ≡ received_of 0 x at count → line' ≡ line_after line lump count
+  pub stands-next : length line ≡ 532 → (r : Got) (line' room room' : List ℕ) → r ≡ received_of 0 x at count → line' ≡ line_after line lump count
       → room' ≡ room_after x.end J at count room → Stands end M r.next line' (gs ++ handed r room')
   unfolding go_on
   stands-next z r line' room room' e f g =
       record {
-        same_end = ap (λ (t : Received). t.next.end) e ∙ s.same_end;
-        counted = ap (λ (t : Received). t.next.heard) e ∙ ap (λ (n : ℕ). n + count) s.counted ∙ sym M-length;
-        goes_on = ap (λ (t : Received). t.next.from) e ∙ on (gives at count) ∙ sym (ap (λ (l : List Given). go_on 0 (gs ++ l)) out ∙ go-on-append 0 gs _);
+        same_end = ap (λ (t : Got). t.next.end) e ∙ s.same_end;
+        counted = ap (λ (t : Got). t.next.heard) e ∙ ap (λ (n : ℕ). n + count) s.counted ∙ sym M-length;
+        goes_on = ap (λ (t : Got). t.next.from) e ∙ on (gives at count) ∙ sym (ap (λ (l : List Given). go_on 0 (gs ++ l)) out ∙ go-on-append 0 gs _);
         kept = kept_next L line lump count s.kept enough z line' f;
         given = subst (λ (l : List Given). GivenFrom end M 0 (gs ++ l)) (sym out)
             (given-extend end L Y 0 gs _ s.given given-now);
@@ -260,7 +260,7 @@ unfolding joined_bits all_handed
 calls-stand end L x line gs [] [] s (no_call _ _) =
     subst (λ (l : List ℕ). GivenFrom end l 0 (gs ++ [])) (sym (append-nil L)) (subst (λ (l : List Given). GivenFrom end L 0 l) (sym (append-nil gs)) s.given)
 calls-stand end L x line gs _ _ s (call _ _ l ls room r line' room' outs p z k) =
-    let a : answer (receive_refusals x line l.octets l.count room) ≡ 0 = sym (answer-is _ x _ l.count) ∙ sym (ap (λ (t : Received). t.answer) p.returned) ∙ z in
+    let a : answer (receive_refusals x line l.octets l.count room) ≡ 0 = sym (answer-is _ x _ l.count) ∙ sym (ap (λ (t : Got). t.answer) p.returned) ∙ z in
     let w = call-sound x line l.octets l.count room a in
     let b = found x line l.octets l.count in
     let t = stands-next end L x line gs s l.octets l.count w.0 w.4 w.1 r line' room room'
@@ -272,24 +272,24 @@ calls-stand end L x line gs _ _ s (call _ _ l ls room r line' room' outs p z k) 
     (calls-stand end (L ++ bits_in l) r.next line' (gs ++ handed r room') ls outs t k))
 
 -- a receiver at its start has heard nothing
-pub stands-start : (end : ℕ) (r : Received) (line : List ℕ) → StartPromise end r → length line ≡ 532 → Stands end [] r.next line []
+pub stands-start : (end : ℕ) (r : Got) (line : List ℕ) → StartPromise end r → length line ≡ 532 → Stands end [] r.next line []
 unfolding go_on
 stands-start end r line p l =
     record {
-      same_end = ap (λ (t : Received). t.next.end) p;
-      counted = ap (λ (t : Received). t.next.heard) p;
-      goes_on = ap (λ (t : Received). t.next.from) p;
+      same_end = ap (λ (t : Got). t.next.end) p;
+      counted = ap (λ (t : Got). t.next.heard) p;
+      goes_on = ap (λ (t : Got). t.next.from) p;
       kept = record { before = bits_of line; size = bits-length line ∙ ap (λ (n : ℕ). 8 * n) l; is = sym (append-nil (bits_of line)) };
       given = nothing 0 (λ q h. lies-late end [] q (omega arith));
     }
 
 -- ANY CUT: from a start, over any lumps of which none is refused, what calls hand out is what is given of the joined bits
-pub any-cut : (end : ℕ) (r : Received) (line : List ℕ) (ls : List Lump) (outs : List (List Given)) → StartPromise end r → length line ≡ 532
+pub any-cut : (end : ℕ) (r : Got) (line : List ℕ) (ls : List Lump) (outs : List (List Given)) → StartPromise end r → length line ≡ 532
     → Calls r.next line ls outs → GivenOf end (joined_bits ls) (all_handed outs)
 any-cut end r line ls outs p l k = calls-stand end [] r.next line [] ls outs (stands-start end r line p l) k
 
 -- so two cuts of the same bits give the same
-pub two-cuts : (end : ℕ) (r r' : Received) (line line' : List ℕ) (ls ls' : List Lump) (outs outs' : List (List Given))
+pub two-cuts : (end : ℕ) (r r' : Got) (line line' : List ℕ) (ls ls' : List Lump) (outs outs' : List (List Given))
     → StartPromise end r → StartPromise end r' → length line ≡ 532 → length line' ≡ 532
     → Calls r.next line ls outs → Calls r'.next line' ls' outs' → joined_bits ls ≡ joined_bits ls' → all_handed outs ≡ all_handed outs'
 two-cuts end r r' line line' ls ls' outs outs' p p' l l' k k' e =

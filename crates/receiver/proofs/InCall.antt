@@ -12,13 +12,13 @@ use Rattle.receiver.specs.Given.{Given, GivenOf}
 use Rattle.receiver.specs.Promises.{StartPromise, receive_refusals, joined, takes, found, gives, place_on, received_of}
 use Rattle.receiver.specs.Calls.{Lump, joined_bits, handed, Calls, none as no_call, call, all_handed, ending_in, shares}
 use Rattle.receiver.specs.declared.Receiver.{Receiver}
-use Rattle.receiver.specs.declared.Received.{Received}
+use Rattle.receiver.specs.Promises.{Got}
 use Rattle.receiver.proofs.Earliest.{First, first_is}
 use Rattle.receiver.proofs.Given.{given-one}
 use Rattle.receiver.proofs.Cut.{answer-is, takes-sound, any-cut}
 
 -- no call hands out two
-pub not-two : (r : Received) (room : List ℕ) → length (handed r room) ≤ 1
+pub not-two : (r : Got) (room : List ℕ) → length (handed r room) ≤ 1
 not-two r room = pick (eqb r.given 1)
   where
     pick : (t : Bool) → length {A = Given} (cond t (record { place = r.place; frame = room } ∷ []) []) ≤ 1
@@ -144,16 +144,16 @@ calls-bring : (x : Receiver) (line : List ℕ) (ls : List Lump) (outs : List (Li
 calls-bring x line [] [] (no_call _ _) = none x.heard
 calls-bring x line _ _ (call _ _ l ls room r line' room' outs p z k) =
     let b = found x line l.octets l.count in
-    let a : answer (receive_refusals x line l.octets l.count room) ≡ 0 = sym (answer-is _ x b l.count) ∙ sym (ap (λ (t : Received). t.answer) p.returned) ∙ z in
+    let a : answer (receive_refusals x line l.octets l.count room) ≡ 0 = sym (answer-is _ x b l.count) ∙ sym (ap (λ (t : Got). t.answer) p.returned) ∙ z in
     let e : r ≡ received_of 0 x b l.count = p.returned ∙ ap (λ (n : ℕ). received_of n x b l.count) a in
     more x.heard l ls (handed r room') outs
-    (subst (λ (t : Received). Within x.heard (x.heard + l.count) (handed t room')) (sym e) (handed-within x line l.octets l.count room'))
-    (subst (λ (n : ℕ). Brings n ls outs) (ap (λ (t : Received). t.next.heard) e) (calls-bring r.next line' ls outs k))
+    (subst (λ (t : Got). Within x.heard (x.heard + l.count) (handed t room')) (sym e) (handed-within x line l.octets l.count room'))
+    (subst (λ (n : ℕ). Brings n ls outs) (ap (λ (t : Got). t.next.heard) e) (calls-bring r.next line' ls outs k))
 
 -- IN ITS CALL: of the frames given of the joined bits, each call hands out those whose last bit it brings
-pub in_its_call : (end : ℕ) (r : Received) (line : List ℕ) (ls : List Lump) (outs : List (List Given)) (gs : List Given) → StartPromise end r
+pub in_its_call : (end : ℕ) (r : Got) (line : List ℕ) (ls : List Lump) (outs : List (List Given)) (gs : List Given) → StartPromise end r
     → length line ≡ 532 → Calls r.next line ls outs → GivenOf end (joined_bits ls) gs → outs ≡ shares 0 ls gs
 in_its_call end r line ls outs gs p l k g =
     brings-shares 0 0 ls outs [] (omega arith) none
-    (subst (λ (n : ℕ). Brings n ls outs) (ap (λ (t : Received). t.next.heard) p) (calls-bring r.next line ls outs k))
+    (subst (λ (n : ℕ). Brings n ls outs) (ap (λ (t : Got). t.next.heard) p) (calls-bring r.next line ls outs k))
     ∙ ap (shares 0 ls) (given-one end (joined_bits ls) 0 (all_handed outs) gs (any-cut end r line ls outs p l k) g)

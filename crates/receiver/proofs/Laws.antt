@@ -25,12 +25,12 @@ use Rattle.octets.proofs.Words.{digits-drop, drop-take, field-digits, octets-oct
 use Rattle.octets.proofs.Whole.{drop_all, laid-octets}
 use Rattle.layout.specs.Frame.{training_sync, final_sync}
 use Rattle.layout.specs.Refusals.{check_refusals}
-use Rattle.recurrence.specs.Run.{descramble, run_of}
+use Rattle.recurrence.specs.Run.{run_of}
+use Rattle.recurrence.specs.declared.Way.TheVariants.{Descramble as descramble}
 use Rattle.recurrence.proofs.Laws.{run-bits}
 use Rattle.scrambler.specs.Ends.{tap_of}
 use Rattle.scrambler.specs.Promises.{frame_refusals, clocked, frame_out, FramePromise}
 use Rattle.scrambler.specs.declared.Scrambler.{Scrambler}
-use Rattle.scrambler.specs.declared.Ran.{Ran}
 use Rattle.receiver.specs.Stream.{state_at, heard_at, frame_at, synced, reads, lies_at}
 use Rattle.receiver.specs.Promises.{joined, first_that}
 use Rattle.receiver.specs.Search.{sync_in, sync_from}
@@ -238,7 +238,7 @@ module _ (end : ℕ) (s : List ℕ) (at : ℕ) (known : end ≤ 1) (h : 23 ≤ a
   state-is before state e f =
       f ∙ ap (λ (t : List ℕ). value_of (reverse t)) (ap (digits_of 23) e ∙ field-digits s (at - 23) 23 (omega arith))
 
-  pub descrambled-is : (heard plain exit : List ℕ) (before state : ℕ) (r : Ran) → length plain ≡ 529 → heard ≡ laid (replicate 529 0) 0 P
+  pub descrambled-is : (heard plain exit : List ℕ) (before state : ℕ) (r : Result Scrambler Refused) → length plain ≡ 529 → heard ≡ laid (replicate 529 0) 0 P
       → before ≡ value_of (part (at - 23) 23 B) → state ≡ value_of (reverse (digits_of 23 before))
       → FramePromise descramble (record { end = end; state = state }) heard plain r exit → exit ≡ frame_at end B at
   unfolding frame_at
@@ -252,7 +252,7 @@ module _ (end : ℕ) (s : List ℕ) (at : ℕ) (known : end ≤ 1) (h : 23 ≤ a
       let zero : answer R ≡ 0 =
       passed 1 (drop 1 R) (ap not (eq-eqb _ _ lh)) ∙ passed 1 (drop 2 R) (ap not (eq-eqb _ _ n)) ∙ passed 2 (drop 3 R) (le-ltb 1 end known)
       ∙ passed 4 (drop 4 R) (lt-leb (2 ^ 23) state st) ∙ passed 6 [] (ap not (eq-eqb _ _ pad)) in
-      p.left ∙ given r.answer plain (frame_out descramble (record { end = end; state = state }) heard) (p.answered ∙ zero)
+      p.left ∙ given (answer_of r) plain (frame_out descramble (record { end = end; state = state }) heard) (p.answered ∙ zero)
       ∙ ap₂ (λ (k : ℕ) (t : List ℕ). frame_out descramble (record { end = end; state = k }) t) (state-is before state f g) hd
 
 -- what is read of a frame that was descrambled

@@ -20,7 +20,8 @@ use Rattle.layout.specs.Places.{pad_field}
 use Rattle.layout.specs.Frame.{training_sync, final_sync, field_of}
 use Rattle.layout.specs.Refusals.{has_sync, check_refusals}
 use Rattle.recurrence.specs.Line.{newest}
-use Rattle.recurrence.specs.Run.{scramble, descramble, run_of}
+use Rattle.recurrence.specs.Run.{run_of}
+use Rattle.recurrence.specs.declared.Way.TheVariants.{Scramble as scramble, Descramble as descramble}
 use Rattle.recurrence.proofs.Exactly.{scrambled-state}
 use Rattle.recurrence.proofs.Laws.{run_length}
 use Rattle.scrambler.specs.Ends.{tap_of}

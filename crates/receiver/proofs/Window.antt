@@ -15,7 +15,7 @@ use Rattle.octets.specs.Bits.{value_of, octets_of, part}
 use Rattle.octets.proofs.Fields.{part-part, part-before}
 use Rattle.layout.specs.Frame.{training_sync, final_sync}
 use Rattle.layout.specs.Refusals.{check_refusals}
-use Rattle.recurrence.specs.Run.{descramble}
+use Rattle.recurrence.specs.declared.Way.TheVariants.{Descramble as descramble}
 use Rattle.scrambler.specs.Promises.{frame_out}
 use Rattle.receiver.specs.Stream.{frame_at, synced, reads, lies_at}
 

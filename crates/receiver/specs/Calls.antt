@@ -5,7 +5,7 @@ use Rattle.receiver.specs.Stream.{frame_bits}
 use Rattle.receiver.specs.Given.{Given}
 use Rattle.receiver.specs.Promises.{ReceivePromise}
 use Rattle.receiver.specs.declared.Receiver.{Receiver}
-use Rattle.receiver.specs.declared.Received.{Received}
+use Rattle.receiver.specs.Promises.{Got}
 
 -- a lump: octets, and how many of their bits
 pub record Lump : Type 0 where
@@ -22,13 +22,13 @@ joined_bits [] = []
 joined_bits (l ∷ ls) = bits_in l ++ joined_bits ls
 
 -- what a host has of a call: where `given` is 1, the place and what stands in the frame room
-abbrev pub handed : Received → List ℕ → List Given
+abbrev pub handed : Got → List ℕ → List Given
 handed r room = cond (eqb r.given 1) (record { place = r.place; frame = room } ∷ []) []
 
 -- calls over lumps, none of them refused, and what each handed out
 pub data Calls : Receiver → List ℕ → List Lump → List (List Given) → Type 0 where
   none : (x : Receiver) (line : List ℕ) → Calls x line [] []
-  call : (x : Receiver) (line : List ℕ) (l : Lump) (ls : List Lump) (room : List ℕ) (r : Received) (line' room' : List ℕ) (outs : List (List Given))
+  call : (x : Receiver) (line : List ℕ) (l : Lump) (ls : List Lump) (room : List ℕ) (r : Got) (line' room' : List ℕ) (outs : List (List Given))
       → ReceivePromise x line l.octets l.count room r line' room' → r.answer ≡ 0 → Calls r.next line' ls outs
       → Calls x line (l ∷ ls) (handed r room' ∷ outs)
 

@@ -1,13 +1,41 @@
 -- What the receiver's functions promise. A call is an equation over state, line, lump, count and frame room; theorem `any-cut` says what calls one
 -- after the other give.
-use Rattle.std.specs.Prelude.{◌≡◌, Bool, cond, ◌&&◌, List, [], ◌∷◌, ◌++◌, ℕ, zero, suc, ◌+◌, ◌-◌, ◌*◌, leb, ltb, length, drop}
+use Rattle.std.specs.Prelude.{◌≡◌, Bool, cond, ◌&&◌, List, [], ◌∷◌, ◌++◌, ℕ, zero, suc, ◌+◌, ◌-◌, ◌*◌, leb, ltb, length, drop, Option, None, Some, Result, Ok, Err}
 use Rattle.answer.specs.Answer.{Refusal, refuse, wrong_length, answer, held}
+use Rattle.answer.specs.Given.{number_of}
+use Rattle.answer.specs.declared.Refused.{Refused}
 use Rattle.octets.specs.Bits.{bits_of, octets_of, part}
 use Rattle.layout.specs.Places.{frame_length}
 use Rattle.scrambler.specs.Promises.{unknown_end}
 use Rattle.receiver.specs.Stream.{frame_bits, reach, frame_at, lies_at}
 use Rattle.receiver.specs.declared.Receiver.{Receiver}
 use Rattle.receiver.specs.declared.Received.{Received}
+
+-- what a start or a call comes to, as C has it: the answer; 1 and its place where a frame is given, else 0 and 0; and the state to go on with
+pub record Got : Type 0 where
+  pub answer : ℕ
+  pub given : ℕ
+  pub place : ℕ
+  pub next : Receiver
+
+-- the flag of a place that may be given, and the place
+abbrev pub given_of : Option ℕ → ℕ
+given_of None = 0
+given_of (Some p) = 1
+
+abbrev pub place_of_given : Option ℕ → ℕ
+place_of_given None = 0
+place_of_given (Some p) = p
+
+-- that, of what a start gives: a refused one leaves a state in which no bit was heard
+abbrev pub started : ℕ → Result Receiver Refused → Got
+started end (Ok next) = record { answer = 0; given = 0; place = 0; next = next }
+started end (Err e) = record { answer = number_of e; given = 0; place = 0; next = record { end = end; heard = 0; from = 0 } }
+
+-- and of what a call gives: a refused one leaves the state
+abbrev pub got : Receiver → Result Received Refused → Got
+got x (Ok r) = record { answer = 0; given = given_of r.place; place = place_of_given r.place; next = r.next }
+got x (Err e) = record { answer = number_of e; given = 0; place = 0; next = x }
 
 -- a call takes at most 4,096 bits
 abbrev pub most_bits : ℕ
@@ -26,7 +54,7 @@ abbrev pub kept_bits : ℕ
 kept_bits = 8 * line_length
 
 -- Receiver::start: no bit was heard, and no place is left out
-abbrev pub StartPromise : ℕ → Received → Type 0
+abbrev pub StartPromise : ℕ → Got → Type 0
 StartPromise end r =
     r ≡ record { answer = answer (unknown_end end ∷ []); given = 0; place = 0; next = record { end = end; heard = 0; from = 0 } }
 
@@ -70,7 +98,7 @@ abbrev pub after : Receiver → ℕ → ℕ → Receiver
 after x b count = record { end = x.end; heard = x.heard + count; from = cond (gives b count) (place_on x b + frame_bits) x.from }
 
 -- what is returned; with a refusal the same state and nothing else
-abbrev pub received_of : ℕ → Receiver → ℕ → ℕ → Received
+abbrev pub received_of : ℕ → Receiver → ℕ → ℕ → Got
 received_of zero x b count =
     record { answer = 0; given = cond (gives b count) 1 0; place = cond (gives b count) (place_on x b) 0; next = after x b count }
 received_of (suc n) x b count = record { answer = suc n; given = 0; place = 0; next = x }
@@ -84,7 +112,7 @@ abbrev pub room_after : ℕ → List ℕ → ℕ → ℕ → List ℕ → List �
 room_after end bits b count frame = cond (gives b count) (frame_at end bits b) frame
 
 -- Receiver::receive
-pub record ReceivePromise (x : Receiver) (line lump : List ℕ) (count : ℕ) (frame : List ℕ) (r : Received) (line' frame' : List ℕ) : Type 0 where
+pub record ReceivePromise (x : Receiver) (line lump : List ℕ) (count : ℕ) (frame : List ℕ) (r : Got) (line' frame' : List ℕ) : Type 0 where
   pub returned : r ≡ received_of (answer (receive_refusals x line lump count frame)) x (found x line lump count) count
   pub line_left : line' ≡ held (answer (receive_refusals x line lump count frame)) line (line_after line lump count)
   pub room_left : frame' ≡ held (answer (receive_refusals x line lump count frame)) frame

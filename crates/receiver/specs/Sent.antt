@@ -3,7 +3,8 @@ use Rattle.std.specs.Prelude.{◌≡◌, List, [], ◌∷◌, ◌++◌, ℕ, ◌
 use Rattle.answer.specs.Answer.{answer}
 use Rattle.octets.specs.Bits.{bits_of}
 use Rattle.layout.specs.Refusals.{check_refusals}
-use Rattle.recurrence.specs.Run.{scramble, after_of}
+use Rattle.recurrence.specs.Run.{after_of}
+use Rattle.recurrence.specs.declared.Way.TheVariants.{Scramble as scramble}
 use Rattle.scrambler.specs.Ends.{tap_of}
 use Rattle.scrambler.specs.Promises.{clocked, frame_out}
 use Rattle.scrambler.specs.declared.Scrambler.{Scrambler}

@@ -5,7 +5,7 @@ use Rattle.octets.specs.Bits.{value_of, octets_of, part}
 use Rattle.layout.specs.Places.{pad_width, frame_length, place_of, pad_field}
 use Rattle.layout.specs.Frame.{training_sync, final_sync}
 use Rattle.layout.specs.Refusals.{has_sync, check_refusals}
-use Rattle.recurrence.specs.Run.{descramble}
+use Rattle.recurrence.specs.declared.Way.TheVariants.{Descramble as descramble}
 use Rattle.scrambler.specs.Promises.{frame_out}
 
 -- a frame's bits on the line: 4,227, all but the pad

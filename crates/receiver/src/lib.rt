@@ -2,13 +2,15 @@
 // them, each in the call that brings its last bit.
 #![tactic(auto)]
 
-ghost use Rattle.std.specs.Prelude.{◌≡◌, true, cond, ◌++◌, ℕ, ◌+◌, ◌-◌, ◌*◌, ◌/◌, ◌%◌, ◌^◌, ◌≤◌, ◌<◌, min, max, ltb, length, replicate};
+ghost use Rattle.std.specs.Prelude.{◌≡◌, true, cond, ◌++◌, ℕ, ◌+◌, ◌-◌, ◌*◌, ◌/◌, ◌%◌, ◌^◌, ◌≤◌, ◌<◌, min, max, ltb, length, replicate, Ok};
 ghost use Rattle.answer.specs.Answer.{answer};
+ghost use Rattle.answer.specs.Given.{answer_of};
 ghost use Rattle.octets.specs.Bits.{bits_of};
 ghost use Rattle.receiver.specs.Stream.{frame_at, synced, reads, lies_at};
-ghost use Rattle.receiver.specs.Promises.{StartPromise, receive_refusals, joined, first_that, received_of, ReceivePromise};
+ghost use Rattle.receiver.specs.Promises.{started, got, StartPromise, receive_refusals, joined, first_that, received_of, ReceivePromise};
 ghost use Rattle.receiver.specs.Search.{sync_in, sync_from};
 
+use answer::Refused;
 use scrambler::Scrambler;
 
 // The octets of the line room, and the bits that it keeps: a frame that ends with the next bit, the 23 before it, and what fills the last octet.
@@ -42,19 +44,17 @@ const WORD: u32 = 56;
 const IN_WORD: usize = 43;
 
 // A receiver: the end whose bits are heard, the bits so far, and the place to go on from.
-#[derive(Clone, Copy)]
+#[derive(Clone, Copy, Debug, PartialEq, Eq)]
 pub struct Receiver {
     pub end: u32,
     pub heard: u32,
     pub from: u32,
 }
 
-// What a call gives: the answer; 1 and its place where a frame is given, else 0 and 0; and the receiver to go on with.
-#[derive(Drop)]
+// What a call gives: the place of the frame where one is given, and the receiver to go on with.
+#[derive(Clone, Copy, Debug, PartialEq, Eq)]
 pub struct Received {
-    pub answer: u32,
-    pub given: u32,
-    pub place: u32,
+    pub place: Option<u32>,
     pub next: Receiver,
 }
 
@@ -63,10 +63,7 @@ fn is_sync(x: u64) -> bool
     ensures { result ≡ sync_in x }
 {
     let word = (x % SYNC_WORDS) as u32;
-    if word == layout::TRAINING_SYNC {
-        return true;
-    }
-    word == layout::FINAL_SYNC
+    word == layout::TRAINING_SYNC || word == layout::FINAL_SYNC
 }
 
 // The digits at which a sync word may begin, all at once. Six of its bits are ones in both words; of each of four pairs of its bits just one is a one.
@@ -87,29 +84,13 @@ fn first_in(x: u64, n: usize) -> usize
         return n;
     }
     let mut rest = x;
-    let mut j: usize = 0;
-    while j < n {
+    for j in 0..n {
         if is_sync(rest) {
             return j;
         }
-        rest = rest >> 1;
-        j += 1;
+        rest >>= 1;
     }
     n
-}
-
-// The smaller of the two.
-fn least(n: usize, most: usize) -> usize
-    ensures { result ≡ min n most }
-{
-    if n < most { n } else { most }
-}
-
-// The greater of the two.
-fn most(n: usize, least: usize) -> usize
-    ensures { result ≡ max n least }
-{
-    if n < least { least } else { n }
 }
 
 // The first place from p on to before `stop` where a sync word stands, or `stop`.
@@ -119,7 +100,7 @@ fn next_sync(s: &[u8], p: usize, stop: usize) -> usize
 {
     let mut at = p;
     while at < stop {
-        let n = least(stop - at, IN_WORD);
+        let n = (stop - at).min(IN_WORD);
         let j = first_in(octets::bits(s, at, 0, WORD), n);
         if j < n {
             return at + j;
@@ -129,7 +110,7 @@ fn next_sync(s: &[u8], p: usize, stop: usize) -> usize
     stop
 }
 
-// The frame at a place, descrambled with the 23 bits before it as state.
+// The frame at a place, descrambled with the 23 bits before it as state. Nothing of it is refused.
 fn descrambled(end: u32, s: &[u8], at: usize, plain: &mut [u8])
     requires { (end ≤ 1) × (23 ≤ at) × (at + 4227 ≤ 8 * length s.now) × (length plain.old ≡ 529) }
     ensures { plain.new ≡ frame_at end (bits_of s.now) at }
@@ -138,7 +119,7 @@ fn descrambled(end: u32, s: &[u8], at: usize, plain: &mut [u8])
     octets::copy(&mut heard, 0, s, at, FRAME_BITS as u32);
     let before = bitfields::field(s, at - REACH, recurrence::REACH);
     let state = bitfields::turned(recurrence::REACH, before);
-    Scrambler { end, state }.descramble_frame(&heard, plain);
+    let _ = Scrambler { end, state }.descramble_frame(&heard, plain);
 }
 
 // Whether the frame at a place reads with answer 0; then it goes to the frame room.
@@ -187,12 +168,8 @@ fn begin(heard: u32, from: u32, stop: usize) -> usize
     requires { 30 ≤ stop }
     ensures { result ≡ min (max 30 (max 23 from + 4256 - heard)) stop }
 {
-    let place = most(REACH, from as usize) + KEPT;
-    let before = heard as usize;
-    if place < before + AHEAD {
-        return AHEAD;
-    }
-    least(place - before, stop)
+    let place = REACH.max(from as usize) + KEPT;
+    place.saturating_sub(heard as usize).clamp(AHEAD, stop)
 }
 
 // The place on the line of a place of the joined bits, where so many bits were heard before the lump.
@@ -205,103 +182,78 @@ fn place_on(heard: u32, at: usize) -> u32
 
 impl Receiver {
     // A receiver for the bits of an end.
-    pub fn start(end: u32) -> Received
-        ensures { StartPromise end result }
+    pub fn start(end: u32) -> Result<Receiver, Refused>
+        ensures { StartPromise end (started end result) }
     {
-        let next = Receiver {
+        if Scrambler::NTU < end {
+            return Err(Refused::Unknown);
+        }
+        Ok(Receiver {
             end,
             heard: 0,
             from: 0,
-        };
-        let mut n = answer::DONE;
-        if Scrambler::NTU < end {
-            n = answer::UNKNOWN;
-        }
-        Received {
-            answer: n,
-            given: 0,
-            place: 0,
-            next,
-        }
+        })
     }
 
-    // What a call refuses, or 0.
-    fn refusal(self, line: &[u8], lump: &[u8], bits: usize, frame: &[u8]) -> u32
-        ensures { result ≡ answer (receive_refusals self line.now lump.now bits frame.now) }
+    // Why a call is refused.
+    fn allowed(self, line: &[u8], lump: &[u8], bits: usize, frame: &[u8]) -> Result<(), Refused>
+        ensures { answer_of result ≡ answer (receive_refusals self line.now lump.now bits frame.now) }
     {
         if lump.len() < bits / 8 + (bits % 8 + 7) / 8 {
-            return answer::LENGTH;
+            return Err(Refused::Length);
         }
-        if line.len() != LINE_OCTETS {
-            return answer::LENGTH;
-        }
-        if frame.len() != layout::FRAME_OCTETS {
-            return answer::LENGTH;
+        if line.len() != LINE_OCTETS || frame.len() != layout::FRAME_OCTETS {
+            return Err(Refused::Length);
         }
         if Scrambler::NTU < self.end {
-            return answer::UNKNOWN;
+            return Err(Refused::Unknown);
         }
-        if MOST_BITS < bits {
-            return answer::RANGE;
+        if MOST_BITS < bits || MOST_HEARD < (self.heard as usize) + bits {
+            return Err(Refused::Range);
         }
-        if MOST_HEARD < (self.heard as usize) + bits {
-            return answer::RANGE;
-        }
-        answer::DONE
+        Ok(())
     }
 
     // What a call gives that is not refused: the frame at a place of the joined bits, or none where the lump ends none there.
     fn received(self, at: usize, bits: usize) -> Received
         requires { (at < 30 + bits → 4256 ≤ self.heard + at) × (bits ≤ 4096) × (self.heard + bits ≤ 4294967295) }
-        ensures { result ≡ received_of 0 self at bits }
+        ensures { got self (Ok result) ≡ received_of 0 self at bits }
     {
-        let end = self.end;
-        let before = self.heard;
-        let heard = before + (bits as u32);
+        let heard = self.heard + (bits as u32);
         if at < AHEAD + bits {
-            let place = place_on(before, at);
+            let place = place_on(self.heard, at);
             return Received {
-                answer: answer::DONE,
-                given: 1,
-                place,
+                place: Some(place),
                 next: Receiver {
-                    end,
                     heard,
                     from: place + (FRAME_BITS as u32),
+                    ..self
                 },
             };
         }
         Received {
-            answer: answer::DONE,
-            given: 0,
-            place: 0,
-            next: Receiver {
-                end,
-                heard,
-                from: self.from,
-            },
+            place: None,
+            next: Receiver { heard, ..self },
         }
     }
 
     // Takes the next bits of the line. The frame that ends in them, if one does, goes to the frame room.
-    pub fn receive(self, line: &mut [u8], lump: &[u8], bits: usize, frame: &mut [u8]) -> Received
-        ensures { ReceivePromise self line.old lump.now bits frame.old result line.new frame.new }
+    pub fn receive(
+        self,
+        line: &mut [u8],
+        lump: &[u8],
+        bits: usize,
+        frame: &mut [u8],
+    ) -> Result<Received, Refused>
+        ensures { ReceivePromise self line.old lump.now bits frame.old (got self result) line.new frame.new }
     {
-        let n = self.refusal(line, lump, bits, frame);
-        if n != answer::DONE {
-            return Received {
-                answer: n,
-                given: 0,
-                place: 0,
-                next: self,
-            };
-        }
+        self.allowed(line, lump, bits, frame)?;
         let mut room = [0u8; JOINED];
         join(&mut room, line, lump, bits);
         let stop = AHEAD + bits;
         let start = begin(self.heard, self.from, stop);
         let at = first(self.end, &room, start, stop, frame);
         octets::copy(line, 0, &room, bits, KEPT as u32);
-        self.received(at, bits)
+        Ok(self.received(at, bits))
     }
 }

@@ -19,7 +19,9 @@ use Rattle.octets.proofs.Words.{digits-cut, digits-join, part-more}
 use Rattle.octets.proofs.Xor.{xor_assoc, xor-swap, bit, back}
 use Rattle.octets.proofs.Sums.{sum, doubled, sum_comm, sum_twice, sum-mod, sum-sum-mod, sum-last, sum-none, coded, coded-sum, coded-lt}
 use Rattle.recurrence.specs.Line.{sum3, line, newest}
-use Rattle.recurrence.specs.Run.{Way, scramble, descramble, on_line, run_of, after_of}
+use Rattle.recurrence.specs.Run.{on_line, run_of, after_of}
+use Rattle.recurrence.specs.declared.Way.{Way}
+use Rattle.recurrence.specs.declared.Way.TheVariants.{Scramble as scramble, Descramble as descramble}
 use Rattle.recurrence.specs.Window.{state_of, Out, Gone}
 use Rattle.recurrence.proofs.Laws.{xor3, run_none, run_length, run-bits, run-append, after-append}
 use Rattle.recurrence.proofs.Exactly.{run-descrambles, descrambles-run, scrambles-run, descrambled-state, scrambled-state, sum3-twice}

@@ -13,7 +13,9 @@ use lib.Seq.{get_or-append-add, get_or-append_seam, take_all, take-append-le, ex
 use Rattle.octets.specs.Bits.{digits_of, value_of}
 use Rattle.octets.proofs.Digits.{Bits, digits-length, digits-at, digits_more, digits-mod-pow, value-digits}
 use Rattle.recurrence.specs.Line.{sum3, line, Scrambles, Descrambles, newest}
-use Rattle.recurrence.specs.Run.{Way, scramble, descramble, out_of, pushed, run_of, after_of}
+use Rattle.recurrence.specs.Run.{out_of, pushed, run_of, after_of}
+use Rattle.recurrence.specs.declared.Way.{Way}
+use Rattle.recurrence.specs.declared.Way.TheVariants.{Scramble as scramble, Descramble as descramble}
 use Rattle.recurrence.proofs.Laws.{sum3-lt, run_length}
 
 -- ---- the line and the state

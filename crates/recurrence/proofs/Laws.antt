@@ -14,7 +14,8 @@ use Rattle.octets.proofs.Digits.{Bits, nil-bits, cons-bits}
 use Rattle.octets.proofs.Laws.{laid_more}
 use Rattle.octets.proofs.Xor.{no-two}
 use Rattle.recurrence.specs.Line.{sum3}
-use Rattle.recurrence.specs.Run.{Way, out_of, next_of, run_of, after_of}
+use Rattle.recurrence.specs.Run.{out_of, next_of, run_of, after_of}
+use Rattle.recurrence.specs.declared.Way.{Way}
 
 -- ---- one bit
 

@@ -1,15 +1,8 @@
 -- The same, computed bit by bit (theorems `run-scrambles` and `scrambles-run`: it is the recurrence of Line.antt, and nothing else is).
-use Rattle.std.specs.Prelude.{Bool, true, false, List, [], ◌∷◌, ℕ, ◌+◌, ◌-◌, ◌*◌, ◌/◌, ◌%◌, ◌^◌}
+use Rattle.std.specs.Prelude.{List, [], ◌∷◌, ℕ, ◌+◌, ◌-◌, ◌*◌, ◌/◌, ◌%◌, ◌^◌}
 use Rattle.recurrence.specs.Line.{sum3}
-
--- the two directions
-pub data Way : Type 0 where
-  scramble descramble : Way
-
--- as the code says it: back or not
-abbrev pub way_of : Bool → Way
-way_of true = descramble
-way_of false = scramble
+use Rattle.recurrence.specs.declared.Way.{Way}
+use Rattle.recurrence.specs.declared.Way.TheVariants.{Scramble as scramble, Descramble as descramble}
 
 -- the bit that comes out for a bit b: b and the two bits of the line that lie tap and 23 back
 abbrev pub out_of : ℕ → ℕ → ℕ → ℕ

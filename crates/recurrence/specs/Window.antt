@@ -2,7 +2,8 @@
 -- 23 bits at weight 1, so that the bits of the line run on from it.
 use Rattle.std.specs.Prelude.{◌≡◌, List, reverse, ℕ, ◌+◌, ◌*◌, ◌/◌, ◌^◌, ◌<◌}
 use Rattle.octets.specs.Bits.{digits_of, value_of, laid}
-use Rattle.recurrence.specs.Run.{Way, on_line, run_of, after_of}
+use Rattle.recurrence.specs.Run.{on_line, run_of, after_of}
+use Rattle.recurrence.specs.declared.Way.{Way}
 
 -- the state that a window stands for
 abbrev pub state_of : ℕ → ℕ

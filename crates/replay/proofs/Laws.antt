@@ -1,40 +1,26 @@
 -- Laws of a log's lines and of what is followed. Assumes nothing.
-use mathlib.Core.Path.{◌≡◌, refl, sym, ap, ◌∙◌}
-use mathlib.Core.Bool.{Bool, true, false, cond, not, ◌||◌, false≢true}
+use mathlib.Core.Path.{◌≡◌, refl, sym, ap, subst, ◌∙◌}
+use mathlib.Core.Bool.{Bool, true, false, cond}
 use mathlib.Core.List.{List, [], ◌∷◌}
 use Prim.Native.Nat.{ℕ, zero, suc, ◌+◌, ◌-◌, ◌≤◌, ◌<◌}
 use native.Mathlib.Omega.{arith}
-use borrow.Author.Tests.{eqb-true, not-false, eq-eqb, ne_eqb}
+use borrow.Author.Tests.{eq-eqb, ne_eqb}
 use lib.Dec.{eqb}
 use lib.ListN.{length, take, drop, length-drop, drop_of_length-le}
 use lib.Seq.{drop-drop}
-use Rattle.startlog.specs.Lines.{line_of, up_to_end, end_of}
+use Rattle.std.specs.Prelude.{Result, Ok, Err}
+use Rattle.answer.specs.declared.Refused.{Refused as No}
+use Rattle.answer.specs.Given.{number_of}
+use Rattle.answer.proofs.Given.{refused-number}
+use Rattle.startlog.specs.Lines.{Line, line, line_of, up_to_end, end_of}
+use Rattle.replay.specs.declared.Stop.{Stop}
+use Rattle.replay.specs.declared.Stop.TheVariants.{Unwritten, Refused}
 use Rattle.story.specs.declared.Story.{Story}
-use Rattle.story.specs.declared.Event.{Event}
-use Rattle.story.specs.Events.{event_of}
-use Rattle.replay.specs.declared.Ending.{Ending}
-use Rattle.replay.specs.Replay.{repeated, followed, onto, lines_of, ending, ending_from}
-
--- ---- whether it goes on: while all is written, and nothing refused
-
-pub stopped : (w : Bool) (n : ℕ) → (not w || not (eqb n 0)) ≡ true → w ≡ true → n ≡ 0 → ⊥
-stopped true n h q z = absurd (false≢true (sym (ap not (eq-eqb n 0 z)) ∙ h))
-stopped false n h q z = absurd (false≢true q)
-
-pub went_on : (w : Bool) (n : ℕ) → (not w || not (eqb n 0)) ≡ false → (w ≡ true) × (n ≡ 0)
-went_on true n h = (refl, eqb-true n 0 (not-false (eqb n 0) h))
-went_on false n h = absurd (false≢true (sym h))
-
-pub as_written : (b : Bool) (n l : ℕ) (s : Story) → b ≡ true → ◌≡◌ {A = Ending} (record { written = b; answer = n; line = l; story = s }) (ending n l s)
-as_written true n l s q = refl
-as_written false n l s q = absurd (false≢true q)
+use Rattle.story.specs.Events.{Event}
+use Rattle.story.specs.Events.{refused_with, event_of}
+use Rattle.replay.specs.Replay.{Ending, repeated, followed, onto, lines_of, ending, ending_from, Follows, EndsSo}
 
 -- ---- a code that comes again and again
-
-pub repeat-none : (c n : ℕ) (e : Event) → n ≡ 0 → repeated c n e ≡ e
-unfolding repeated
-repeat-none c zero e z = refl
-repeat-none c (suc n) e z = absurd (omega arith)
 
 pub repeat-stop : (c n : ℕ) (e e' : Event) → e' ≡ event_of e.story c → (e'.answer ≡ 0 → ⊥) → 0 < n → e' ≡ repeated c n e
 unfolding repeated
@@ -44,12 +30,52 @@ repeat-stop c (suc n) e e' q h i = go e' (event_of e.story c) q h
     go : (x y : Event) → x ≡ y → (x.answer ≡ 0 → ⊥) → x ≡ cond (eqb y.answer 0) (repeated c n y) y
     go x y p k = p ∙ sym (ap (λ (b : Bool). cond b (repeated c n y) y) (ne_eqb y.answer 0 (λ z. k (ap (λ (v : Event). v.answer) p ∙ z))))
 
-pub repeat-more : (c n m : ℕ) (e e' : Event) → e' ≡ event_of e.story c → e'.answer ≡ 0 → n ≡ suc m → repeated c m e' ≡ repeated c n e
+-- two events after which a story goes on alike
+pub record Alike (e e' : Event) : Type 0 where
+  pub answer : e.answer ≡ e'.answer
+  pub story : e.story ≡ e'.story
+
+-- one more time
+pub repeat-more : (c n m : ℕ) (e e' : Event) → event_of e.story c ≡ e' → e'.answer ≡ 0 → n ≡ suc m
+    → Alike (repeated c m (refused_with e'.story 0)) (repeated c n e)
 unfolding repeated
-repeat-more c n m e e' q z i = ap (repeated c m) q ∙ go (event_of e.story c) (sym (ap (λ (v : Event). v.answer) q) ∙ z) ∙ ap (λ (k : ℕ). repeated c k e) (sym i)
+repeat-more c n m e e' q z i =
+    subst (Alike (repeated c m (refused_with e'.story 0))) (sym (ap (λ (k : ℕ). repeated c k e) i ∙ ap (λ (x : Event). cond (eqb x.answer 0) (repeated c m x) x) q
+    ∙ ap (λ (b : Bool). cond b (repeated c m e') e') (eq-eqb e'.answer 0 z)))
+    (alike m)
   where
-    go : (y : Event) → y.answer ≡ 0 → repeated c m y ≡ cond (eqb y.answer 0) (repeated c m y) y
-    go y k = sym (ap (λ (b : Bool). cond b (repeated c m y) y) (eq-eqb y.answer 0 k))
+    alike : (m : ℕ) → Alike (repeated c m (refused_with e'.story 0)) (repeated c m e')
+    alike zero = record { answer = sym z; story = refl }
+    alike (suc m) = record { answer = refl; story = refl }
+
+pub alike-then : {a b e : Event} → Alike a b → Alike b e → Alike a e
+alike-then p q = record { answer = p.answer ∙ q.answer; story = p.story ∙ q.story }
+
+-- none
+pub repeat-none : (c n : ℕ) (s : Story) → n ≡ 0 → Alike (repeated c n (refused_with s 0)) (refused_with s 0)
+unfolding repeated
+repeat-none c zero s z = record { answer = refl; story = refl }
+repeat-none c (suc n) s z = absurd (omega arith)
+
+-- a line that is refused, a code that is, and a line that is over
+pub line-refused : (l : List ℕ) (s : Story) (n : No) (r : Result Unit Stop) → line (number_of n) 0 0 ≡ line_of l → r ≡ Err (Refused n) → Follows r s (followed s (line_of l))
+unfolding repeated
+line-refused l s n r e q =
+    subst (λ (x : Result Unit Stop). Follows x s (followed s (line_of l))) (sym q)
+    (ap (λ (x : Line). (followed s x).answer) (sym e), ap (λ (x : Line). (followed s x).story) (sym e))
+
+pub code-refused : (c m : ℕ) (s : Story) (n : No) (r : Result Unit Stop) (f : Event) → Alike (repeated c m (refused_with s 0)) f → 0 < m
+    → refused_with s (number_of n) ≡ event_of s c → r ≡ Err (Refused n) → Follows r s f
+code-refused c m s n r f a h e q =
+    let x = repeat-stop c m (refused_with s 0) (refused_with s (number_of n)) e (λ z. let k = refused-number n in omega arith) h in
+    subst (λ (y : Result Unit Stop). Follows y s f) (sym q)
+    (sym a.answer ∙ ap (λ (v : Event). v.answer) (sym x), sym a.story ∙ ap (λ (v : Event). v.story) (sym x))
+
+pub codes-over : (c m : ℕ) (s : Story) (f : Event) → Alike (repeated c m (refused_with s 0)) f → m ≡ 0 → (f.answer ≡ 0) × (f.story ≡ s)
+codes-over c m s f a z = let n = repeat-none c m s z in (sym a.answer ∙ n.answer, sym a.story ∙ n.story)
+
+pub alike-with : {a b f : Event} → Alike a b → b ≡ f → Alike a f
+alike-with p q = subst (Alike _) q p
 
 -- ---- lines
 
@@ -107,3 +133,19 @@ module _ (n : ℕ) (s : Story) (l : List ℕ) (ls : List (List ℕ)) (e : Event)
     where
       go : (y : Event) → y.answer ≡ 0 → ending_from (suc n) y.story ls ≡ cond (eqb y.answer 0) (ending_from (suc n) y.story ls) (ending y.answer n y.story)
       go y k = sym (ap (λ (b : Bool). cond b (ending_from (suc n) y.story ls) (ending y.answer n y.story)) (eq-eqb y.answer 0 k))
+
+-- a line that stops the log, one after which it goes on, and the end
+module _ (n : ℕ) (s t : Story) (l : List ℕ) (ls : List (List ℕ)) where
+  pub ends-here : (why : Stop) (e : Ending) → Follows (Err why) t (followed s (line_of l)) → ending_from n s (l ∷ ls) ≡ e → EndsSo why n t e
+  ends-here Unwritten e f q = tt
+  ends-here (Refused k) e f q =
+      let h = ending-stop n s l ls (followed s (line_of l)) refl (λ z. let w = refused-number k in omega (arith, f.0)) ∙ q in
+      (ap (λ (x : Ending). x.answer) (sym h) ∙ f.0, ap (λ (x : Ending). x.line) (sym h), ap (λ (x : Ending). x.story) (sym h) ∙ f.1)
+
+  pub goes-on : (v : Unit) → Follows (Ok v) t (followed s (line_of l)) → ending_from (suc n) t ls ≡ ending_from n s (l ∷ ls)
+  goes-on v f = ap (λ (x : Story). ending_from (suc n) x ls) (sym f.1) ∙ ending-more n s l ls (followed s (line_of l)) refl f.0
+
+pub ends-last : (log : List ℕ) (at n : ℕ) (s : Story) (e : Ending) → length log ≤ at → ending_from n s (lines_of (drop at log)) ≡ e → (e.answer ≡ 0) × (e.story ≡ s)
+ends-last log at n s e h q =
+    let w = lines-last log at n s h ∙ q in
+    (ap (λ (x : Ending). x.answer) (sym w), ap (λ (x : Ending). x.story) (sym w))

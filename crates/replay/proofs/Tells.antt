@@ -11,10 +11,10 @@ use Rattle.ascii.specs.Text.{reading}
 use Rattle.startup.specs.Reports.{at}
 use Rattle.startup.specs.Make.{Taken}
 use Rattle.startup.proofs.Counts.{and_right}
-use Rattle.startlog.specs.declared.Line.{Line}
+use Rattle.startlog.specs.Lines.{Line}
 use Rattle.startlog.specs.Lines.{most_ticks, line, digits, counted, one_code, said, plain, line_of}
 use Rattle.story.specs.declared.Story.{Story}
-use Rattle.story.specs.declared.Event.{Event}
+use Rattle.story.specs.Events.{Event}
 use Rattle.story.specs.Events.{most, refused_with, event_of, start_of, story_of}
 use Rattle.story.specs.Whole.{Tells}
 use Rattle.story.proofs.Whole.{tells}

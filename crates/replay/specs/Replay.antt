@@ -1,11 +1,14 @@
 -- What the replayer follows: the lines of a log in order, a step for each code of a line, up to the first that is refused.
-use Rattle.std.specs.Prelude.{ℕ, zero, suc, true, cond, List, [], ◌∷◌, ◌++◌, eqb, replicate}
-use Rattle.startlog.specs.declared.Line.{Line}
+use Rattle.std.specs.Prelude.{◌≡◌, ℕ, zero, suc, cond, List, [], ◌∷◌, ◌++◌, Result, Ok, Err, eqb, replicate}
+use Rattle.answer.specs.Given.{number_of}
+use Rattle.startlog.specs.Lines.{Line}
 use Rattle.startlog.specs.Lines.{line_of}
 use Rattle.story.specs.declared.Story.{Story}
-use Rattle.story.specs.declared.Event.{Event}
+use Rattle.story.specs.Events.{Event}
 use Rattle.story.specs.Events.{refused_with, event_of}
-use Rattle.replay.specs.declared.Ending.{Ending}
+use Rattle.replay.specs.declared.Stop.{Stop}
+use Rattle.replay.specs.declared.Stop.TheVariants.{Unwritten, Refused}
+use Rattle.replay.specs.declared.Stopped.{Stopped}
 
 -- the most octets that a log may have; one more is read, which shows that it is too long
 abbrev pub most_octets : ℕ
@@ -30,9 +33,15 @@ unfoldable pub lines_of : List ℕ → List (List ℕ)
 lines_of [] = []
 lines_of (o ∷ os) = cond (eqb o 10) ([] ∷ lines_of os) (onto o (lines_of os))
 
+-- how a log ended: 0 at its end, or what refused a line of it; the line; and the story there
+pub record Ending : Type 0 where
+  pub answer : ℕ
+  pub line : ℕ
+  pub story : Story
+
 -- how a log ended, where all of its story could be written: with this answer, on this line, and the story there
 abbrev pub ending : ℕ → ℕ → Story → Ending
-ending n line s = record { written = true; answer = n; line = line; story = s }
+ending n line s = record { answer = n; line = line; story = s }
 
 -- how it ends from the line number n on: with 0 behind the last line, or on the first that is refused
 unfoldable pub ending_from : ℕ → Story → List (List ℕ) → Ending
@@ -46,3 +55,18 @@ ending_from n s (l ∷ ls) =
 unfoldable pub codes_of : List (List ℕ) → List ℕ
 codes_of [] = []
 codes_of (l ∷ ls) = replicate (line_of l).times (line_of l).code ++ codes_of ls
+
+-- what following a line to its last event e gives: the same answer, and the story s, unless it could not be written
+abbrev pub Follows : Result Unit Stop → Story → Event → Type 0
+Follows (Ok v) s e = (e.answer ≡ 0) × (e.story ≡ s)
+Follows (Err Unwritten) s e = Unit
+Follows (Err (Refused n)) s e = (e.answer ≡ number_of n) × (e.story ≡ s)
+
+-- the same of a log, with the line that is refused
+abbrev pub EndsSo : Stop → ℕ → Story → Ending → Type 0
+EndsSo Unwritten line s e = Unit
+EndsSo (Refused n) line s e = (e.answer ≡ number_of n) × (e.line ≡ line) × (e.story ≡ s)
+
+abbrev pub Ends : Result Unit Stopped → Story → Ending → Type 0
+Ends (Ok v) s e = (e.answer ≡ 0) × (e.story ≡ s)
+Ends (Err t) s e = EndsSo t.why t.line s e

@@ -4,9 +4,13 @@
 //     replay [--status] ltu|ntu [SILENCE] < LOG
 #![tactic(auto)]
 
-ghost use Rattle.std.specs.Prelude.{◌≡◌, true, ◌+◌, ◌≤◌, length, IfOk};
-ghost use Rattle.replay.specs.Replay.{most_octets, followed, lines_of, ending_from};
+ghost use Rattle.std.specs.Prelude.{◌+◌, ◌≤◌, ◌≡◌, length, IfOk};
+ghost use Rattle.startlog.specs.Lines.{line_of};
+ghost use Rattle.replay.specs.declared.Stop.TheVariants.{Unwritten, Refused};
+ghost use Rattle.replay.specs.Replay.{most_octets, followed, lines_of, ending_from, Follows, Ends};
 
+use answer::Refused;
+use ascii::Text;
 use startlog::Line;
 use std::io;
 use std::io::Read;
@@ -23,12 +27,6 @@ const ROOM: usize = 320;
 const NO_END: u32 = 2;
 
 const NO_SILENCE: u32 = 1;
-// How an argument is read.
-const AS_OPTION: u32 = 0;
-
-const AS_END: u32 = 1;
-
-const AS_SILENCE: u32 = 2;
 // The status: in data mode, not so, and what was no log at all.
 const DATA_MODE: u8 = b'0';
 
@@ -36,183 +34,167 @@ const OTHER: u8 = b'1';
 
 const WRONG: u8 = b'2';
 
+// Standard output could not be written, and that has been said.
+#[derive(Clone, Copy)]
+struct Silent;
+
+// Why a log is not told to its end.
+#[derive(Clone, Copy)]
+enum Stop {
+    // Its story could not be written.
+    Unwritten,
+    // A line of it is refused.
+    Refused(Refused),
+}
+
+// On which line, the first being 1, and why.
+#[derive(Clone, Copy)]
+struct Stopped {
+    line: u32,
+    why: Stop,
+}
+
+impl From<Silent> for Stop {
+    ghost from_gives = { λ _ s. s ≡ Unwritten };
+
+    fn from(_said: Silent) -> Stop {
+        Stop::Unwritten
+    }
+}
+
+impl From<Refused> for Stop {
+    ghost from_gives = { λ n s. s ≡ Refused n };
+
+    fn from(no: Refused) -> Stop {
+        Stop::Refused(no)
+    }
+}
+
 // Says what failed, and why.
 fn fail(rt: &HostRuntime, what: &[u8], why: io::Error) {
     outside::complain(rt, b"replay: ");
     outside::fail(rt, what, why);
 }
 
-// Writes to standard output, and answers whether it could; where not, says so.
-fn print(rt: &HostRuntime, text: &[u8]) -> bool {
+// Writes to standard output; where it could not, says so.
+fn print(rt: &HostRuntime, text: &[u8]) -> Result<(), Silent> {
     match rt.stdout().write_all(text) {
-        Ok(()) => true,
+        Ok(()) => Ok(()),
         Err(why) => {
             fail(rt, b"standard output", why);
-            false
+            Err(Silent)
         },
     }
 }
 
-// Writes the line of an event, unless there is nothing to tell, as of one that is refused.
-fn tell(rt: &HostRuntime, event: Event) -> bool {
+// Writes the line of an event, unless there is nothing to tell.
+fn tell(rt: &HostRuntime, event: Event) -> Result<(), Silent> {
     if event.kind == kind::NOTHING {
-        return true;
+        return Ok(());
     }
     let mut room = [0u8; ROOM];
-    let n = storytext::put_event(&mut room, event);
+    let mut text = Text {
+        room: &mut room,
+        at: 0,
+    };
+    storytext::put_event(&mut text, event);
+    let n = text.at;
     print(rt, &room[..n])
 }
 
-// What became of a line.
-#[derive(Drop)]
-struct Followed {
-    // Whether all of it could be written.
-    written: bool,
-    event: Event,
-}
-
-// How a log ended.
-#[derive(Clone, Copy)]
-struct Ending {
-    // Whether all of its story could be written.
-    written: bool,
-    // 0 at its end, or what refused a line of it.
-    answer: u32,
-    // The number of the line, the first being 1; behind the last one, one more.
-    line: u32,
-    // The story there.
-    story: Story,
-}
-
-// Tells the codes of a line, up to the first that is refused, and gives the last event; of a line without codes, one that tells nothing.
-fn follow(rt: &HostRuntime, story: Story, said: Line) -> Followed
-    ensures { result.written ≡ true → result.event ≡ followed story said }
+// Tells the codes of a line, up to the first that is refused. The story goes on with each.
+fn follow(rt: &HostRuntime, story: &mut Story, line: &[u8]) -> Result<(), Stop>
+    ensures { Follows result story.new (followed story.old (line_of line.now)) }
 {
-    let code = said.code;
-    let times = said.times;
-    let mut event = Event {
-        answer: said.answer,
-        kind: kind::NOTHING,
-        code: 0,
-        attempt: 0,
-        ticks: 0,
-        story,
-    };
-    let mut k = 0;
-    while k < times {
-        let so_far = event.story;
-        event = so_far.step(code);
-        let written = tell(rt, event);
-        if !written | (event.answer != answer::DONE) {
-            return Followed { written, event };
-        }
-        k += 1;
+    let said = Line::read(line)?;
+    for k in 0..said.times {
+        let event = story.step(said.code)?;
+        *story = event.story;
+        tell(rt, event)?;
     }
-    Followed {
-        written: true,
-        event,
-    }
+    Ok(())
 }
 
 // Tells a log line by line, to its end, the first line that is refused or the first that cannot be written.
-fn replay(rt: &HostRuntime, log: &[u8], begun: Story) -> Ending
+fn replay(rt: &HostRuntime, log: &[u8], story: &mut Story) -> Result<(), Stopped>
     requires { length log.now ≤ most_octets }
-    ensures { result.written ≡ true → result ≡ ending_from 1 begun (lines_of log.now) }
+    ensures { Ends result story.new (ending_from 1 story.old (lines_of log.now)) }
 {
-    let mut story = begun;
     let mut line: u32 = 1;
     let mut at = 0;
     while at < log.len() {
         let end = startlog::line_end(log, at);
-        let followed = follow(rt, story, Line::read(&log[at..end]));
-        let event = followed.event;
-        story = event.story;
-        if !followed.written | (event.answer != answer::DONE) {
-            return Ending {
-                written: followed.written,
-                answer: event.answer,
-                line,
-                story,
-            };
+        let said = &log[at..end];
+        match follow(rt, story, said) {
+            Ok(()) => {},
+            Err(why) => return Err(Stopped { line, why }),
         }
         line += 1;
         at = end + 1;
     }
-    Ending {
-        written: true,
-        answer: answer::DONE,
-        line,
-        story,
-    }
+    Ok(())
 }
 
-// The number of the line that the last of these octets stands on.
+// The number of the line that the last of these octets stands on: one more than the newlines in front of it.
 fn last_line(log: &[u8]) -> u32
     requires { length log.now ≤ most_octets + 1 }
 {
-    let mut line: u32 = 1;
-    let mut at = startlog::line_end(log, 0) + 1;
-    while at < log.len() {
-        line += 1;
-        at = startlog::line_end(log, at) + 1;
+    match log {
+        [before @ .., _] => before.iter().filter(|&&o| o == b'\n').count() as u32 + 1,
+        [] => 1,
     }
-    line
 }
 
-// The text of how a log ended.
-fn put_ending(room: &mut [u8], ending: Ending) -> usize
-    ensures { result ≤ length room.old }
-{
-    if ending.answer == answer::DONE {
-        let story = ending.story;
-        return storytext::put_end(room, story);
-    }
-    storytext::put_refused(room, ending.answer, ending.line)
-}
-
-// The status of a log that was told to its end.
-fn status(story: Story) -> u8 {
-    if storytext::in_data_mode(story) {
-        DATA_MODE
-    } else {
-        OTHER
-    }
+// Tells why a log is refused, on which line.
+fn tell_refused(rt: &HostRuntime, no: Refused, line: u32) -> u8 {
+    let mut room = [0u8; ROOM];
+    let mut text = Text {
+        room: &mut room,
+        at: 0,
+    };
+    storytext::put_refused(&mut text, no.number(), line);
+    let n = text.at;
+    let _ = print(rt, &room[..n]);
+    WRONG
 }
 
 // Tells how a log ended, and answers the status.
-fn tell_ending(rt: &HostRuntime, ending: Ending) -> u8 {
-    if !ending.written {
-        return WRONG;
-    }
+fn tell_end(rt: &HostRuntime, story: Story) -> u8 {
     let mut room = [0u8; ROOM];
-    let n = put_ending(&mut room, ending);
-    if !print(rt, &room[..n]) | (ending.answer != answer::DONE) {
-        return WRONG;
+    let mut text = Text {
+        room: &mut room,
+        at: 0,
+    };
+    storytext::put_end(&mut text, story);
+    let n = text.at;
+    match print(rt, &room[..n]) {
+        Ok(()) if storytext::in_data_mode(story) => DATA_MODE,
+        Ok(()) => OTHER,
+        Err(Silent) => WRONG,
     }
-    let story = ending.story;
-    status(story)
 }
 
 // Tells what was read. One octet more than a log may have shows that it is too long.
 fn tell_all(rt: &HostRuntime, log: &[u8], begun: Event) -> u8
     requires { length log.now ≤ most_octets + 1 }
 {
-    let story = begun.story;
     if MOST < log.len() {
-        return tell_ending(
-            rt,
-            Ending {
-                written: true,
-                answer: answer::LENGTH,
-                line: last_line(log),
-                story,
-            },
-        );
+        return tell_refused(rt, Refused::Length, last_line(log));
     }
-    if !tell(rt, begun) {
+    if tell(rt, begun).is_err() {
         return WRONG;
     }
-    tell_ending(rt, replay(rt, log, story))
+    let mut story = begun.story;
+    match replay(rt, log, &mut story) {
+        Ok(()) => tell_end(rt, story),
+        Err(
+            Stopped {
+                line,
+                why: Stop::Refused(no),
+            },
+        ) => tell_refused(rt, no, line),
+        Err(_) => WRONG,
+    }
 }
 
 // Reads up to 1,048,577 octets of standard input, and answers how many came.
@@ -242,16 +224,26 @@ fn tell_input(rt: &HostRuntime, begun: Event) -> u8 {
     }
 }
 
+// What is to be done.
+#[derive(Clone, Copy)]
+enum Task {
+    // To tell a log.
+    Tell,
+    // To print how the replayer is called, or its version.
+    Help,
+    Version,
+    // The argument at this place is wrong.
+    Refuse(usize),
+}
+
 // What the arguments ask for.
 #[derive(Clone, Copy)]
 struct Asked {
-    // options::WORD to tell a log, HELP or VERSION, or UNKNOWN for an argument that is wrong: the first of them counts.
-    what: u32,
-    // The place of the wrong argument.
-    at: usize,
-    // The places of the end's name and of the silence; 0 where there is none.
-    end: usize,
-    silence: usize,
+    // The first of them that asks for something else than to tell a log counts.
+    task: Task,
+    // The places of the end's name and of the silence.
+    end: Option<usize>,
+    silence: Option<usize>,
     // Whether the status is asked for.
     status: bool,
     // Whether -- has come.
@@ -260,43 +252,45 @@ struct Asked {
 
 impl Asked {
     // The same, asking for this.
-    fn asks(mut self, what: u32, at: usize) -> Asked {
-        if self.what == options::WORD {
-            self.what = what;
-            self.at = at;
+    fn asks(self, task: Task) -> Asked {
+        match self.task {
+            Task::Tell => Asked { task, ..self },
+            _ => self,
         }
-        self
     }
 
     // One word more: the end's name, then the silence.
-    fn word(mut self, at: usize) -> Asked {
-        if self.end == 0 {
-            self.end = at;
-            return self;
+    fn word(self, at: usize) -> Asked {
+        match (self.end, self.silence) {
+            (None, _) => Asked {
+                end: Some(at),
+                ..self
+            },
+            (_, None) => Asked {
+                silence: Some(at),
+                ..self
+            },
+            _ => self.asks(Task::Refuse(at)),
         }
-        if self.silence == 0 {
-            self.silence = at;
-            return self;
-        }
-        self.asks(options::UNKNOWN, at)
     }
 
     // One argument more, which is this option.
-    fn with(mut self, option: u32, at: usize) -> Asked {
-        if self.ended | (option == options::WORD) {
+    fn with(self, option: u32, at: usize) -> Asked {
+        if self.ended || option == options::WORD {
             return self.word(at);
         }
         match option {
-            options::STATUS => {
-                self.status = true;
-                self
+            options::STATUS => Asked {
+                status: true,
+                ..self
             },
-            options::END => {
-                self.ended = true;
-                self
+            options::END => Asked {
+                ended: true,
+                ..self
             },
-            options::HELP | options::VERSION => self.asks(option, at),
-            _ => self.asks(options::UNKNOWN, at),
+            options::HELP => self.asks(Task::Help),
+            options::VERSION => self.asks(Task::Version),
+            _ => self.asks(Task::Refuse(at)),
         }
     }
 }
@@ -309,48 +303,32 @@ fn end_named(word: &[u8]) -> u32 {
 
 // The silence that a text gives.
 fn silence_of(word: &[u8]) -> u32 {
-    let said = Line::counted(word);
-    if said.answer == answer::DONE {
-        said.times
-    } else {
-        NO_SILENCE
+    match Line::counted(word) {
+        Ok(said) => said.times,
+        Err(_) => NO_SILENCE,
     }
 }
 
-// What a text says as an option, as an end or as a silence.
-fn said(word: &[u8], how: u32) -> u32 {
-    match how {
-        AS_OPTION => options::read(word),
-        AS_END => end_named(word),
-        _ => silence_of(word),
-    }
-}
-
-// What argument i says so; 0 is none. One that is too long to be an option is a word.
-fn said_at(rt: &HostRuntime, i: usize, how: u32, none: u32) -> u32 {
-    if i == 0 {
-        return none;
-    }
+// What argument i says, read so. One that is too long to be an option is a word.
+fn said_at<F: Fn(&[u8]) -> u32>(rt: &HostRuntime, i: usize, read: F) -> u32
+    requires { F.IsAlwaysCallable read }
+{
     let mut word = outside::buffer();
     let n = outside::word(rt, i, &mut word);
-    said(&word[..n], how)
+    read(&word[..n])
 }
 
 // What all arguments ask for.
 fn arguments(rt: &HostRuntime) -> Asked {
-    let count = outside::arg_count(rt);
     let mut asked = Asked {
-        what: options::WORD,
-        at: 0,
-        end: 0,
-        silence: 0,
+        task: Task::Tell,
+        end: None,
+        silence: None,
         status: false,
         ended: false,
     };
-    let mut i = 1;
-    while i < count {
-        asked = asked.with(said_at(rt, i, AS_OPTION, options::WORD), i);
-        i += 1;
+    for i in 1..outside::arg_count(rt) {
+        asked = asked.with(said_at(rt, i, options::read), i);
     }
     asked
 }
@@ -371,27 +349,28 @@ fn refuse(rt: &HostRuntime, i: usize) -> u8 {
 }
 
 // Says why no card starts so.
-fn refuse_start(rt: &HostRuntime, answer: u32) -> u8 {
-    if answer == answer::UNKNOWN {
-        outside::complain(rt, b"replay: the end is ltu or ntu");
-    } else {
-        outside::complain(rt, b"replay: the silence is 2000 to 60000 ticks");
+fn refuse_start(rt: &HostRuntime, why: Refused) -> u8 {
+    match why {
+        Refused::Unknown => outside::complain(rt, b"replay: the end is ltu or ntu"),
+        _ => outside::complain(rt, b"replay: the silence is 2000 to 60000 ticks"),
     }
     usage(rt)
 }
 
 // Tells the log of a card with this end and silence.
 fn tell_card(rt: &HostRuntime, end: u32, silence: u32) -> u8 {
-    let begun = Story::start(end, silence);
-    if begun.answer != answer::DONE {
-        return refuse_start(rt, begun.answer);
+    match Story::start(end, silence) {
+        Ok(begun) => tell_input(rt, begun),
+        Err(why) => refuse_start(rt, why),
     }
-    tell_input(rt, begun)
 }
 
 // The status of what had to be written and nothing else.
-fn done(written: bool) -> u8 {
-    if written { DATA_MODE } else { WRONG }
+fn done(written: Result<(), Silent>) -> u8 {
+    match written {
+        Ok(()) => DATA_MODE,
+        Err(Silent) => WRONG,
+    }
 }
 
 // How the replayer is called.
@@ -409,28 +388,29 @@ fn help(rt: &HostRuntime) -> u8 {
 }
 
 // The version.
-fn version(rt: &HostRuntime) -> u8 {
-    if !print(rt, b"sdsl-replay ") {
-        return WRONG;
-    }
-    if !print(rt, &options::RELEASE) {
-        return WRONG;
-    }
-    done(print(rt, b"\n"))
+fn print_version(rt: &HostRuntime) -> Result<(), Silent> {
+    print(rt, b"sdsl-replay ")?;
+    print(rt, &options::RELEASE)?;
+    print(rt, b"\n")
 }
 
 // Does what is asked, and answers the status.
 fn run(rt: &HostRuntime, asked: Asked) -> u8 {
-    let what = asked.what;
-    match what {
-        options::HELP => help(rt),
-        options::VERSION => version(rt),
-        options::UNKNOWN => refuse(rt, asked.at),
-        _ => tell_card(
-            rt,
-            said_at(rt, asked.end, AS_END, NO_END),
-            said_at(rt, asked.silence, AS_SILENCE, 0),
-        ),
+    match asked.task {
+        Task::Help => help(rt),
+        Task::Version => done(print_version(rt)),
+        Task::Refuse(at) => refuse(rt, at),
+        Task::Tell => {
+            let end = match asked.end {
+                Some(i) => said_at(rt, i, end_named),
+                None => NO_END,
+            };
+            let silence = match asked.silence {
+                Some(i) => said_at(rt, i, silence_of),
+                None => 0,
+            };
+            tell_card(rt, end, silence)
+        },
     }
 }
 

@@ -1,6 +1,5 @@
 pub mod Linear
 pub mod Rounding
-pub mod Moved
 pub mod Exact
 pub mod One
 pub mod Order

@@ -1,12 +1,13 @@
 -- The integers for omega: `P z` and `N z` are the parts of z above and below zero, z = P z - N z, and each law turns a fact of ℤ into a linear one of ℕ.
-use Prim.Native.Nat.{ℕ, zero, suc, ◌+◌, ◌-◌, ◌*◌, ◌/◌, ◌%◌, ◌≤◌, ◌<◌}
+use Prim.Native.Nat.{ℕ, zero, suc, ◌+◌, ◌-◌, ◌*◌, ◌/◌, ◌≤◌, ◌<◌}
 use native.Mathlib.Omega.{arith}
 use native.Mathlib.Nat as NatL
 use mathlib.Core.Path.{◌≡◌, refl, sym, ap, ◌∙◌, subst}
 use mathlib.Core.Bool.{Bool, true, false, not, cond}
 use lib.Dec.{T, ltb, ltb→lt, nltb→le, leb→le, le→leb, lt→ltb}
 use lib.IntN.{ℤ, pos, negsuc, neg_ℤ, nat_abs, sub_ℕ, ◌+ℤ◌, ◌-ℤ◌, ◌*ℤ◌}
-use lib.Signed.{mag, quot_z, rem_z, shr_z, le_z, lt_z, lt_z_yes, lt_z_no, le_z_yes, ◌≤ℤ◌, ◌<ℤ◌}
+use Rattle.std.specs.Int.{int_div_euclid, int_rem_euclid}
+use lib.Signed.{mag, shr_z, le_z, lt_z, lt_z_yes, lt_z_no, le_z_yes, ◌≤ℤ◌, ◌<ℤ◌}
 use borrow.Author.Tests.{leb-false}
 
 unfoldable pub P : ℤ → ℕ
@@ -149,24 +150,16 @@ unfolding P N
 mag_of (pos n) b h k = omega arith
 mag_of (negsuc n) b h k = omega arith
 
--- ---- division as the code has it, cut toward zero, and its remainder, with the dividend's sign
-pub division : (n : ℕ) → 0 < n → (z : ℤ) → (P (quot_z z (pos n)) * n + P (rem_z z (pos n)) + N z ≡ P z + N (quot_z z (pos n)) * n + N (rem_z z (pos n)))
-    × (P (rem_z z (pos n)) < n) × (N (rem_z z (pos n)) < n)
+-- ---- division as the code has it: the quotient rounded down, and what is left over, from 0 to below the divisor
+pub division : (n : ℕ) → 0 < n → (z : ℤ)
+    → (P (int_div_euclid z (pos n)) * n + P (int_rem_euclid z (pos n)) + N z ≡ P z + N (int_div_euclid z (pos n)) * n)
+    × (N (int_rem_euclid z (pos n)) ≡ 0) × (P (int_rem_euclid z (pos n)) < n)
 unfolding P N
-division n h (pos a) = (omega (arith, NatL.div-add-mod' a n, NatL.zero-mul n), NatL.mod-lt a h, h)
+division n h (pos a) = (omega (arith, NatL.div-add-mod' a n, NatL.zero-mul n), refl, NatL.mod-lt a h)
 division n h (negsuc a) = (
-  omega (
-    arith,
-    NatL.div-add-mod' (suc a) n,
-    ap (λ (x : ℕ). x * n) (neg-pos-P (suc a / n)),
-    ap (λ (x : ℕ). x * n) (neg-pos-N (suc a / n)),
-    neg-pos-P
-        (suc a % n),
-    neg-pos-N (suc a % n),
-    NatL.zero-mul n,
-  ),
-  omega (arith, neg-pos-P (suc a % n)),
-  omega (arith, neg-pos-N (suc a % n), NatL.mod-lt (suc a) h),
+  omega (arith, NatL.div-add-mod' a n, NatL.mod-lt a h, NatL.zero-mul n, NatL.suc-mul (a / n) n),
+  refl,
+  omega (arith, NatL.mod-lt a h),
 )
 
 -- ---- rounding down

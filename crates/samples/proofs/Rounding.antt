@@ -2,16 +2,17 @@
 use mathlib.Core.Path.{◌≡◌, sym, subst}
 use mathlib.Core.Bool.{true, false}
 use Prim.Native.Nat.{◌+◌, ◌*◌, ◌/◌, ◌≤◌, ◌<◌}
-use native.Mathlib.Nat.{le_of_suc-le-suc, lt_of_le_of_lt}
+use native.Mathlib.Nat.{le_of_suc-le-suc}
 use native.Mathlib.Omega.{arith}
 use lib.Dec.{lit<}
 use lib.IntN.{ℤ, pos, negsuc, neg_ℤ, nat_abs, ◌+ℤ◌, ◌-ℤ◌, ◌*ℤ◌}
-use lib.Signed.{quot_z, rem_z, shr_z, le_z, lt_z, ◌≤ℤ◌, ◌<ℤ◌}
+use Rattle.std.specs.Int.{int_div_euclid, int_rem_euclid}
+use lib.Signed.{shr_z, le_z, lt_z}
 use mir.Syntax.{w32, w64}
 use mir.Val.{SFits}
 use Rattle.samples.specs.Samples.{one, is_signal, Rounds, Folds}
 use Rattle.samples.proofs.Linear.{P, N, P_pos, N-pos, P-negsuc, N-negsuc, le-to, lt-to, le_of, lt_of, eq_of, add-bal, sub_is, neg-P, neg-N}
-use Rattle.samples.proofs.Linear.{mul-P, mul-N, abs_is, abs-of, P-mag, N-mag, mag_of, division, floor, lt-true, lt-false, le-true, le-false}
+use Rattle.samples.proofs.Linear.{mul-P, mul-N, abs_is, P-mag, N-mag, mag_of, division, floor, le-true, lt-true, lt-false}
 use Rattle.ranges.proofs.Laws.{range-mag, mag-range}
 
 -- rounding and folding, computed. The rounded number is the floor of s/131,072 + 1/2; the library's `shr_z z n` is the floor of z/n
@@ -31,141 +32,35 @@ signal-of z p q = mag-range 131071 z (le_of_suc-le-suc (mag_of z 131072 (omega a
 
 -- ---- rounding
 
--- from a floor and what is left over it, below 131,072: halves go upward
-module _ (f r : ℤ) (lo : pos 0 ≤ℤ r) (hi : r <ℤ pos 131072) where
-  abbrev whole : ℤ
-  whole = pos 131072 *ℤ f +ℤ r
-
-  facts : (P whole + (131072 * N f + N r) ≡ (131072 * P f + P r) + N whole) × (N r ≤ P r) × (P r < 131072 + N r)
-  facts = (
-    omega (arith, add-bal (pos 131072 *ℤ f) r, mul-P 131072 f, mul-N 131072 f),
-    omega (arith, le-to lo, P_pos 0, N-pos 0),
-    omega (arith, lt-to hi, P_pos 131072, N-pos 131072),
-  )
-
-  pub half-kept : le_z (pos 65536) r ≡ false → Rounds whole f
-  half-kept e =
-      let h = le-false (pos 65536) r e in
-      record {
-        low = le_of _ _ (omega (arith, facts, h, P_pos 65536, N-pos 65536, sub_is (pos 131072 *ℤ f) (pos 65536), mul-P 131072 f, mul-N 131072 f));
-        high = lt_of _ _ (omega (arith, facts, h, P_pos 65536, N-pos 65536, add-bal (pos 131072 *ℤ f) (pos 65536), mul-P 131072 f, mul-N 131072 f));
-      }
-
-  pub half_up : le_z (pos 65536) r ≡ true → Rounds whole (f +ℤ pos 1)
-  half_up e =
-      let h = le-true (pos 65536) r e in
-      let v = f +ℤ pos 1 in
-      record {
-        low = le_of _ _
-            (omega (
-              arith,
-              facts,
-              h,
-              P_pos 65536,
-              N-pos 65536,
-              add-bal f (pos 1),
-              P_pos 1,
-              N-pos 1,
-              sub_is (pos 131072 *ℤ v) (pos 65536),
-              mul-P 131072
-                  v,
-              mul-N 131072 v,
-            ));
-        high = lt_of _ _
-            (omega (
-              arith,
-              facts,
-              h,
-              P_pos 65536,
-              N-pos 65536,
-              add-bal f (pos 1),
-              P_pos 1,
-              N-pos 1,
-              add-bal (pos 131072 *ℤ v) (pos 65536),
-              mul-P 131072
-                  v,
-              mul-N 131072 v,
-            ));
-      }
-
--- division cut toward zero, and the floor
-module _ (s : ℤ) where
-  abbrev pub cut : ℤ
-  cut = quot_z s (pos 131072)
-
-  abbrev rest : ℤ
-  rest = rem_z s (pos 131072)
-
-  pieces : (P cut * 131072 + P rest + N s ≡ P s + N cut * 131072 + N rest) × (P rest < 131072) × (N rest < 131072)
-  pieces = let d = division 131072 (lit< tt) s in (d.0, d.1, d.2)
-
-  -- with nothing below zero left over, the quotient is the floor
-  pub floor-kept : pos 131072 *ℤ cut +ℤ rest ≡ s
-  floor-kept = eq_of _ _ (omega (arith, pieces, add-bal (pos 131072 *ℤ cut) rest, mul-P 131072 cut, mul-N 131072 cut))
-
-  pub rest-kept : lt_z rest (pos 0) ≡ false → (pos 0 ≤ℤ rest) × (rest <ℤ pos 131072)
-  rest-kept e =
-      let h = lt-false rest (pos 0) e in
-      (le_of _ _ (omega (arith, h)), lt_of _ _ (omega (arith, pieces, P_pos 131072, N-pos 131072)))
-
-  -- with something below zero left over, the floor is one less
-  pub floor-corrected : pos 131072 *ℤ (cut -ℤ pos 1) +ℤ (rest +ℤ pos 131072) ≡ s
-  floor-corrected =
-      let f = cut -ℤ pos 1 in
-      let r = rest +ℤ pos 131072 in
-      eq_of _ _ (omega (
-        arith,
-        pieces,
-        add-bal (pos 131072 *ℤ f) r,
-        mul-P 131072 f,
-        mul-N 131072 f,
-        sub_is cut (pos 1),
-        P_pos 1,
-        N-pos 1,
-        add-bal rest
-            (pos 131072),
-        P_pos 131072,
-        N-pos 131072,
-      ))
-
-  pub rest-corrected : lt_z rest (pos 0) ≡ true → (pos 0 ≤ℤ (rest +ℤ pos 131072)) × ((rest +ℤ pos 131072) <ℤ pos 131072)
-  rest-corrected e =
-      let h = lt-true rest (pos 0) e in (
-        le_of _ _ (omega (arith, pieces, add-bal rest (pos 131072), P_pos 131072, N-pos 131072, P_pos 0, N-pos 0)),
-        lt_of _ _ (omega (arith, h, add-bal rest (pos 131072), P_pos 131072, N-pos 131072, P_pos 0, N-pos 0)),
-      )
-
-  pub rest-fits : SFits w64 rest
-  rest-fits = record { sfits = mag_of rest 9223372036854775808 (omega (arith, pieces)) (omega (arith, pieces)) }
-
-  pub rest-more-fits : SFits w64 (rest +ℤ pos 131072)
-  rest-more-fits =
-      record {
-        sfits = mag_of (rest +ℤ pos 131072) 9223372036854775808 (omega (arith, pieces, add-bal rest (pos 131072), P_pos 131072, N-pos 131072))
-            (omega (arith, pieces, add-bal rest (pos 131072), P_pos 131072, N-pos 131072));
-      }
-
-  module _ (f : SFits w64 s) where
-    pub cut-abs : nat_abs cut < 4611686018427387904
-    cut-abs =
-        lt_of_le_of_lt (abs-of cut 70368744177665 (omega (arith, pieces, f.sfits, P-mag s, N-mag s))
-        (omega (arith, pieces, f.sfits, P-mag s, N-mag s))) (lit< tt)
-
-    pub less-abs : nat_abs (cut -ℤ pos 1) < 4611686018427387904
-    less-abs =
-        lt_of_le_of_lt (abs-of (cut -ℤ pos 1) 70368744177666 (omega (arith, pieces, f.sfits, P-mag s, N-mag s, sub_is cut (pos 1), P_pos 1, N-pos 1))
-        (omega (arith, pieces, f.sfits, P-mag s, N-mag s, sub_is cut (pos 1), P_pos 1, N-pos 1))) (lit< tt)
-
--- a number below 2^63 in size fits, and so does the one after a number below 2^62
+-- a number below 2^63 in size fits
 pub abs-fits : (z : ℤ) → nat_abs z < 9223372036854775808 → SFits w64 z
 abs-fits z h = record { sfits = mag_of z 9223372036854775808 (omega (arith, abs_is z)) (omega (arith, abs_is z)) }
 
-pub next_fits : (z : ℤ) → nat_abs z < 4611686018427387904 → SFits w64 (z +ℤ pos 1)
-next_fits z h =
-    record {
-      sfits = mag_of (z +ℤ pos 1) 9223372036854775808 (omega (arith, abs_is z, add-bal z (pos 1), P_pos 1, N-pos 1))
-          (omega (arith, abs_is z, add-bal z (pos 1), P_pos 1, N-pos 1));
-    }
+-- with half a step or more left over, the number after the floor is nearest
+module _ (s : ℤ) where
+  abbrev floor_of : ℤ
+  floor_of = int_div_euclid s (pos 131072)
+
+  abbrev rest : ℤ
+  rest = int_rem_euclid s (pos 131072)
+
+  pub rounds-up : le_z (pos 65536) rest ≡ true → Rounds s (floor_of +ℤ pos 1)
+  rounds-up e =
+      let d = division 131072 (lit< tt) s in
+      let h = le-true (pos 65536) rest e in
+      let v = floor_of +ℤ pos 1 in
+      record {
+        low = le_of _ _ (omega (arith, d, h, add-bal floor_of (pos 1), P_pos 1, N-pos 1, P_pos 65536, N-pos 65536, sub_is (pos 131072 *ℤ v) (pos 65536), mul-P 131072 v, mul-N 131072 v));
+        high = lt_of _ _ (omega (arith, d, h, add-bal floor_of (pos 1), P_pos 1, N-pos 1, P_pos 65536, N-pos 65536, add-bal (pos 131072 *ℤ v) (pos 65536), mul-P 131072 v, mul-N 131072 v));
+      }
+
+  pub next-fits : SFits w64 s → SFits w64 (floor_of +ℤ pos 1)
+  next-fits f =
+      let d = division 131072 (lit< tt) s in
+      record {
+        sfits = mag_of (floor_of +ℤ pos 1) 9223372036854775808
+            (omega (arith, d, add-bal floor_of (pos 1), P_pos 1, N-pos 1, f.sfits, P-mag s, N-mag s)) (omega (arith, d, add-bal floor_of (pos 1), P_pos 1, N-pos 1, f.sfits, P-mag s, N-mag s));
+      }
 
 -- one number lies within half a step
 pub rounds-unique : (s v w : ℤ) → Rounds s v → Rounds s w → v ≡ w
@@ -193,13 +88,13 @@ rounds-unique s v w f g =
 
 module _ (u : ℤ) where
   abbrev turns : ℤ
-  turns = quot_z u (pos 262144)
+  turns = int_div_euclid u (pos 262144)
 
   abbrev left : ℤ
-  left = rem_z u (pos 262144)
+  left = int_rem_euclid u (pos 262144)
 
-  parts : (P turns * 262144 + P left + N u ≡ P u + N turns * 262144 + N left) × (P left < 262144) × (N left < 262144)
-  parts = let d = division 262144 (lit< tt) u in (d.0, d.1, d.2)
+  parts : (P turns * 262144 + P left + N u ≡ P u + N turns * 262144) × (N left ≡ 0) × (P left < 262144)
+  parts = division 262144 (lit< tt) u
 
   -- what stands in range is one of the numbers that differ from u by a multiple
   moved : (y d : ℤ) → P y + (N u + 262144 * N d) ≡ (P u + 262144 * P d) + N y → P y ≤ N y + 131071 → N y ≤ P y + 131072 → Folds u y
@@ -210,20 +105,11 @@ module _ (u : ℤ) where
         signal = signal-of y p q;
       }
 
-  pub fold-kept : lt_z left (negsuc 131071) ≡ false → lt_z (pos 131071) left ≡ false → Folds u left
-  fold-kept lo hi =
-      let l = lt-false left (negsuc 131071) lo in
+  pub fold-kept : lt_z (pos 131071) left ≡ false → Folds u left
+  fold-kept hi =
       let h = lt-false (pos 131071) left hi in
       moved left (neg_ℤ turns) (omega (arith, parts, neg-P turns, neg-N turns))
-      (omega (arith, h, P_pos 131071, N-pos 131071)) (omega (arith, l, P-negsuc 131071, N-negsuc 131071))
-
-  pub fold_up : lt_z left (negsuc 131071) ≡ true → Folds u (left +ℤ pos 262144)
-  fold_up lo =
-      let l = lt-true left (negsuc 131071) lo in
-      moved (left +ℤ pos 262144) (pos 1 -ℤ turns)
-      (omega (arith, parts, sub_is (pos 1) turns, P_pos 1, N-pos 1, add-bal left (pos 262144), P_pos 262144, N-pos 262144))
-      (omega (arith, l, parts, P-negsuc 131071, N-negsuc 131071, add-bal left (pos 262144), P_pos 262144, N-pos 262144))
-      (omega (arith, l, parts, P-negsuc 131071, N-negsuc 131071, add-bal left (pos 262144), P_pos 262144, N-pos 262144))
+      (omega (arith, h, P_pos 131071, N-pos 131071)) (omega (arith, parts))
 
   pub fold-down : lt_z (pos 131071) left ≡ true → Folds u (left -ℤ pos 262144)
   fold-down hi =
@@ -235,17 +121,6 @@ module _ (u : ℤ) where
 
   pub left-fits : SFits w64 left
   left-fits = record { sfits = mag_of left 9223372036854775808 (omega (arith, parts)) (omega (arith, parts)) }
-
-  pub turns-fits : SFits w64 u → SFits w64 turns
-  turns-fits f =
-      record { sfits = mag_of turns 9223372036854775808 (omega (arith, parts, f.sfits, P-mag u, N-mag u)) (omega (arith, parts, f.sfits, P-mag u, N-mag u)) }
-
-  pub up_fits : SFits w64 (left +ℤ pos 262144)
-  up_fits =
-      record {
-        sfits = mag_of (left +ℤ pos 262144) 9223372036854775808 (omega (arith, parts, add-bal left (pos 262144), P_pos 262144, N-pos 262144))
-            (omega (arith, parts, add-bal left (pos 262144), P_pos 262144, N-pos 262144));
-      }
 
   pub down_fits : SFits w64 (left -ℤ pos 262144)
   down_fits =

@@ -12,7 +12,8 @@ use Rattle.octets.proofs.Fields.{part-is}
 use Rattle.layout.specs.Places.{pad_field}
 use Rattle.layout.specs.Frame.{field_of}
 use Rattle.scrambler.specs.Ends.{tap_of}
-use Rattle.recurrence.specs.Run.{scramble, descramble, run_of, after_of}
+use Rattle.recurrence.specs.Run.{run_of, after_of}
+use Rattle.recurrence.specs.declared.Way.TheVariants.{Scramble as scramble, Descramble as descramble}
 use Rattle.scrambler.specs.Promises.{clocked, frame_out}
 use Rattle.scrambler.specs.declared.Scrambler.{Scrambler}
 use Rattle.recurrence.proofs.Laws.{run_length, run-bits}

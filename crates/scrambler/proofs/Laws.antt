@@ -8,22 +8,21 @@ use borrow.Author.Tests.{lt-ltb, le-ltb, ltb-false, leb-false, eqb-true, not-fal
 use lib.Dec.{ltb, leb, eqb}
 use lib.ListN.{length, drop, replicate, length-append, length-drop}
 use lib.Seq.{length-take-le}
-use Rattle.answer.specs.Answer.{answer, held}
-use Rattle.answer.proofs.Laws.{none, kept, given, refused, passed}
+use Rattle.std.specs.Prelude.{Result, Ok, Err}
+use Rattle.answer.specs.Answer.{answer}
+use Rattle.answer.specs.declared.Refused.{Refused}
+use Rattle.answer.proofs.Laws.{none}
 use Rattle.octets.specs.Bits.{bits_of, octets_of, part, laid}
 use Rattle.octets.proofs.Digits.{append_bits, take-bits}
 use Rattle.octets.proofs.Laws.{bits-length, bits-bits, laid_next, laid_end}
-use Rattle.recurrence.specs.Run.{Way, out_of, next_of, run_of, after_of}
+use Rattle.recurrence.specs.Run.{run_of, after_of}
+use Rattle.recurrence.specs.declared.Way.{Way}
 use Rattle.recurrence.specs.Promises as OnLine
-use Rattle.recurrence.specs.declared.Stepped.{Stepped}
-use Rattle.recurrence.specs.declared.Ran as Line
 use Rattle.recurrence.proofs.Answers.{run-complete, run-given}
 use Rattle.recurrence.proofs.Laws.{run_length, run-bits}
 use Rattle.scrambler.specs.Ends.{tap_of}
-use Rattle.scrambler.specs.Promises.{step_refusals, StepPromise, run_refusals, RunPromise, frame_refusals, clocked, frame_out, ClockedPromise, FramePromise}
+use Rattle.scrambler.specs.Promises.{step_refusals, run_refusals, frame_refusals, clocked, frame_out, ClockedPromise, FramePromise}
 use Rattle.scrambler.specs.declared.Scrambler.{Scrambler}
-use Rattle.scrambler.specs.declared.Step.{Step}
-use Rattle.scrambler.specs.declared.Ran.{Ran}
 
 pub tap-range : (end : ℕ) → (1 ≤ tap_of end) × (tap_of end ≤ 23)
 tap-range end = pick (eqb end 0)
@@ -43,32 +42,13 @@ room-enough l bits h = le-ltb (8 * l) bits (omega arith)
 
 -- ---- a step
 
-module _ (way : Way) (x : Scrambler) (bit : ℕ) where
-  -- what a step gives with the answer k
-  abbrev step_out : ℕ → Step
-  step_out k =
-      record {
-        answer = k;
-        bit = held k 0 (out_of (tap_of x.end) x.state bit);
-        next = record { end = x.end; state = held k x.state (next_of way (tap_of x.end) x.state bit) };
-      }
-
-  -- the taps of the ends are on the line
-  on-the-line : answer (OnLine.step_refusals (tap_of x.end) x.state bit) ≡ answer (drop 1 (step_refusals x bit))
-  on-the-line = pick (eqb x.end 0)
-    where
-      pick : (t : Bool) → answer (OnLine.step_refusals (cond t 5 18) x.state bit) ≡ answer (drop 1 (step_refusals x bit))
-      pick true = refl
-      pick false = refl
-
-  pub step-unknown : ltb 1 x.end ≡ true → StepPromise way x bit (record { answer = 2; bit = 0; next = x })
-  step-unknown e = ap step_out (sym (refused 2 (drop 1 (step_refusals x bit)) e))
-
-  pub step-taken : ltb 1 x.end ≡ false → (s : Stepped) → OnLine.StepPromise way (tap_of x.end) x.state bit s
-      → StepPromise way x bit (record { answer = s.answer; bit = s.bit; next = record { end = x.end; state = s.state } })
-  step-taken e s p =
-      ap (λ (t : Stepped). record { answer = t.answer; bit = t.bit; next = record { end = x.end; state = t.state } }) p
-      ∙ ap step_out (on-the-line ∙ sym (passed 2 (drop 1 (step_refusals x bit)) e))
+-- the taps of the ends are on the line
+pub on-the-line : (x : Scrambler) (bit : ℕ) → answer (OnLine.step_refusals (tap_of x.end) x.state bit) ≡ answer (drop 1 (step_refusals x bit))
+on-the-line x bit = pick (eqb x.end 0)
+  where
+    pick : (t : Bool) → answer (OnLine.step_refusals (cond t 5 18) x.state bit) ≡ answer (drop 1 (step_refusals x bit))
+    pick true = refl
+    pick false = refl
 
 -- ---- a run
 
@@ -82,25 +62,24 @@ module _ (x : Scrambler) (input : List ℕ) (bits : ℕ) (output : List ℕ) whe
       let four = none 3 _ (drop 4 R) two.1 in
       (ltb-false _ _ one.0, leb-false _ _ four.0)
 
-  pub run-refused : (way : Way) (n : ℕ) → n ≡ answer (run_refusals x input bits output) → (n ≡ 0 → ⊥)
-      → RunPromise way x input bits output (record { answer = n; next = x }) output
-  run-refused way n e z =
-      record {
-        answered = e;
-        next = ap (λ (s : ℕ). record { end = x.end; state = s }) (sym (kept n x.state _ z));
-        left = sym (kept n output _ z);
-      }
-
   -- a run on the line, from the first bit on
-  pub run-taken : (way : Way) (tap : ℕ) (r : Line.Ran) (s : List ℕ) → tap ≡ tap_of x.end → OnLine.RunPromise way tap x.state input 0 bits output r s
+  pub run-taken : (way : Way) (tap : ℕ) (r : Result ℕ Refused) (s : List ℕ) → tap ≡ tap_of x.end → OnLine.RunPromise way tap x.state input 0 bits output r s
       → answer (run_refusals x input bits output) ≡ 0
-      → (r.answer ≡ 0) × (r.state ≡ after_of way (tap_of x.end) x.state (part 0 bits (bits_of input)))
+      → (r ≡ Ok (after_of way (tap_of x.end) x.state (part 0 bits (bits_of input))))
       × (s ≡ laid output 0 (run_of way (tap_of x.end) x.state (part 0 bits (bits_of input))))
   run-taken way tap r s e p z =
       let w = run_sound z in
       let q = subst (λ (n : ℕ). OnLine.RunPromise way n x.state input 0 bits output r s) e p in
       let c = run-complete (tap_of x.end) x.state input 0 bits (tap-range x.end).0 (tap-range x.end).1 w.1 (omega (arith, w.0)) in
-      run-given (tap_of x.end) x.state input 0 bits way output r s q c
+      run-given (tap_of x.end) x.state input 0 bits way output s c r q
+
+-- a result gives one value
+ok-one : (m n : ℕ) (r : Result ℕ Refused) → r ≡ Ok m → r ≡ Ok n → m ≡ n
+ok-one m n r p q = ap value (sym p ∙ q)
+  where
+    value : Result ℕ Refused → ℕ
+    value (Ok v) = v
+    value (Err e) = 0
 
 -- ---- a whole frame
 
@@ -113,15 +92,6 @@ module _ (x : Scrambler) (frame output : List ℕ) where
       let two = none 1 (ltb 1 x.end) (drop 3 R) same.1 in
       let four = none 3 (leb (2 ^ 23) x.state) (drop 4 R) two.1 in
       (eqb-true _ _ (not-false _ one.0), eqb-true _ _ (not-false _ same.0), leb-false _ _ four.0)
-
-  pub frame_refused : (way : Way) (n : ℕ) → n ≡ answer (frame_refusals x frame output) → (n ≡ 0 → ⊥)
-      → FramePromise way x frame output (record { answer = n; next = x }) output
-  frame_refused way n e z =
-      record {
-        answered = e;
-        next = ap (λ (s : ℕ). record { end = x.end; state = s }) (sym (kept n x.state _ z));
-        left = sym (kept n output _ z);
-      }
 
   -- sync, the run behind it, the pad
   frame-done : (way : Way) (s₁ s₂ s₃ : List ℕ) → length frame ≡ 529 → length output ≡ 529
@@ -144,26 +114,29 @@ module _ (x : Scrambler) (frame output : List ℕ) where
       f₃ ∙ laid_end output 0 (S ++ R ++ Z) (omega (arith, length-append (S ++ R) Z)) ∙ ap₂ octets_of lo (append_assoc S R Z)
 
   -- the line's run by the end's tap, behind sync
-  pub frame-clocked : (way : Way) (tap : ℕ) (r : Line.Ran) (s₁ s₂ : List ℕ) → tap ≡ tap_of x.end → s₁ ≡ laid output 0 (part 0 14 (bits_of frame))
-      → OnLine.RunPromise way tap x.state frame 14 4213 s₁ r s₂
-      → ClockedPromise way x frame output (record { answer = r.answer; next = record { end = x.end; state = r.state } }) s₂
+  pub frame-clocked : (way : Way) (tap : ℕ) (r : Result ℕ Refused) (s₁ s₂ : List ℕ) → tap ≡ tap_of x.end → s₁ ≡ laid output 0 (part 0 14 (bits_of frame))
+      → OnLine.RunPromise way tap x.state frame 14 4213 s₁ r s₂ → ClockedPromise way x frame output r s₂
   frame-clocked way tap r s₁ s₂ e e₁ p =
-      record {
-        same = refl;
-        ran = subst (λ (n : ℕ). OnLine.RunPromise way n x.state frame 14 4213 (laid output 0 (part 0 14 (bits_of frame))) r s₂) e
-            (subst (λ (s : List ℕ). OnLine.RunPromise way tap x.state frame 14 4213 s r s₂) e₁ p);
-      }
+      subst (λ (n : ℕ). OnLine.RunPromise way n x.state frame 14 4213 (laid output 0 (part 0 14 (bits_of frame))) r s₂) e
+      (subst (λ (s : List ℕ). OnLine.RunPromise way tap x.state frame 14 4213 s r s₂) e₁ p)
 
   -- a frame of which nothing is refused
-  pub frame-taken : (way : Way) (r : Ran) (s₂ s₃ : List ℕ) → ClockedPromise way x frame output r s₂ → s₃ ≡ laid s₂ 4227 (replicate 5 0)
-      → answer (frame_refusals x frame output) ≡ 0 → FramePromise way x frame output r s₃
-  frame-taken way r s₂ s₃ p e₃ z =
-      let w = frame-sound z in
-      let s₁ = laid output 0 (part 0 14 (bits_of frame)) in
-      let c = run-complete (tap_of x.end) x.state frame 14 4213 (tap-range x.end).0 (tap-range x.end).1 w.2 (omega (arith, w.0)) in
-      let g = run-given (tap_of x.end) x.state frame 14 4213 way s₁ (record { answer = r.answer; state = r.next.state }) s₂ p.ran c in
-      record {
-        answered = g.0 ∙ sym z;
-        next = ap₂ (λ (e n : ℕ). record { end = e; state = n }) p.same (g.1 ∙ sym (given r.answer _ _ g.0));
-        left = frame-done way s₁ s₂ s₃ w.0 w.1 refl g.2 e₃ ∙ sym (given r.answer output _ g.0);
-      }
+  module _ (way : Way) (r : Result ℕ Refused) (s₂ : List ℕ) (p : ClockedPromise way x frame output r s₂) (z : answer (frame_refusals x frame output) ≡ 0) where
+    abbrev s₁ : List ℕ
+    s₁ = laid output 0 (part 0 14 (bits_of frame))
+
+    ran : (r ≡ Ok (after_of way (tap_of x.end) x.state (clocked frame))) × (s₂ ≡ laid s₁ 14 (run_of way (tap_of x.end) x.state (clocked frame)))
+    ran =
+        let w = frame-sound z in
+        let c = run-complete (tap_of x.end) x.state frame 14 4213 (tap-range x.end).0 (tap-range x.end).1 w.2 (omega (arith, w.0)) in
+        run-given (tap_of x.end) x.state frame 14 4213 way s₁ s₂ c r p
+
+    pub frame-taken : (n : ℕ) (s₃ : List ℕ) → r ≡ Ok n → s₃ ≡ laid s₂ 4227 (replicate 5 0)
+        → FramePromise way x frame output (Ok (record { end = x.end; state = n })) s₃
+    frame-taken n s₃ e e₃ =
+        let w = frame-sound z in
+        record {
+          answered = sym z;
+          next = ap (λ (k : ℕ). record { end = x.end; state = k }) (ok-one n _ r e ran.0);
+          left = frame-done way s₁ s₂ s₃ w.0 w.1 refl ran.1 e₃;
+        }

@@ -1,34 +1,31 @@
 // The scrambler (SCOPE, "Scrambler"; 002, clause 7.1.6): an end's tap and state; a bit at a time and runs of bits; and back, whole frames too.
 #![tactic(auto)]
 
-ghost use Rattle.std.specs.Prelude.{◌≡◌};
+ghost use Rattle.std.specs.Prelude.{◌≡◌, [], ◌∷◌};
 ghost use Rattle.answer.specs.Answer.{answer};
-ghost use Rattle.recurrence.specs.Run.{scramble, descramble, way_of};
+ghost use Rattle.answer.specs.Given.{answer_of};
+ghost use Rattle.recurrence.specs.declared.Way.TheVariants.{Scramble as scramble, Descramble as descramble};
+ghost use Rattle.recurrence.specs.Promises.{wide_state};
 ghost use Rattle.scrambler.specs.Ends.{tap_of};
-ghost use Rattle.scrambler.specs.Promises.{StartPromise, StepPromise, run_refusals, RunPromise, frame_refusals, ClockedPromise, FramePromise};
+ghost use Rattle.scrambler.specs.Promises.{unknown_end, StartPromise, StepPromise, run_refusals, RunPromise, frame_refusals, ClockedPromise, FramePromise};
+
+use answer::Refused;
+use recurrence::Way;
 
 // The bits of a frame that clock the state: all but sync and pad.
 const CLOCKED: usize = layout::PAYLOAD_BITS as usize;
 
 // An end's scrambler: the end, and the last 23 scrambled bits, the newest at weight 1.
-#[derive(Clone, Copy)]
+#[derive(Clone, Copy, Debug, PartialEq, Eq)]
 pub struct Scrambler {
     pub end: u32,
     pub state: u32,
 }
 
-// What a step gives: the answer, the bit, and the scrambler to go on with.
-#[derive(Drop)]
+// What a step gives: the bit, and the scrambler to go on with.
+#[derive(Clone, Copy, Debug, PartialEq, Eq)]
 pub struct Step {
-    pub answer: u32,
     pub bit: u32,
-    pub next: Scrambler,
-}
-
-// What a run gives: the answer, and the scrambler to go on with.
-#[derive(Drop)]
-pub struct Ran {
-    pub answer: u32,
     pub next: Scrambler,
 }
 
@@ -61,184 +58,152 @@ impl Scrambler {
     pub const STATES: u32 = recurrence::STATES;
 
     // An end's scrambler at its start.
-    pub fn start(end: u32) -> Ran
+    pub fn start(end: u32) -> Result<Scrambler, Refused>
         ensures { StartPromise end result }
     {
         match end {
-            Self::LTU => Ran {
-                answer: answer::DONE,
-                next: Scrambler {
-                    end,
-                    state: Self::LTU_START,
-                },
-            },
-            Self::NTU => Ran {
-                answer: answer::DONE,
-                next: Scrambler {
-                    end,
-                    state: Self::NTU_START,
-                },
-            },
-            _ => Ran {
-                answer: answer::UNKNOWN,
-                next: Scrambler { end, state: 0 },
-            },
+            Self::LTU => Ok(Scrambler {
+                end,
+                state: Self::LTU_START,
+            }),
+            Self::NTU => Ok(Scrambler {
+                end,
+                state: Self::NTU_START,
+            }),
+            _ => Err(Refused::Unknown),
         }
     }
 
     // One bit in either direction.
-    fn step(self, back: bool, bit: u32) -> Step
-        ensures { StepPromise (way_of back) self bit result }
+    fn step(self, way: Way, bit: u32) -> Result<Step, Refused>
+        ensures { StepPromise way self bit result }
     {
-        let end = self.end;
-        if Self::NTU < end {
-            return Step {
-                answer: answer::UNKNOWN,
-                bit: 0,
-                next: self,
-            };
+        if Self::NTU < self.end {
+            return Err(Refused::Unknown);
         }
-        let s = recurrence::step(back, tap(end), self.state, bit);
-        Step {
-            answer: s.answer,
+        let s = recurrence::step(way, tap(self.end), self.state, bit)?;
+        Ok(Step {
             bit: s.bit,
             next: Scrambler {
-                end,
                 state: s.state,
+                ..self
             },
-        }
+        })
     }
 
     // One bit scrambled.
-    pub fn scramble(self, bit: u32) -> Step
+    pub fn scramble(self, bit: u32) -> Result<Step, Refused>
         ensures { StepPromise scramble self bit result }
     {
-        self.step(false, bit)
+        self.step(Way::Scramble, bit)
     }
 
     // One bit descrambled.
-    pub fn descramble(self, bit: u32) -> Step
+    pub fn descramble(self, bit: u32) -> Result<Step, Refused>
         ensures { StepPromise descramble self bit result }
     {
-        self.step(true, bit)
+        self.step(Way::Descramble, bit)
     }
 
-    // What a run refuses, or 0.
-    fn run_refusal(self, input: &[u8], bits: usize, output: &[u8]) -> u32
-        ensures { result ≡ answer (run_refusals self input.now bits output.now) }
+    // Why an end or a state is refused.
+    fn known(self) -> Result<(), Refused>
+        ensures { answer_of result ≡ answer (unknown_end self.end ∷ wide_state self.state ∷ []) }
     {
-        if input.len() < bits / 8 + (bits % 8 + 7) / 8 {
-            return answer::LENGTH;
-        }
-        if input.len() != output.len() {
-            return answer::LENGTH;
-        }
         if Self::NTU < self.end {
-            return answer::UNKNOWN;
+            return Err(Refused::Unknown);
         }
         if Self::STATES <= self.state {
-            return answer::RANGE;
+            return Err(Refused::Range);
         }
-        answer::DONE
+        Ok(())
+    }
+
+    // Why a run is refused.
+    fn run_allowed(self, input: &[u8], bits: usize, output: &[u8]) -> Result<(), Refused>
+        ensures { answer_of result ≡ answer (run_refusals self input.now bits output.now) }
+    {
+        if input.len() < bits / 8 + (bits % 8 + 7) / 8 || input.len() != output.len() {
+            return Err(Refused::Length);
+        }
+        self.known()
     }
 
     // A run of bits in either direction.
-    fn run(self, back: bool, input: &[u8], bits: usize, output: &mut [u8]) -> Ran
-        ensures { RunPromise (way_of back) self input.now bits output.old result output.new }
+    fn run(
+        self,
+        way: Way,
+        input: &[u8],
+        bits: usize,
+        output: &mut [u8],
+    ) -> Result<Scrambler, Refused>
+        ensures { RunPromise way self input.now bits output.old result output.new }
     {
-        let n = self.run_refusal(input, bits, output);
-        if n != answer::DONE {
-            return Ran {
-                answer: n,
-                next: self,
-            };
-        }
-        let end = self.end;
-        let state = self.state;
-        let t = tap(end);
-        let ran = recurrence::run(back, t, state, input, 0, bits, output);
-        Ran {
-            answer: ran.answer,
-            next: Scrambler {
-                end,
-                state: ran.state,
-            },
-        }
+        self.run_allowed(input, bits, output)?;
+        let state = recurrence::run(way, tap(self.end), self.state, input, 0, bits, output)?;
+        Ok(Scrambler { state, ..self })
     }
 
     // The first `bits` bits of the input scrambled into the output; further bits of the output stay.
-    pub fn scramble_run(self, input: &[u8], bits: usize, output: &mut [u8]) -> Ran
+    pub fn scramble_run(
+        self,
+        input: &[u8],
+        bits: usize,
+        output: &mut [u8],
+    ) -> Result<Scrambler, Refused>
         ensures { RunPromise scramble self input.now bits output.old result output.new }
     {
-        self.run(false, input, bits, output)
+        self.run(Way::Scramble, input, bits, output)
     }
 
     // The first `bits` bits of the input descrambled into the output; further bits of the output stay.
-    pub fn descramble_run(self, input: &[u8], bits: usize, output: &mut [u8]) -> Ran
+    pub fn descramble_run(
+        self,
+        input: &[u8],
+        bits: usize,
+        output: &mut [u8],
+    ) -> Result<Scrambler, Refused>
         ensures { RunPromise descramble self input.now bits output.old result output.new }
     {
-        self.run(true, input, bits, output)
+        self.run(Way::Descramble, input, bits, output)
     }
 
-    // What a whole frame refuses, or 0.
-    fn frame_refusal(self, frame: &[u8], output: &[u8]) -> u32
-        ensures { result ≡ answer (frame_refusals self frame.now output.now) }
+    // Why a whole frame is refused.
+    fn frame_allowed(self, frame: &[u8], output: &[u8]) -> Result<(), Refused>
+        ensures { answer_of result ≡ answer (frame_refusals self frame.now output.now) }
     {
-        if frame.len() != layout::FRAME_OCTETS {
-            return answer::LENGTH;
+        if frame.len() != layout::FRAME_OCTETS || output.len() != layout::FRAME_OCTETS {
+            return Err(Refused::Length);
         }
-        if output.len() != layout::FRAME_OCTETS {
-            return answer::LENGTH;
-        }
-        if Self::NTU < self.end {
-            return answer::UNKNOWN;
-        }
-        if Self::STATES <= self.state {
-            return answer::RANGE;
-        }
+        self.known()?;
         if !octets::is_clear(frame, layout::PAD_AT, layout::PAD_BITS) {
-            return answer::PAD;
+            return Err(Refused::Pad);
         }
-        answer::DONE
+        Ok(())
     }
 
-    // A frame's sync straight through, and the line's run over the bits between sync and pad, descrambled.
-    fn clocked(self, frame: &[u8], output: &mut [u8]) -> Ran
+    // A frame's sync straight through, and the line's run over the bits between sync and pad, descrambled: the state after it.
+    fn clocked(self, frame: &[u8], output: &mut [u8]) -> Result<u32, Refused>
         ensures { ClockedPromise descramble self frame.now output.old result output.new }
     {
-        let end = self.end;
         octets::copy(output, 0, frame, 0, layout::SYNC_BITS);
-        let ran = recurrence::run(
-            true,
-            tap(end),
+        recurrence::run(
+            Way::Descramble,
+            tap(self.end),
             self.state,
             frame,
             layout::SYNC_BITS,
             CLOCKED,
             output,
-        );
-        Ran {
-            answer: ran.answer,
-            next: Scrambler {
-                end,
-                state: ran.state,
-            },
-        }
+        )
     }
 
     // A whole frame descrambled: the pad is zero. Only crate `sender` scrambles one, as it sends it.
-    pub fn descramble_frame(self, frame: &[u8], output: &mut [u8]) -> Ran
+    pub fn descramble_frame(self, frame: &[u8], output: &mut [u8]) -> Result<Scrambler, Refused>
         ensures { FramePromise descramble self frame.now output.old result output.new }
     {
-        let n = self.frame_refusal(frame, output);
-        if n != answer::DONE {
-            return Ran {
-                answer: n,
-                next: self,
-            };
-        }
-        let ran = self.clocked(frame, output);
+        self.frame_allowed(frame, output)?;
+        let state = self.clocked(frame, output)?;
         octets::clear(output, layout::PAD_AT, layout::PAD_BITS);
-        ran
+        Ok(Scrambler { state, ..self })
     }
 }

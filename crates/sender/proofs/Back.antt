@@ -5,7 +5,8 @@ use Prim.Native.Nat.{ℕ}
 use lib.IntN.{ℤ}
 use Rattle.answer.specs.Answer.{answer}
 use Rattle.octets.proofs.Laws.{octets-length}
-use Rattle.recurrence.specs.Run.{scramble, descramble, after_of}
+use Rattle.recurrence.specs.Run.{after_of}
+use Rattle.recurrence.specs.declared.Way.TheVariants.{Scramble as scramble, Descramble as descramble}
 use Rattle.scrambler.specs.Ends.{tap_of}
 use Rattle.scrambler.specs.Promises.{clocked, frame_out}
 use Rattle.scrambler.specs.declared.Scrambler.{Scrambler}

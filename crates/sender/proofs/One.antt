@@ -4,24 +4,22 @@ use mathlib.Core.Bool.{true}
 use mathlib.Core.List.{List}
 use Prim.Native.Nat.{ℕ}
 use lib.IntN.{ℤ}
+use Rattle.std.specs.Prelude.{Result}
 use Rattle.answer.specs.Answer.{held, in_order}
-use Rattle.recurrence.specs.Run.{scramble, after_of}
-use Rattle.scrambler.specs.Ends.{tap_of}
-use Rattle.scrambler.specs.Promises.{clocked, frame_out}
+use Rattle.answer.specs.declared.Refused.{Refused}
+use Rattle.answer.proofs.Given.{value-one}
+use Rattle.recurrence.specs.declared.Way.TheVariants.{Scramble as scramble}
+use Rattle.scrambler.specs.Promises.{frame_out}
 use Rattle.scrambler.specs.declared.Scrambler.{Scrambler}
-use Rattle.scrambler.specs.declared.Ran.{Ran}
 use Rattle.sender.specs.Promises.{frame_octets, send_refusals, Sent}
 
 module _ (x : Scrambler) (kind count : ℕ) (cs : List ℤ) (a b : ℕ) (vendor frame : List ℕ) where
-  pub send-one : (r r' : Ran) (t t' : List ℕ) → Sent x kind count cs a b vendor frame r t → Sent x kind count cs a b vendor frame r' t' → (r ≡ r') × (t ≡ t')
+  pub send-one : (r r' : Result Scrambler Refused) (t t' : List ℕ) → Sent x kind count cs a b vendor frame r t → Sent x kind count cs a b vendor frame r' t'
+      → (r ≡ r') × (t ≡ t')
   send-one r r' t t' p q =
       let F = frame_octets kind count cs a b vendor in
-      let e : r.answer ≡ r'.answer = p.answered ∙ sym q.answered in
-      let n : r.next ≡ r'.next =
-      p.next
-      ∙ ap (λ (k : ℕ). record { end = x.end; state = held k x.state (after_of scramble (tap_of x.end) x.state (clocked F)) }) e
-      ∙ sym q.next in
-      (λ i. record { answer = e i; next = n i }, p.left ∙ ap (λ (k : ℕ). held k frame (frame_out scramble x F)) e ∙ sym q.left)
+      let e = p.answered ∙ sym q.answered in
+      (value-one _ r r' e p.next q.next, p.left ∙ ap (λ (k : ℕ). held k frame (frame_out scramble x F)) e ∙ sym q.left)
 
   pub send-order : in_order 1 (send_refusals x kind count cs a b vendor frame) ≡ true
   unfolding in_order

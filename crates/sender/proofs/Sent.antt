@@ -1,18 +1,21 @@
 -- From the frame written and scrambled to the promise. Assumes nothing.
-use mathlib.Core.Path.{◌≡◌, refl, sym, ap, ◌∙◌}
+use mathlib.Core.Path.{◌≡◌, refl, sym, ◌∙◌}
 use mathlib.Core.Bool.{Bool, true, false}
 use mathlib.Core.List.{List}
 use Prim.Native.Nat.{ℕ, zero, suc}
 use native.Mathlib.Omega.{arith}
 use lib.IntN.{ℤ}
 use lib.Dec.{ltb}
+use Rattle.std.specs.Prelude.{Result, Err}
 use Rattle.answer.specs.Answer.{answer}
+use Rattle.answer.specs.Given.{number_of}
+use Rattle.answer.specs.declared.Refused.{Refused}
+use Rattle.answer.proofs.Given.{refused-number}
 use Rattle.answer.proofs.Laws.{kept}
 use Rattle.layout.specs.Refusals.{write_refusals}
-use Rattle.recurrence.specs.Run.{scramble}
+use Rattle.recurrence.specs.declared.Way.TheVariants.{Scramble as scramble}
 use Rattle.scrambler.specs.Promises.{frame_refusals, FramePromise}
 use Rattle.scrambler.specs.declared.Scrambler.{Scrambler}
-use Rattle.scrambler.specs.declared.Ran.{Ran}
 use Rattle.sender.specs.Promises.{frame_octets, send_refusals, least_of, Sent}
 use Rattle.sender.proofs.Promise.{frame-check}
 use Rattle.sender.proofs.Together.{together}
@@ -36,18 +39,18 @@ module _ (x : Scrambler) (kind count : ℕ) (cs : List ℤ) (a b : ℕ) (vendor 
       → (answer (write_refusals kind count cs a b vendor frame) ≡ 0) × (answer (frame_refusals x F frame) ≡ 0)
   neither z = least-none _ _ (sym (together x kind count cs a b vendor frame) ∙ z)
 
-  pub refused-sent : (n : ℕ) → n ≡ answer (send_refusals x kind count cs a b vendor frame) → (n ≡ 0 → ⊥)
-      → Sent x kind count cs a b vendor frame (record { answer = n; next = x }) frame
-  refused-sent n e z =
+  pub refused-sent : (e : Refused) → number_of e ≡ answer (send_refusals x kind count cs a b vendor frame) → Sent x kind count cs a b vendor frame (Err e) frame
+  refused-sent e h =
+      let n = refused-number e in
       record {
-        answered = e;
-        next = ap (λ (s : ℕ). record { end = x.end; state = s }) (sym (kept n x.state _ z));
-        left = sym (kept n frame _ z);
-        check_right = λ y. absurd (z y);
+        answered = h;
+        next = tt;
+        left = sym (kept (number_of e) frame _ (λ z. omega arith));
+        check_right = λ z. absurd (omega arith);
       }
 
-  pub frame-sent : answer (send_refusals x kind count cs a b vendor frame) ≡ 0 → (r : Ran) (exit : List ℕ) → FramePromise scramble x F frame r exit
-      → Sent x kind count cs a b vendor frame r exit
+  pub frame-sent : answer (send_refusals x kind count cs a b vendor frame) ≡ 0 → (r : Result Scrambler Refused) (exit : List ℕ)
+      → FramePromise scramble x F frame r exit → Sent x kind count cs a b vendor frame r exit
   frame-sent z r exit p =
       record {
         answered = p.answered ∙ (neither z).1 ∙ sym z;

@@ -2,17 +2,21 @@
 // array of its own; what is lent only ever gets the scrambled one.
 #![tactic(auto)]
 
-ghost use Rattle.std.specs.Prelude.{◌≡◌, ◌&&◌, ◌++◌, ◌≤◌, eqb, length, replicate};
+ghost use Rattle.std.specs.Prelude.{◌≡◌, ◌&&◌, [], ◌∷◌, ◌++◌, ◌≤◌, eqb, length, replicate};
 ghost use Rattle.answer.specs.Answer.{answer};
+ghost use Rattle.answer.specs.Given.{answer_of};
 ghost use Rattle.octets.specs.Bits.{digits_of, bits_of, octets_of, laid};
 ghost use Rattle.ranges.specs.Ranges.{coefficient_count, word_width};
 ghost use Rattle.layout.specs.Places.{reserved_width, vendor_length, frame_length, place_of, sync_field, coefficients_field};
 ghost use Rattle.layout.specs.Frame.{coefficient_bits, used, behind, frame_bits, training_bits, final_bits, field_of};
-ghost use Rattle.recurrence.specs.Run.{scramble};
-ghost use Rattle.scrambler.specs.Promises.{frame_refusals, ClockedPromise, FramePromise};
-ghost use Rattle.sender.specs.Promises.{frame_octets, send_refusals, Sent, least_of, line_refusals, field_refusals};
+ghost use Rattle.recurrence.specs.declared.Way.TheVariants.{Scramble as scramble};
+ghost use Rattle.recurrence.specs.Promises.{wide_state};
+ghost use Rattle.scrambler.specs.Promises.{unknown_end, frame_refusals, ClockedPromise, FramePromise};
+ghost use Rattle.sender.specs.Promises.{frame_octets, send_refusals, Sent, field_refusals, number_refusals};
 
-use scrambler::{Ran, Scrambler};
+use answer::Refused;
+use recurrence::Way;
+use scrambler::Scrambler;
 
 // All coefficients' fields, behind sync: those behind the first `count` are zero.
 fn put_coefficients(frame: &mut [u8], coefficients: &[i32], count: usize)
@@ -86,21 +90,20 @@ fn put(plain: &mut [u8], kind: u32, count: u32, coefficients: &[i32], a: u32, b:
     ensures { plain.new ≡ frame_octets kind count coefficients.now a b vendor.now }
 {
     if kind == layout::TRAINING {
-        let n = count as usize;
-        put_training(plain, coefficients, n, a, b, vendor);
+        put_training(plain, coefficients, count as usize, a, b, vendor);
     } else {
         put_final(plain, vendor);
     }
 }
 
-// A frame's sync straight through, and the line's run over the bits between sync and pad, scrambled.
-fn clocked(x: Scrambler, plain: &[u8], room: &mut [u8]) -> recurrence::Ran
-    ensures { ClockedPromise scramble x plain.now room.old
-        (record { answer = result.answer; next = record { end = x.end; state = result.state } }) room.new }
+// A frame's sync straight through, and the line's run over the bits between sync and pad, scrambled: the state after it.
+// Stays: beside Scrambler::clocked, which descrambles, since the edits clocked_through_sync and other_ends_tap of this crate change it here.
+fn clocked(x: Scrambler, plain: &[u8], room: &mut [u8]) -> Result<u32, Refused>
+    ensures { ClockedPromise scramble x plain.now room.old result room.new }
 {
     octets::copy(room, 0, plain, 0, layout::SYNC_BITS);
     recurrence::run(
-        false,
+        Way::Scramble,
         scrambler::tap(x.end),
         x.state,
         plain,
@@ -111,77 +114,61 @@ fn clocked(x: Scrambler, plain: &[u8], room: &mut [u8]) -> recurrence::Ran
 }
 
 // A whole frame scrambled into the room: the pad is zero.
-fn scrambled(x: Scrambler, plain: &[u8], room: &mut [u8]) -> Ran
+fn scrambled(x: Scrambler, plain: &[u8], room: &mut [u8]) -> Result<Scrambler, Refused>
     requires { answer (frame_refusals x plain.now room.old) ≡ 0 }
     ensures { FramePromise scramble x plain.now room.old result room.new }
 {
-    let ran = clocked(x, plain, room);
+    let state = clocked(x, plain, room)?;
     octets::clear(room, layout::PAD_AT, layout::PAD_BITS);
-    let end = x.end;
-    Ran {
-        answer: ran.answer,
-        next: Scrambler {
-            end,
-            state: ran.state,
-        },
-    }
+    Ok(Scrambler { state, ..x })
 }
 
-// What scrambling refuses for its end and its state, or 0.
-fn line_refusal(x: Scrambler) -> u32
-    ensures { result ≡ answer (line_refusals x) }
+// Why an end is refused.
+fn end_allowed(x: Scrambler) -> Result<(), Refused>
+    ensures { answer_of result ≡ answer (unknown_end x.end ∷ []) }
 {
     if Scrambler::NTU < x.end {
-        return answer::UNKNOWN;
+        return Err(Refused::Unknown);
     }
-    if Scrambler::STATES <= x.state {
-        return answer::RANGE;
-    }
-    answer::DONE
+    Ok(())
 }
 
-// What writing refuses for its numbers, or 0: the count, from the fewest on, the coefficients in use, A and B.
-fn fields_refusal(fewest: u32, count: u32, coefficients: &[i32], a: u32, b: u32) -> u32
-    requires { length coefficients.now ≡ coefficient_count }
-    ensures { result ≡ answer (field_refusals fewest count coefficients.now a b) }
+// Why a state is refused.
+fn state_allowed(x: Scrambler) -> Result<(), Refused>
+    ensures { answer_of result ≡ answer (wide_state x.state ∷ []) }
 {
-    if count < fewest {
-        return answer::COUNT;
+    if Scrambler::STATES <= x.state {
+        return Err(Refused::Range);
     }
+    Ok(())
+}
+
+// Why a frame's numbers are refused: the count, from the fewest on, the coefficients in use, A and B.
+fn fields_allowed(
+    fewest: u32,
+    count: u32,
+    coefficients: &[i32],
+    a: u32,
+    b: u32,
+) -> Result<(), Refused>
+    requires { length coefficients.now ≡ coefficient_count }
+    ensures { answer_of result ≡ answer (field_refusals fewest count coefficients.now a b) }
+{
     let n = count as usize;
-    if layout::COEFFICIENTS < n {
-        return answer::COUNT;
+    if count < fewest || layout::COEFFICIENTS < n {
+        return Err(Refused::Count);
     }
     if !ranges::all_in_range(
         &coefficients[..n],
         ranges::LOWEST_COEFFICIENT,
         ranges::HIGHEST_COEFFICIENT,
     ) {
-        return answer::RANGE;
+        return Err(Refused::Range);
     }
-    if ranges::HIGHEST_WORD < a {
-        return answer::RANGE;
+    if ranges::HIGHEST_WORD < a || ranges::HIGHEST_WORD < b {
+        return Err(Refused::Range);
     }
-    if ranges::HIGHEST_WORD < b {
-        return answer::RANGE;
-    }
-    answer::DONE
-}
-
-// Of two answers the least that is not 0, and 0 where both are.
-fn least(m: u32, n: u32) -> u32
-    ensures { result ≡ least_of m n }
-{
-    if m == answer::DONE {
-        return n;
-    }
-    if n == answer::DONE {
-        return m;
-    }
-    if n < m {
-        return n;
-    }
-    m
+    Ok(())
 }
 
 // Whether what is lent has the right lengths.
@@ -189,14 +176,31 @@ fn whole(coefficients: &[i32], vendor: &[u8], frame: &[u8]) -> bool
     ensures { result ≡ (eqb (length coefficients.now) coefficient_count && eqb (length vendor.now) vendor_length
         && eqb (length frame.now) frame_length) }
 {
-    (coefficients.len() == layout::COEFFICIENTS)
-        & (vendor.len() == layout::VENDOR_OCTETS)
-        & (frame.len() == layout::FRAME_OCTETS)
+    coefficients.len() == layout::COEFFICIENTS
+        && vendor.len() == layout::VENDOR_OCTETS
+        && frame.len() == layout::FRAME_OCTETS
 }
 
-// What sending refuses, or 0: what scrambling refuses and what writing refuses, in number order. Of a final frame no coefficient is in use, and A and B
+// Why the numbers are refused, in number order.
+fn numbers_allowed(
+    x: Scrambler,
+    fewest: u32,
+    count: u32,
+    coefficients: &[i32],
+    a: u32,
+    b: u32,
+) -> Result<(), Refused>
+    requires { length coefficients.now ≡ coefficient_count }
+    ensures { answer_of result ≡ answer (number_refusals x fewest count coefficients.now a b) }
+{
+    end_allowed(x)?;
+    fields_allowed(fewest, count, coefficients, a, b)?;
+    state_allowed(x)
+}
+
+// Why sending is refused: what writing refuses and what scrambling refuses, in number order. Of a final frame no coefficient is in use, and A and B
 // are zero.
-fn refusal(
+fn allowed(
     x: Scrambler,
     kind: u32,
     count: u32,
@@ -205,20 +209,16 @@ fn refusal(
     b: u32,
     vendor: &[u8],
     frame: &[u8],
-) -> u32
-    ensures { result ≡ answer (send_refusals x kind count coefficients.now a b vendor.now frame.now) }
+) -> Result<(), Refused>
+    ensures { answer_of result ≡ answer (send_refusals x kind count coefficients.now a b vendor.now frame.now) }
 {
     if !whole(coefficients, vendor, frame) {
-        return answer::LENGTH;
+        return Err(Refused::Length);
     }
-    let line = line_refusal(x);
     match kind {
-        layout::TRAINING => least(
-            line,
-            fields_refusal(layout::FEWEST, count, coefficients, a, b),
-        ),
-        layout::FINAL => least(line, fields_refusal(0, 0, coefficients, 0, 0)),
-        _ => answer::UNKNOWN,
+        layout::TRAINING => numbers_allowed(x, layout::FEWEST, count, coefficients, a, b),
+        layout::FINAL => numbers_allowed(x, 0, 0, coefficients, 0, 0),
+        _ => Err(Refused::Unknown),
     }
 }
 
@@ -232,13 +232,10 @@ pub fn send(
     b: u32,
     vendor: &[u8],
     frame: &mut [u8],
-) -> Ran
+) -> Result<Scrambler, Refused>
     ensures { Sent x kind count coefficients.now a b vendor.now frame.old result frame.new }
 {
-    let n = refusal(x, kind, count, coefficients, a, b, vendor, frame);
-    if n != answer::DONE {
-        return Ran { answer: n, next: x };
-    }
+    allowed(x, kind, count, coefficients, a, b, vendor, frame)?;
     let mut plain = [0u8; layout::FRAME_OCTETS];
     put(&mut plain, kind, count, coefficients, a, b, vendor);
     scrambled(x, &plain, frame)

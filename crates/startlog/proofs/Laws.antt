@@ -6,31 +6,20 @@ use mathlib.Core.List.{List, [], ◌∷◌, ◌++◌}
 use Prim.Native.Nat.{ℕ, zero, suc, ◌+◌, ◌-◌, ◌*◌, ◌≤◌, ◌<◌}
 use native.Mathlib.Numerals.{add-one}
 use native.Mathlib.Omega.{arith}
-use borrow.Author.Tests.{eq-eqb, ne_eqb, le-leb, lt-leb, lt-ltb, leb-true, leb-false}
-use lib.Dec.{leb, eqb}
+use borrow.Author.Tests.{le-leb, lt-leb, lt-ltb, ltb-false, leb-true, leb-false}
+use lib.Dec.{leb, eqb, ltb}
+use Rattle.std.proofs.lemmas.Bool.Decides.{nat_tests}
+use Rattle.std.specs.Prelude.{position, Option}
+use Rattle.std.specs.List.{position_or_len}
+use Rattle.std.specs.Option.{unwrap_or}
+use Rattle.std.proofs.lemmas.List.Recursion.{is_position_or_len}
 use lib.ListN.{length, get_or, take, drop, length-drop, drop_of_length-le}
-use lib.Seq.{take-suc, take_all, drop-cons}
+use lib.Seq.{take-suc, take_all}
 use Rattle.ascii.specs.Text.{digit_of, reading}
 use Rattle.ascii.proofs.Reading.{reading-more}
-use Rattle.startlog.specs.declared.Line.{Line}
-use Rattle.startlog.specs.Lines.{most_ticks, line, is_digit, digits, counted, said, line_of, up_to_end, end_of}
+use Rattle.startlog.specs.Lines.{most_ticks, line, is_digit, digits, counted, up_to_end, end_of}
 
 -- ---- where a line ends
-
--- at a newline
-pub end-here : (log : List ℕ) (k : ℕ) → k < length log → get_or log k 0 ≡ 10 → end_of log k ≡ k
-unfolding up_to_end
-end-here log k h e = rw (drop-cons log k 0 h) (simp (eq-eqb (get_or log k 0) 10 e) (omega arith))
-
--- behind any other octet
-pub end-next : (log : List ℕ) (k : ℕ) → k < length log → (get_or log k 0 ≡ 10 → ⊥) → end_of log (k + 1) ≡ end_of log k
-unfolding up_to_end
-end-next log k h e = rw (add-one, drop-cons log k 0 h) (simp (ne_eqb (get_or log k 0) 10 e) (omega arith))
-
--- at the log's end, and past it
-pub end-last : (log : List ℕ) (k : ℕ) → length log ≤ k → end_of log k ≡ k
-unfolding up_to_end
-end-last log k h = rw (drop_of_length-le log h) (omega arith)
 
 up-to-within : (l : List ℕ) → up_to_end l ≤ length l
 unfolding up_to_end
@@ -40,6 +29,30 @@ up-to-within (o ∷ os) = pick (eqb o 10) (up-to-within os)
     pick : (b : Bool) → up_to_end os ≤ length os → cond b 0 (suc (up_to_end os)) ≤ suc (length os)
     pick true h = omega arith
     pick false h = omega arith
+
+-- at the first newline, or at the end where there is none
+pub first-newline : (os : List ℕ) → unwrap_or (position (λ (o : ℕ). eqb o 10) os) (length os) ≡ up_to_end os
+unfolding up_to_end
+first-newline os =
+    let e : up_to_end os ≡ position_or_len (λ (o : ℕ). eqb o 10) os = is_position_or_len up_to_end (λ (o : ℕ). eqb o 10) refl (λ o os. ap (cond (eqb o 10) 0) (omega arith)) os in
+    let h = up-to-within os in
+    go (ltb (position_or_len (λ (o : ℕ). eqb o 10) os) (length os)) refl e h
+  where
+    go : (b : Bool) → ltb (position_or_len (λ (o : ℕ). eqb o 10) os) (length os) ≡ b → up_to_end os ≡ position_or_len (λ (o : ℕ). eqb o 10) os
+        → up_to_end os ≤ length os → unwrap_or (position (λ (o : ℕ). eqb o 10) os) (length os) ≡ up_to_end os
+    go true t e h = simp t (sym e)
+    go false f e h = let g = ltb-false _ _ f in simp f (omega arith)
+
+-- and so the line ends, behind what stands in front of its place
+pub line-ends : (log rest : List ℕ) (at : ℕ) (r : Option ℕ) (n : ℕ) → rest ≡ drop at log → r ≡ position (λ (o : ℕ). eqb o 10) rest → n ≡ unwrap_or r (length rest)
+    → at + n ≡ end_of log at
+line-ends log rest at r n e f g =
+    ap (λ (k : ℕ). at + k) (g ∙ ap (λ (o : Option ℕ). unwrap_or o (length rest)) f ∙ first-newline rest ∙ ap up_to_end e)
+
+-- past the log's end
+pub end-past : (log : List ℕ) (k : ℕ) → length log ≤ k → end_of log k ≡ k
+unfolding up_to_end
+end-past log k h = rw (drop_of_length-le log h) (omega arith)
 
 -- a line ends within its log
 pub end-within : (log : List ℕ) (at : ℕ) → at ≤ length log → end_of log at ≤ length log
@@ -71,14 +84,10 @@ broken (o ∷ os) (suc k) h e = ap (λ (b : Bool). is_digit o && b) (broken os k
     never true = refl
     never false = refl
 
--- an octet below 0 or above 9 makes it no count
-pub below : (ds : List ℕ) (k : ℕ) → k < length ds → get_or ds k 0 < 48 → line 2 0 0 ≡ counted ds
+-- an octet that is no digit makes it no count
+pub not-counted : (ds : List ℕ) (k : ℕ) → k < length ds → is_digit (get_or ds k 0) ≡ false → line 2 0 0 ≡ counted ds
 unfolding counted
-below ds k h l = simp (broken ds k h (simp (lt-leb 48 (get_or ds k 0) l)))
-
-pub above : (ds : List ℕ) (k : ℕ) → k < length ds → 57 < get_or ds k 0 → line 2 0 0 ≡ counted ds
-unfolding counted
-above ds k h l = simp (broken ds k h (simp (le-leb 48 (get_or ds k 0) (omega arith), lt-leb (get_or ds k 0) 57 l)))
+not-counted ds k h e = simp (broken ds k h e)
 
 -- the number held is the number read, or both are past the most
 abbrev pub Same : ℕ → ℕ → Type 0
@@ -94,10 +103,16 @@ pub read_none : (ds : List ℕ) → Read ds 0 0
 unfolding digits reading
 read_none ds = record { within = omega arith; all = refl; same = inl refl }
 
+is-digit : (o : ℕ) → is_digit o ≡ true → (48 ≤ o) × (o ≤ 57)
+is-digit o e = (grind (arith, nat_tests), grind (arith, nat_tests))
+
 -- one more
-pub read_more : (ds : List ℕ) (t k t' : ℕ) → Read ds t k → k < length ds → 48 ≤ get_or ds k 0 → get_or ds k 0 ≤ 57
+pub read_more : (ds : List ℕ) (t k t' : ℕ) → Read ds t k → k < length ds → is_digit (get_or ds k 0) ≡ true
     → t' ≡ cond (leb t most_ticks) (t * 10 + (get_or ds k 0 - 48)) t → Read ds t' (k + 1)
-read_more ds t k t' r h lo hi e =
+read_more ds t k t' r h g e =
+    let w = is-digit (get_or ds k 0) g in
+    let lo = w.0 in
+    let hi = w.1 in
     let o = get_or ds k 0 in
     let next : take (k + 1) ds ≡ take k ds ++ (o ∷ []) = ap (λ (n : ℕ). take n ds) (add-one k) ∙ take-suc ds k 0 h in
     let d : digit_of o ≡ o - 48 = simp (lt-ltb o 65 (omega arith)) in
@@ -105,7 +120,7 @@ read_more ds t k t' r h lo hi e =
     ∙ ap (λ (x : ℕ). reading 10 0 (take k ds) * 10 + x) d in
     record {
       within = omega arith;
-      all = ap digits next ∙ digits_more (take k ds) o ∙ simp (r.all, le-leb 48 o lo, le-leb o 57 hi);
+      all = ap digits next ∙ digits_more (take k ds) o ∙ simp (r.all, g);
       same = go (leb t most_ticks) refl r.same v;
     }
   where
@@ -122,21 +137,15 @@ read_more ds t k t' r h lo hi e =
 whole : (ds : List ℕ) (t k : ℕ) → Read ds t k → length ds ≤ k → (digits ds ≡ true) × Same t (reading 10 0 ds)
 whole ds t k r h = let e = take_all k ds h in (ap digits (sym e) ∙ r.all, subst (λ (l : List ℕ). Same t (reading 10 0 l)) e r.same)
 
-pub none-counted : (ds : List ℕ) (t k : ℕ) → Read ds t k → length ds ≤ k → t ≡ 0 → line 4 0 0 ≡ counted ds
+pub none-counted : (ds : List ℕ) (t k : ℕ) → Read ds t k → length ds ≤ k → (t ≡ 0) ⊎ (most_ticks < t) → line 4 0 0 ≡ counted ds
 unfolding counted
-none-counted ds t k r h z = pick (whole ds t k r h).0 (whole ds t k r h).1
+none-counted ds t k r h z = pick (whole ds t k r h).0 (whole ds t k r h).1 z
   where
-    pick : digits ds ≡ true → Same t (reading 10 0 ds) → line 4 0 0 ≡ counted ds
-    pick d (inl e) = simp (d, lt-leb 1 (reading 10 0 ds) (omega arith))
-    pick d (inr e) = absurd (omega (arith, e.0))
-
-pub many-counted : (ds : List ℕ) (t k : ℕ) → Read ds t k → length ds ≤ k → most_ticks < t → line 4 0 0 ≡ counted ds
-unfolding counted
-many-counted ds t k r h z = pick (whole ds t k r h).0 (whole ds t k r h).1
-  where
-    pick : digits ds ≡ true → Same t (reading 10 0 ds) → line 4 0 0 ≡ counted ds
-    pick d (inl e) = simp (d, le-leb 1 (reading 10 0 ds) (omega arith), lt-leb (reading 10 0 ds) most_ticks (omega arith))
-    pick d (inr e) = simp (d, le-leb 1 (reading 10 0 ds) (omega (arith, e.1)), lt-leb (reading 10 0 ds) most_ticks e.1)
+    pick : digits ds ≡ true → Same t (reading 10 0 ds) → (t ≡ 0) ⊎ (most_ticks < t) → line 4 0 0 ≡ counted ds
+    pick d (inl e) (inl z) = simp (d, lt-leb 1 (reading 10 0 ds) (omega arith))
+    pick d (inr e) (inl z) = absurd (omega (arith, e.0))
+    pick d (inl e) (inr z) = simp (d, le-leb 1 (reading 10 0 ds) (omega arith), lt-leb (reading 10 0 ds) most_ticks (omega arith))
+    pick d (inr e) (inr z) = simp (d, le-leb 1 (reading 10 0 ds) (omega (arith, e.1)), lt-leb (reading 10 0 ds) most_ticks e.1)
 
 pub some-counted : (ds : List ℕ) (t k : ℕ) → Read ds t k → length ds ≤ k → (t ≡ 0 → ⊥) → t ≤ most_ticks → line 0 0 t ≡ counted ds
 unfolding counted
@@ -145,10 +154,3 @@ some-counted ds t k r h z l = pick (whole ds t k r h).0 (whole ds t k r h).1
     pick : digits ds ≡ true → Same t (reading 10 0 ds) → line 0 0 t ≡ counted ds
     pick d (inl e) = simp (d, le-leb 1 (reading 10 0 ds) (omega arith), le-leb (reading 10 0 ds) most_ticks (omega arith)) (ap (line 0 0) e)
     pick d (inr e) = absurd (omega (arith, e.0))
-
--- ---- an empty line
-
-pub said-none : (l : List ℕ) (r : Line) → length l ≡ 0 → r ≡ line 0 0 0 → r ≡ line_of l
-unfolding said
-said-none [] r h e = e
-said-none (o ∷ os) r h e = absurd (omega arith)

@@ -1,12 +1,25 @@
 -- A start-up log as text: one code a line, 0 to 8; `0*300` is 300 ticks; an empty line, or one that begins with #, says nothing. A line ends
 -- with a newline, in front of which a carriage return may stand.
-use Rattle.std.specs.Prelude.{Bool, true, cond, ◌&&◌, ◌||◌, List, [], ◌∷◌, ℕ, suc, ◌+◌, ◌-◌, leb, eqb, length, get_or, take, drop}
+use Rattle.std.specs.Prelude.{Bool, true, cond, ◌&&◌, ◌||◌, List, [], ◌∷◌, Result, Ok, Err, ℕ, suc, ◌+◌, ◌-◌, leb, eqb, length, get_or, take, drop}
+use Rattle.answer.specs.declared.Refused.{Refused}
+use Rattle.answer.specs.Given.{number_of}
 use Rattle.ascii.specs.Text.{reading}
-use Rattle.startlog.specs.declared.Line.{Line}
+use Rattle.startlog.specs.declared.Line.{Line as Given}
+
+-- what a line says, with the answer's number
+pub record Line : Type 0 where
+  pub answer : ℕ
+  pub code : ℕ
+  pub times : ℕ
 
 -- an answer, a code, and how often it comes
 abbrev pub line : ℕ → ℕ → ℕ → Line
 line n c t = record { answer = n; code = c; times = t }
+
+-- a Result so: 0 with what the line says, or a refusal's number, and then the others are 0
+abbrev pub numbered : Result Given Refused → Line
+numbered (Ok l) = line 0 l.code l.times
+numbered (Err e) = line (number_of e) 0 0
 
 -- whether an octet is the character of a decimal digit
 abbrev pub is_digit : ℕ → Bool

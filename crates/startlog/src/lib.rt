@@ -1,15 +1,14 @@
 // A start-up log as text, one code a line: where a line ends, and what it says. The rules are specs/Lines.antt.
 #![tactic(auto)]
 
-ghost use Rattle.std.specs.Prelude.{◌≡◌, cond, ◌+◌, ◌-◌, ◌*◌, ◌≤◌, leb};
-ghost use Rattle.startlog.specs.Lines.{most_ticks, counted, one_code, said, line_of, end_of};
-ghost use Rattle.startlog.specs.Lines.{line as line_with};
+ghost use Rattle.std.specs.Prelude.{◌≡◌, ◌==◌, cond, ◌+◌, ◌-◌, ◌*◌, ◌≤◌, leb, position};
+ghost use Rattle.startlog.specs.Lines.{most_ticks, counted, one_code, said, line_of, end_of, numbered};
 
-// What a line says. With any answer but 0 the other numbers are 0.
-#[derive(Drop)]
+use answer::Refused;
+
+// What a line says.
+#[derive(Clone, Copy)]
 pub struct Line {
-    // 2 where it is no code, 4 where it counts no tick or too many.
-    pub answer: u32,
     pub code: u32,
     // How often the code comes: 0 in an empty line or a remark, which say nothing.
     pub times: u32,
@@ -18,67 +17,43 @@ pub struct Line {
 impl Line {
     // The most ticks that a line may count.
     pub const MOST: u32 = 1000000000;
+    // A line that says nothing.
+    const NOTHING: Line = Line { code: 0, times: 0 };
 
-    // What a line says; it may end with a carriage return.
-    pub fn read(line: &[u8]) -> Line
-        ensures { result ≡ line_of line.now }
+    // What a line says; it may end with a carriage return. What is no code is 2, a count of no tick or of too many 4.
+    pub fn read(line: &[u8]) -> Result<Line, Refused>
+        ensures { numbered result ≡ line_of line.now }
     {
-        let n = line.len();
-        if n == 0 {
-            return Self::with(answer::DONE, 0, 0);
-        }
-        let last = n - 1;
-        if line[last] == b'\r' {
-            Self::said(&line[..last])
-        } else {
-            Self::said(line)
-        }
-    }
-
-    // What a line says, from its three numbers.
-    fn with(answer: u32, code: u32, times: u32) -> Line
-        ensures { result ≡ line_with answer code times }
-    {
-        Line {
-            answer,
-            code,
-            times,
+        match line {
+            [plain @ .., b'\r'] => Self::said(plain),
+            _ => Self::said(line),
         }
     }
 
     // What a line without its end says.
-    fn said(line: &[u8]) -> Line
-        ensures { result ≡ said line.now }
+    #[tactic(auto, unfolding(crate::specs::Lines::said))]
+    fn said(line: &[u8]) -> Result<Line, Refused>
+        ensures { numbered result ≡ said line.now }
     {
-        if line.len() == 0 {
-            return Self::with(answer::DONE, 0, 0);
+        match line {
+            [] | [b'#', ..] => Ok(Self::NOTHING),
+            [octet] => Self::one(*octet),
+            [b'0', b'*', digits @ ..] => Self::counted(digits),
+            _ => Err(Refused::Unknown),
         }
-        if line[0] == b'#' {
-            return Self::with(answer::DONE, 0, 0);
-        }
-        if line.len() == 1 {
-            return Self::one(line[0]);
-        }
-        if line[0] != b'0' {
-            return Self::with(answer::UNKNOWN, 0, 0);
-        }
-        if line[1] != b'*' {
-            return Self::with(answer::UNKNOWN, 0, 0);
-        }
-        Self::counted(&line[2..])
     }
 
     // One of the nine codes, by its character.
-    fn one(octet: u8) -> Line
-        ensures { result ≡ one_code octet }
+    fn one(octet: u8) -> Result<Line, Refused>
+        ensures { numbered result ≡ one_code octet }
     {
-        if octet < b'0' {
-            return Self::with(answer::UNKNOWN, 0, 0);
+        match octet {
+            b'0'..=b'8' => Ok(Line {
+                code: u32::from(octet - b'0'),
+                times: 1,
+            }),
+            _ => Err(Refused::Unknown),
         }
-        if b'8' < octet {
-            return Self::with(answer::UNKNOWN, 0, 0);
-        }
-        Self::with(answer::DONE, (octet - b'0') as u32, 1)
     }
 
     // A number with one more digit. Past the most it is held, so that no sum wraps.
@@ -86,37 +61,31 @@ impl Line {
         requires { (48 ≤ digit) × (digit ≤ 57) }
         ensures { result ≡ cond (leb ticks most_ticks) (ticks * 10 + (digit - 48)) ticks }
     {
-        if ticks <= (Self::MOST as u64) {
-            ticks * 10 + (digit - b'0') as u64
+        if ticks <= u64::from(Self::MOST) {
+            ticks * 10 + u64::from(digit - b'0')
         } else {
             ticks
         }
     }
 
     // As many ticks as these digits say.
-    pub fn counted(digits: &[u8]) -> Line
-        ensures { result ≡ counted digits.now }
+    pub fn counted(digits: &[u8]) -> Result<Line, Refused>
+        ensures { numbered result ≡ counted digits.now }
     {
         let mut ticks: u64 = 0;
-        let mut k = 0;
-        while k < digits.len() {
-            let digit = digits[k];
-            if digit < b'0' {
-                return Self::with(answer::UNKNOWN, 0, 0);
-            }
-            if b'9' < digit {
-                return Self::with(answer::UNKNOWN, 0, 0);
+        for &digit in digits {
+            if !(b'0'..=b'9').contains(&digit) {
+                return Err(Refused::Unknown);
             }
             ticks = Self::more(ticks, digit);
-            k += 1;
         }
-        if ticks == 0 {
-            return Self::with(answer::RANGE, 0, 0);
+        if ticks == 0 || u64::from(Self::MOST) < ticks {
+            return Err(Refused::Range);
         }
-        if (Self::MOST as u64) < ticks {
-            return Self::with(answer::RANGE, 0, 0);
-        }
-        Self::with(answer::DONE, 0, ticks as u32)
+        Ok(Line {
+            code: 0,
+            times: ticks as u32,
+        })
     }
 }
 
@@ -124,12 +93,15 @@ impl Line {
 pub fn line_end(log: &[u8], at: usize) -> usize
     ensures { result ≡ end_of log.now at }
 {
-    let mut k = at;
-    while k < log.len() {
-        if log[k] == b'\n' {
-            return k;
-        }
-        k += 1;
+    match log.get(at..) {
+        Some(rest) => at + newline(rest).unwrap_or(rest.len()),
+        None => at,
     }
-    k
+}
+
+// The place of the first newline.
+fn newline(text: &[u8]) -> Option<usize>
+    ensures { result ≡ position (λ o. o == 10) text.now }
+{
+    text.iter().position(|&o| o == b'\n')
 }

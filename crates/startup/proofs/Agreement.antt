@@ -15,7 +15,7 @@ use Rattle.supervisor.specs.declared.Supervisor.{Supervisor}
 use Rattle.supervisor.specs.Phases.{in_attempt}
 use Rattle.supervisor.specs.Step.{state_refusals, step_of, fresh}
 use Rattle.supervisor.proofs.Laws.{by_cases, clash}
-use Rattle.startup.specs.declared.Run.{Run}
+use Rattle.startup.specs.Run.{Run}
 use Rattle.startup.specs.Reports.{at, one}
 use Rattle.startup.specs.Attempts.{Needs, needs_of, meant, OpensAt}
 use Rattle.startup.specs.Make.{steps, after, Taken}

@@ -10,7 +10,7 @@ use borrow.Author.Tests.{leb-true, leb-false, le-ltb, lt-ltb, ne_eqb}
 use lib.Dec.{leb, eqb}
 use Rattle.answer.specs.Answer.{answer}
 use Rattle.supervisor.specs.declared.Supervisor.{Supervisor}
-use Rattle.supervisor.specs.declared.Answer.{Answer}
+use Rattle.supervisor.specs.Step.{Numbered}
 use Rattle.supervisor.specs.Limits.{attempt_ticks}
 use Rattle.supervisor.specs.Names.{Ready, Gap, Await, Cr, Hearing, Settling, Valid, Exception}
 use Rattle.supervisor.specs.Phases.{phases_of, is_of, in_attempt}
@@ -127,13 +127,13 @@ module _ (b : Bool) (sil : ℕ) (lo : 2000 ≤ sil) (hi : sil ≤ 60000) (l : Li
       ∙ ap (answered_of 0 (after s₀ l p)) (sym (after-suc s₀ l p ∙ step-state (after s₀ l p) (at l p) (legal-run p)))
 
   skipped-is : (p : ℕ) → 8 < at l p → after s₀ l (suc p) ≡ after s₀ l p
-  skipped-is p h = after-suc s₀ l p ∙ ap (λ (x : Answer). x.state) (refused (after s₀ l p) (at l p) h)
+  skipped-is p h = after-suc s₀ l p ∙ ap (λ (x : Numbered). x.state) (refused (after s₀ l p) (at l p) h)
 
   refused-is : (p : ℕ) → 8 < at l p → ((answer_to s₀ l p).phase ≡ 0) × ((answer_to s₀ l p).attempt ≡ 0)
-  refused-is p h = (ap (λ (x : Answer). x.phase) (refused (after s₀ l p) (at l p) h), ap (λ (x : Answer). x.attempt) (refused (after s₀ l p) (at l p) h))
+  refused-is p h = (ap (λ (x : Numbered). x.phase) (refused (after s₀ l p) (at l p) h), ap (λ (x : Numbered). x.attempt) (refused (after s₀ l p) (at l p) h))
 
   phase-is : (p : ℕ) → at l p ≤ 8 → (answer_to s₀ l p).phase ≡ (after s₀ l (suc p)).phase
-  phase-is p h = ap (λ (x : Answer). x.phase) (answer-is p h)
+  phase-is p h = ap (λ (x : Numbered). x.phase) (answer-is p h)
 
   -- a code that changes the phase is one of the nine
   changes : (p : ℕ) → ((after s₀ l (suc p)).phase ≡ (after s₀ l p).phase → ⊥) → at l p ≤ 8
@@ -261,17 +261,17 @@ module _ (b : Bool) (sil : ℕ) (lo : 2000 ≤ sil) (hi : sil ≤ 60000) (l : Li
       go (failed e) h q = out (failed e) q refl
 
   pub ticks-are : (p : ℕ) → at l p ≤ 8 → (answer_to s₀ l p).attempt ≡ cond (in_attempt (after s₀ l (suc p)).phase) (after s₀ l (suc p)).attempt 0
-  ticks-are p h = ap (λ (x : Answer). x.attempt) (answer-is p h)
+  ticks-are p h = ap (λ (x : Numbered). x.attempt) (answer-is p h)
 
   -- THE DEMAND, of ours
 
   pub answered-run : (p : ℕ) → at l p ≤ 8 → ((answer_to s₀ l p).answer ≡ 0) × ((answer_to s₀ l p).phase ≡ (after s₀ l (suc p)).phase)
-  answered-run p h = (ap (λ (x : Answer). x.answer) (answer-is p h), phase-is p h)
+  answered-run p h = (ap (λ (x : Numbered). x.answer) (answer-is p h), phase-is p h)
 
   pub skipped-run : (p : ℕ) → 8 < at l p
       → ((answer_to s₀ l p).answer ≡ 2) × ((answer_to s₀ l p).phase ≡ 0) × ((answer_to s₀ l p).attempt ≡ 0) × (after s₀ l (suc p) ≡ after s₀ l p)
   skipped-run p h =
-      (ap (λ (x : Answer). x.answer) (refused (after s₀ l p) (at l p) h), (refused-is p h).0, (refused-is p h).1, skipped-is p h)
+      (ap (λ (x : Numbered). x.answer) (refused (after s₀ l p) (at l p) h), (refused-is p h).0, (refused-is p h).1, skipped-is p h)
 
   pub opens-run : (p : ℕ) → OpensAt k l (suc p) ↔ Enters ours (opening b) s₀ l p
   opens-run p = (

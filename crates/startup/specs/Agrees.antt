@@ -2,7 +2,7 @@
 use Rattle.std.specs.Prelude.{ℕ, ◌≡◌, List, [], ◌∷◌, length}
 use Rattle.supervisor.specs.declared.Supervisor.{Supervisor}
 use Rattle.supervisor.specs.Step.{start_of}
-use Rattle.startup.specs.declared.Run.{Run}
+use Rattle.startup.specs.Run.{Run}
 use Rattle.startup.specs.Attempts.{needs_of, meant}
 use Rattle.startup.specs.Make.{steps}
 use Rattle.startup.specs.Scan.{Attempt, attempts}

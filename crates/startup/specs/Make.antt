@@ -1,7 +1,7 @@
 -- A supervisor of any make, its run over a list of codes, and ours among them. Demand 3 is stated of any make (crate demands).
 use Rattle.std.specs.Prelude.{ℕ, ◌≤◌, ◌<◌, ◌≡◌, ◌⊎◌, List, [], ◌∷◌, length, take}
 use Rattle.supervisor.specs.declared.Supervisor.{Supervisor}
-use Rattle.supervisor.specs.declared.Answer.{Answer}
+use Rattle.supervisor.specs.Step.{Numbered}
 use Rattle.supervisor.specs.Limits.{shortest_silence, longest_silence}
 use Rattle.supervisor.specs.Names.{Settling, Exception}
 use Rattle.supervisor.specs.Step.{start_of, step_of}
@@ -67,7 +67,7 @@ abbrev pub Taken : ℕ → Type 0
 Taken silence = (silence ≡ 0) ⊎ ((shortest_silence ≤ silence) × (silence ≤ longest_silence))
 
 -- an answer of ours, and a run
-abbrev pub reply_of : Answer → Reply Supervisor
+abbrev pub reply_of : Numbered → Reply Supervisor
 reply_of r = record { answer = r.answer; phase = r.phase; attempt = r.attempt; state = r.state }
 
 -- OURS: `Supervisor::start`, `Supervisor::step` and `Run::over`
@@ -89,5 +89,5 @@ abbrev pub after : Supervisor → List ℕ → ℕ → Supervisor
 after s l n = steps s (take n l)
 
 -- the answer to the code at the place p
-abbrev pub answer_to : Supervisor → List ℕ → ℕ → Answer
+abbrev pub answer_to : Supervisor → List ℕ → ℕ → Numbered
 answer_to s l p = step_of (after s l p) (at l p)

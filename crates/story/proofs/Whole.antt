@@ -11,11 +11,11 @@ use lib.ListN.{length, take}
 use lib.Seq.{take-suc, take-length}
 use Rattle.answer.specs.Answer.{answer, held}
 use Rattle.supervisor.specs.declared.Supervisor.{Supervisor}
-use Rattle.supervisor.specs.declared.Answer.{Answer}
+use Rattle.supervisor.specs.Step.{Numbered}
 use Rattle.supervisor.specs.Phases.{in_attempt}
 use Rattle.supervisor.specs.Step.{step_of, state_refusals}
 use Rattle.supervisor.specs.Step.{start_of as supervisor_start}
-use Rattle.startup.specs.declared.Run.{Run}
+use Rattle.startup.specs.Run.{Run}
 use Rattle.startup.specs.Run.{goes_on, opens, ends, noted, taken_of, run_from, begun}
 use Rattle.startup.specs.Run.{event_of as attempt_event}
 use Rattle.startup.specs.Reports.{at, one, upto, count}
@@ -28,7 +28,7 @@ use Rattle.startup.proofs.Simulates.{after-suc}
 use Rattle.startup.proofs.Three.{open-run, in-run, meant-range, started, answered-either}
 use Rattle.startup.proofs.Agreement.{run-agrees}
 use Rattle.story.specs.declared.Story.{Story}
-use Rattle.story.specs.declared.Event.{Event}
+use Rattle.story.specs.Events.{Event}
 use Rattle.story.specs.Events.{most, story, beginning, refused_with, told, event_of, start_with, start_of, story_of}
 use Rattle.story.specs.Whole.{Tells, TellsEvent}
 use Rattle.story.proofs.Laws.{event-told}
@@ -38,7 +38,7 @@ use Rattle.story.proofs.Last.{last_at, entered_by, ended_by, since-by}
 -- ---- code by code
 
 -- the story of a start
-start-story : (g : Answer) → (start_with g).story ≡ beginning g.state
+start-story : (g : Numbered) → (start_with g).story ≡ beginning g.state
 start-story g = go g.answer
   where
     b : Story

@@ -1,8 +1,10 @@
 -- The story of a log: for each code an event, over the supervisor's own definitions (supervisor: start_of, step_of, in_attempt; startup: event_of).
-use Rattle.std.specs.Prelude.{ℕ, ◌+◌, cond, not, ◌||◌, List, [], ◌∷◌, leb, ltb, eqb}
+use Rattle.std.specs.Prelude.{ℕ, ◌+◌, cond, not, ◌||◌, List, [], ◌∷◌, Result, Ok, Err, leb, ltb, eqb}
+use Rattle.answer.specs.declared.Refused.{Refused}
 use Rattle.answer.specs.Answer.{Refusal, refuse, answer, held}
+use Rattle.answer.specs.Given.{number_of as refusal_number}
 use Rattle.supervisor.specs.declared.Supervisor.{Supervisor}
-use Rattle.supervisor.specs.declared.Answer.{Answer}
+use Rattle.supervisor.specs.Step.{Numbered}
 use Rattle.supervisor.specs.Phases.{in_attempt}
 use Rattle.supervisor.specs.Step.{step_of}
 use Rattle.supervisor.specs.Step.{start_of as supervisor_start}
@@ -10,7 +12,16 @@ use Rattle.startup.specs.Reports.{one}
 use Rattle.startup.specs.Run.{event_of as attempt_event}
 use Rattle.story.specs.declared.Outcome.{Outcome}
 use Rattle.story.specs.declared.Story.{Story}
-use Rattle.story.specs.declared.Event.{Event}
+use Rattle.story.specs.declared.Event.{Event as Given}
+
+-- what a code did, with the answer's number
+pub record Event : Type 0 where
+  pub answer : ℕ
+  pub kind : ℕ
+  pub code : ℕ
+  pub attempt : ℕ
+  pub ticks : ℕ
+  pub story : Story
 
 -- the ticks, and the attempts, that a story has at most
 abbrev pub most : ℕ
@@ -35,6 +46,15 @@ beginning s = story s 0 0 0 no_outcome
 -- an answer other than 0: the other numbers are 0 and the story is the one handed in
 abbrev pub refused_with : Story → ℕ → Event
 refused_with s n = record { answer = n; kind = 0; code = 0; attempt = 0; ticks = 0; story = s }
+
+-- an event that the code gives, with its number 0
+abbrev pub numbers : Given → Event
+numbers e = record { answer = 0; kind = e.kind; code = e.code; attempt = e.attempt; ticks = e.ticks; story = e.story }
+
+-- a Result so: with a refusal its number, and the story that was handed in
+abbrev pub numbered : Story → Result Given Refused → Event
+numbered old (Ok e) = numbers e
+numbered old (Err e) = refused_with old (refusal_number e)
 
 -- what there is to tell of a code that took one state to another, where startup's event of the two phases is e: that, 1 an attempt opened,
 -- 2 it ended in data mode, 3 in the exception state; else 4 where another phase was entered; else nothing of a tick, 5 of an 8, with which
@@ -92,7 +112,7 @@ abbrev pub refusals : ℕ → Story → List Refusal
 refusals n s = refuse n (not (eqb n 0)) ∷ refuse 4 (leb most s.clock) ∷ refuse 4 (leb most s.attempts) ∷ []
 
 -- the event of a code to which the supervisor's step gave this
-abbrev pub event_with : Answer → Story → ℕ → Event
+abbrev pub event_with : Numbered → Story → ℕ → Event
 event_with g s c =
     held (answer (refusals g.answer s)) (refused_with s (answer (refusals g.answer s))) (told s g.state c)
 
@@ -101,7 +121,7 @@ abbrev pub event_of : Story → ℕ → Event
 event_of s c = event_with (step_of s.state c) s c
 
 -- the start of a story from what the supervisor's start gave: an event too, Ready is entered at tick 0
-abbrev pub start_with : Answer → Event
+abbrev pub start_with : Numbered → Event
 start_with g =
     held g.answer (refused_with (beginning g.state) g.answer)
     (record { answer = 0; kind = 4; code = 0; attempt = 0; ticks = 0; story = beginning g.state })

@@ -7,7 +7,7 @@ use Rattle.startup.specs.Attempts.{needs_of, meant, StillOpen, EndsInData, EndsI
 use Rattle.startup.specs.Make.{steps, after}
 use Rattle.startup.specs.Scan.{attempts as attempts_of}
 use Rattle.story.specs.declared.Story.{Story}
-use Rattle.story.specs.declared.Event.{Event}
+use Rattle.story.specs.Events.{Event}
 use Rattle.story.specs.Ended.{Ended, Since}
 
 -- the story s of the list l, from a start with this end and silence

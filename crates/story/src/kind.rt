@@ -1,4 +1,5 @@
 // What there is to tell of a code, by number. The first four are those of a run's attempt (startup).
+// Stays: numbers, since `storytext::put_event` takes an event of any kind.
 
 // A tick in which nothing changed.
 pub const NOTHING: u32 = 0;

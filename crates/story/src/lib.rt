@@ -2,11 +2,13 @@
 #![tactic(auto)]
 
 ghost use Rattle.std.specs.Prelude.{◌≡◌, cond, ◌≤◌, ◌<◌, eqb, ltb};
-ghost use Rattle.startup.specs.Reports.{one};
-ghost use Rattle.story.specs.Events.{most, outcome, beginning, refused_with, kind_of, since_opening, number_of, told};
-ghost use Rattle.story.specs.Events.{start_of, event_of};
+ghost use Rattle.supervisor.specs.Step.{none};
+ghost use Rattle.startup.specs.Run.{outcome_number};
+ghost use Rattle.story.specs.Events.{most, outcome, beginning, kind_of, since_opening, number_of, told};
+ghost use Rattle.story.specs.Events.{numbers, numbered, start_of, event_of};
 
-use startup::Run;
+use answer::Refused;
+use startup::Outcome as Became;
 use supervisor::{Supervisor, code};
 
 pub mod kind;
@@ -14,7 +16,8 @@ pub mod kind;
 // How an attempt ended.
 #[derive(Clone, Copy)]
 pub struct Outcome {
-    // In data mode or in the exception state (startup's Run::DATA and EXCEPTION), and NONE where none has ended.
+    // In data mode or in the exception state, by startup's number, and 0 where none has ended.
+    // Stays: a number, since `storytext::in_data_mode` and `put_end` take a story with any.
     pub how: u32,
     // The ticks that it took.
     pub ticks: u32,
@@ -38,10 +41,9 @@ pub struct Story {
     pub last: Outcome,
 }
 
-// What a code did. With any answer but 0 the other numbers are 0 and the story is the one handed in.
+// What a code did.
 #[derive(Clone, Copy)]
 pub struct Event {
-    pub answer: u32,
     // What there is to tell, by number (src/kind.rt).
     pub kind: u32,
     // The code that did it.
@@ -59,22 +61,17 @@ impl Story {
     pub const MOST: u32 = 1000000000;
 
     // A card that is ready. What the supervisor's start refuses, this does.
-    pub fn start(end: u32, silence: u32) -> Event
-        ensures { result ≡ start_of end silence }
+    pub fn start(end: u32, silence: u32) -> Result<Event, Refused>
+        ensures { numbered (beginning none) result ≡ start_of end silence }
     {
-        let given = Supervisor::start(end, silence);
-        let story = Self::begun(given.state);
-        if given.answer != answer::DONE {
-            return story.refused(given.answer);
-        }
-        Event {
-            answer: answer::DONE,
+        let given = Supervisor::start(end, silence)?;
+        Ok(Event {
             kind: kind::ENTERED,
             code: 0,
             attempt: 0,
             ticks: 0,
-            story,
-        }
+            story: Self::begun(given.state),
+        })
     }
 
     // No code has come yet.
@@ -82,7 +79,7 @@ impl Story {
         ensures { result ≡ beginning state }
     {
         let last = Outcome {
-            how: Run::NONE,
+            how: 0,
             ticks: 0,
             phase: 0,
             code: 0,
@@ -97,50 +94,27 @@ impl Story {
     }
 
     // One code more. What the supervisor's step refuses, this does; a story at its most is 4.
-    pub fn step(self, code: u32) -> Event
-        ensures { result ≡ event_of self code }
+    pub fn step(self, code: u32) -> Result<Event, Refused>
+        ensures { numbered self result ≡ event_of self code }
     {
-        let state = self.state;
-        let given = state.step(code);
-        if given.answer != answer::DONE {
-            return self.refused(given.answer);
+        let given = self.state.step(code)?;
+        if Self::MOST <= self.clock || Self::MOST <= self.attempts {
+            return Err(Refused::Range);
         }
-        if Self::MOST <= self.clock {
-            return self.refused(answer::RANGE);
-        }
-        if Self::MOST <= self.attempts {
-            return self.refused(answer::RANGE);
-        }
-        let next = given.state;
-        self.told(next, code)
-    }
-
-    // The answer with this number, and the story as it was handed in.
-    fn refused(self, number: u32) -> Event
-        ensures { result ≡ refused_with self number }
-    {
-        Event {
-            answer: number,
-            kind: kind::NOTHING,
-            code: 0,
-            attempt: 0,
-            ticks: 0,
-            story: self,
-        }
+        Ok(self.told(given.state, code))
     }
 
     // The event of a code that the supervisor took, with its next state.
     fn told(self, next: Supervisor, code: u32) -> Event
         requires { (self.clock < most) × (self.attempts < most) × (self.state.attempt ≤ 14999) }
-        ensures { result ≡ told self next code }
+        ensures { numbers result ≡ told self next code }
     {
         let state = self.state;
         let event = startup::event(state.phase, next.phase);
         let ticks = since_opening(state, code);
-        let clock = self.clock + one(code == code::TICK);
-        let attempts = self.attempts + one(event == Run::OPEN);
-        let before = self.last;
-        let last = before.then(event, ticks, state.phase, code);
+        let clock = self.clock + u32::from(code == code::TICK);
+        let attempts = self.attempts + u32::from(matches!(event, Some(Became::Open)));
+        let last = self.last.then(event, ticks, state.phase, code);
         let story = Story {
             state: next,
             clock,
@@ -149,7 +123,6 @@ impl Story {
             last,
         };
         Event {
-            answer: answer::DONE,
             kind: kind_of(state, next, code),
             code,
             attempt: number_of(state.phase, event, attempts),
@@ -161,18 +134,18 @@ impl Story {
 
 impl Outcome {
     // The last attempt that has ended, after this event: another one, where it ended an attempt.
-    fn then(self, event: u32, ticks: u32, phase: u32, code: u32) -> Outcome
-        ensures { result ≡ cond (ltb 1 event) (outcome event ticks phase code) self }
+    fn then(self, event: Option<Became>, ticks: u32, phase: u32, code: u32) -> Outcome
+        ensures { result ≡ cond (ltb 1 (outcome_number event)) (outcome (outcome_number event) ticks phase code) self }
     {
-        if Run::OPEN < event {
-            return Outcome {
-                how: event,
+        match event {
+            None | Some(Became::Open) => self,
+            Some(how) => Outcome {
+                how: how as u32,
                 ticks,
                 phase,
                 code,
-            };
+            },
         }
-        self
     }
 }
 
@@ -183,50 +156,29 @@ fn entered_at(before: u32, after: u32, entered: u32, clock: u32) -> u32
     if before == after { entered } else { clock }
 }
 
-// 1 where a test holds, else 0.
-fn one(test: bool) -> u32
-    ensures { result ≡ one test }
-{
-    if test { 1 } else { 0 }
-}
-
 // What there is to tell of a code that took one state to another.
 fn kind_of(before: Supervisor, after: Supervisor, code: u32) -> u32
     ensures { result ≡ kind_of before after code }
 {
-    let event = startup::event(before.phase, after.phase);
-    if event != Run::NONE {
-        return event;
+    match startup::event(before.phase, after.phase) {
+        Some(event) => event as u32,
+        None if before.phase != after.phase => kind::ENTERED,
+        None if code == code::TICK => kind::NOTHING,
+        None if code == code::ABNORMAL => kind::AGAIN,
+        None if before.converged != after.converged || before.seen != after.seen => kind::HEARD,
+        None => kind::IGNORED,
     }
-    if before.phase != after.phase {
-        return kind::ENTERED;
-    }
-    if code == code::TICK {
-        return kind::NOTHING;
-    }
-    if code == code::ABNORMAL {
-        return kind::AGAIN;
-    }
-    if before.converged != after.converged {
-        return kind::HEARD;
-    }
-    if before.seen != after.seen {
-        return kind::HEARD;
-    }
-    kind::IGNORED
 }
 
 // The attempt's number where the code came in it or opened it, else 0.
-fn number_of(phase: u32, event: u32, attempts: u32) -> u32
-    ensures { result ≡ number_of phase event attempts }
+fn number_of(phase: u32, event: Option<Became>, attempts: u32) -> u32
+    ensures { result ≡ number_of phase (outcome_number event) attempts }
 {
-    if supervisor::in_attempt(phase) {
-        return attempts;
+    if supervisor::in_attempt(phase) || matches!(event, Some(Became::Open)) {
+        attempts
+    } else {
+        0
     }
-    if event == Run::OPEN {
-        return attempts;
-    }
-    0
 }
 
 // In an attempt the ticks since its opening, that of the code too, else 0.
@@ -235,7 +187,7 @@ fn since_opening(state: Supervisor, code: u32) -> u32
     ensures { result ≡ since_opening state code }
 {
     if supervisor::in_attempt(state.phase) {
-        state.attempt + one(code == code::TICK)
+        state.attempt + u32::from(code == code::TICK)
     } else {
         0
     }

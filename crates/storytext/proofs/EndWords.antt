@@ -21,16 +21,6 @@ use Rattle.storytext.specs.Ending.{in_data_mode, lasts, rest_text, left_text, wa
 use Rattle.storytext.specs.Ending.{verdict_text, last_tick, end_text, reason_text, refused_text}
 use Rattle.storytext.specs.Words.{end_words, attempt_part, now_part}
 
--- k phrases of nothing
-abbrev pub noughts : ℕ → List ℕ
-noughts zero = []
-noughts (suc k) = 0 ∷ 0 ∷ noughts k
-
-nothing : (k : ℕ) → phrases end_words (noughts k) ≡ []
-unfolding phrases end_words row_of row_by phrase
-nothing zero = refl
-nothing (suc k) = nothing k
-
 -- ---- phrases of an attempt
 
 last-said : (t : ℕ) → phrase_of end_words 7 t ≡ last_tick t
@@ -101,7 +91,7 @@ module _ (s : Story) (a b c : ℕ) (qa : a ≡ cond (ltb 10 s.state.phase) 0 (10
     (qc : c ≡ lack_of s.state)
   where
     -- an attempt that is still trying, by the rows that the code finds
-    pub trying-said : phrases end_words (7 ∷ s.clock ∷ 8 ∷ s.attempts ∷ a ∷ 0 ∷ 21 ∷ s.state.attempt ∷ 22 ∷ b ∷ c ∷ 0 ∷ noughts 1)
+    pub trying-said : phrases end_words (7 ∷ s.clock ∷ 8 ∷ s.attempts ∷ a ∷ 0 ∷ 21 ∷ s.state.attempt ∷ 22 ∷ b ∷ c ∷ 0 ∷ [])
         ≡ last_tick s.clock ++ trying_text s
     unfolding phrases trying_text used_text rest_text
     trying-said =
@@ -111,7 +101,7 @@ module _ (s : Story) (a b c : ℕ) (qa : a ≡ cond (ltb 10 s.state.phase) 0 (10
         (ap₂ ◌++◌ (short-said s.state.phase)
         (ap₂ ◌++◌ (used-said s.state.attempt)
         (ap₂ ◌++◌ (left-said (attempt_ticks - s.state.attempt))
-        (ap₂ ◌++◌ (lack-said s.state) (nothing 1))))))
+        (ap₂ ◌++◌ (lack-said s.state) refl)))))
         ∙ regroup (last_tick s.clock) (numbered "attempt " s.attempts " is still trying in ") (short_name s.state.phase) (text ", ") (seconds s.state.attempt)
         (text " of 15.000 s used") (seconds (attempt_ticks - s.state.attempt)) (text " left") (lack_text (lack_of s.state)))
 
@@ -133,11 +123,11 @@ cause-said c = go (eqb c 0)
 
 -- an attempt that ended in data mode
 pub data-mode-said : (s : Story) → s.last.how ≡ 2
-    → phrases end_words (7 ∷ s.clock ∷ 9 ∷ s.attempts ∷ 23 ∷ s.last.ticks ∷ noughts 4) ≡ last_tick s.clock ++ outcome_text s
+    → phrases end_words (7 ∷ s.clock ∷ 9 ∷ s.attempts ∷ 23 ∷ s.last.ticks ∷ []) ≡ last_tick s.clock ++ outcome_text s
 unfolding phrases how_text why_text outcome_text
 data-mode-said s h =
     simp (eq-eqb s.last.how 2 h)
-    (ap₂ ◌++◌ (last-said s.clock) (ap₂ ◌++◌ (ended-head s.attempts) (ap₂ ◌++◌ (data-said s.last.ticks) (nothing 4)))
+    (ap₂ ◌++◌ (last-said s.clock) (ap₂ ◌++◌ (ended-head s.attempts) (ap₂ ◌++◌ (data-said s.last.ticks) refl))
     ∙ again (last_tick s.clock) (numbered "attempt " s.attempts " ended in ") (text "data mode after ") (seconds s.last.ticks))
   where
     again : (a h d t : List ℕ) → a ++ (h ++ ((d ++ t) ++ [])) ≡ a ++ (h ++ d ++ t ++ [])
@@ -146,7 +136,7 @@ data-mode-said s h =
 -- an attempt that ended in the exception state, by the rows that the code finds
 pub exception-mode-said : (s : Story) (a b : ℕ) → (s.last.how ≡ 2 → ⊥) → a ≡ cond (eqb s.last.code 0) 25 26
     → b ≡ cond (ltb 10 s.last.phase) 0 (10 + s.last.phase)
-    → phrases end_words (7 ∷ s.clock ∷ 9 ∷ s.attempts ∷ 24 ∷ s.last.ticks ∷ a ∷ 0 ∷ b ∷ 0 ∷ noughts 2) ≡ last_tick s.clock ++ outcome_text s
+    → phrases end_words (7 ∷ s.clock ∷ 9 ∷ s.attempts ∷ 24 ∷ s.last.ticks ∷ a ∷ 0 ∷ b ∷ 0 ∷ []) ≡ last_tick s.clock ++ outcome_text s
 unfolding phrases how_text why_text outcome_text
 exception-mode-said s a b h qa qb =
     simp (ne_eqb s.last.how 2 h)
@@ -154,7 +144,7 @@ exception-mode-said s a b h qa qb =
     (ap₂ ◌++◌ (last-said s.clock)
     (ap₂ ◌++◌ (ended-head s.attempts)
     (ap₂ ◌++◌ (exception-said s.last.ticks)
-    (ap₂ ◌++◌ (cause-said s.last.code) (ap₂ ◌++◌ (short-said s.last.phase) (nothing 2)))))
+    (ap₂ ◌++◌ (cause-said s.last.code) (ap₂ ◌++◌ (short-said s.last.phase) refl))))
     ∙ again (last_tick s.clock) (numbered "attempt " s.attempts " ended in ") (text "exception after ") (seconds s.last.ticks) (cause_text s.last.code)
     (short_name s.last.phase)))
   where
@@ -162,9 +152,9 @@ exception-mode-said s a b h qa qb =
     again a h d t c n = simp (append_assoc, append-nil)
 
 -- no attempt yet
-pub none_said : (t : ℕ) → phrases end_words (7 ∷ t ∷ noughts 6) ≡ last_tick t ++ []
+pub none_said : (t : ℕ) → phrases end_words (7 ∷ t ∷ []) ≡ last_tick t ++ []
 unfolding phrases
-none_said t = ap₂ ◌++◌ (last-said t) (nothing 6)
+none_said t = ap₂ ◌++◌ (last-said t) refl
 
 -- ---- the verdict on an attempt, by its cases
 
@@ -257,9 +247,9 @@ not-told s = go (in_attempt s.state.phase) (eqb s.last.how 0) (in_data_mode s.st
     go false false false q = refl
 
 -- nothing more, and the end of the line
-pub line-over : (s : Story) → told s ≡ true → phrases end_words (35 ∷ 0 ∷ noughts 6) ≡ now_part s ++ text "\n"
+pub line-over : (s : Story) → told s ≡ true → phrases end_words (35 ∷ 0 ∷ []) ≡ now_part s ++ text "\n"
 unfolding phrases
-line-over s h = rw (all_told s h) (ap₂ ◌++◌ over-said (nothing 6))
+line-over s h = rw (all_told s h) (ap₂ ◌++◌ over-said refl)
 
 module _ (s : Story) (a w t l k m : ℕ) (qa : a ≡ cond (eqb s.last.how 0) 0 (cond (eqb s.last.how 2) 27 28))
     (qw : w ≡ cond (ltb s.state.phase 3) (29 + s.state.phase) (cond (eqb s.state.phase 13) 32 33)) (qt : t ≡ s.clock - s.entered)
@@ -267,13 +257,13 @@ module _ (s : Story) (a w t l k m : ℕ) (qa : a ≡ cond (eqb s.last.how 0) 0 (
     (qk : k ≡ lasts s.state.silence s.state.phase) (qm : m ≡ k - s.state.ticks)
   where
     -- what is now, by the rows that the code finds
-    pub now-said : told s ≡ false → phrases end_words (a ∷ 0 ∷ w ∷ t ∷ l ∷ m ∷ 35 ∷ 0 ∷ noughts 3) ≡ now_part s ++ text "\n"
+    pub now-said : told s ≡ false → phrases end_words (a ∷ 0 ∷ w ∷ t ∷ l ∷ m ∷ 35 ∷ 0 ∷ []) ≡ now_part s ++ text "\n"
     unfolding phrases left_text now_text
     now-said h =
         rw (not-told s h, qa, qw, qt, ql, qm, qk)
         (ap₂ ◌++◌ (behind-said s.last.how)
         (ap₂ ◌++◌ (wait-said (s.clock - s.entered) s.state.phase)
-        (ap₂ ◌++◌ (limit-said s.state.phase (lasts s.state.silence s.state.phase - s.state.ticks)) (ap₂ ◌++◌ over-said (nothing 3))))
+        (ap₂ ◌++◌ (limit-said s.state.phase (lasts s.state.silence s.state.phase - s.state.ticks)) (ap₂ ◌++◌ over-said refl)))
         ∙ again (cond (eqb s.last.how 0) [] (behind_text s.last.how)) (wait_text s.state.phase ++ seconds (s.clock - s.entered) ++ text " so far")
         (left_text s.state) (unheard_text s.state.phase) (text "\n"))
       where
@@ -323,12 +313,12 @@ line-said : (n : ℕ) → phrase_of refused_words 6 n ≡ decimal n
 unfolding refused_words row_of row_by phrase marked
 line-said n = append-nil (decimal n)
 
-rest-said : phrases refused_words (7 ∷ 0 ∷ noughts 3) ≡ text "\n"
+rest-said : phrases refused_words (7 ∷ 0 ∷ []) ≡ text "\n"
 unfolding phrases refused_words row_of row_by phrase marked
 rest-said = refl
 
 -- THE LINE of a refusal by the row that the code finds
-pub refused-said : (n l r : ℕ) → r ≡ cond (ltb 4 n) 0 n → phrases refused_words (5 ∷ n ∷ 6 ∷ l ∷ r ∷ 0 ∷ 7 ∷ 0 ∷ noughts 3) ≡ refused_text n l
+pub refused-said : (n l r : ℕ) → r ≡ cond (ltb 4 n) 0 n → phrases refused_words (5 ∷ n ∷ 6 ∷ l ∷ r ∷ 0 ∷ 7 ∷ 0 ∷ []) ≡ refused_text n l
 unfolding phrases refused_text
 refused-said n l r q =
     rw q (ap₂ ◌++◌ (head-said n) (ap₂ ◌++◌ (line-said l) (ap₂ ◌++◌ (reason-said n) rest-said)))

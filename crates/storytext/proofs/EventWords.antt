@@ -11,7 +11,7 @@ use Rattle.ascii.specs.Text.{text, decimal, decimal_in}
 use Rattle.forms.specs.Forms.{row_by, row_of}
 use Rattle.forms.proofs.Laws.{each}
 use Rattle.phrases.specs.Phrases.{marked, phrase, phrase_of, phrases}
-use Rattle.story.specs.declared.Event.{Event}
+use Rattle.story.specs.Events.{Event}
 use Rattle.storytext.specs.Events.{numbered, seconds, ticks_text, report_name, name_of, phase_text, verb_of, attempt_text, code_text, when_text, event_text}
 
 -- the table of the code

@@ -15,7 +15,7 @@ use Rattle.supervisor.specs.Names.{Ready, Gap, Await, Cr, Hearing, Quiet, Sc, Sr
 use Rattle.supervisor.specs.Phases.{in_attempt}
 use Rattle.story.specs.declared.Outcome.{Outcome}
 use Rattle.story.specs.declared.Story.{Story}
-use Rattle.story.specs.declared.Event.{Event}
+use Rattle.story.specs.Events.{Event}
 use Rattle.supervisor.specs.Limits.{attempt_ticks}
 use Rattle.phrases.specs.Phrases.{thousandths}
 use Rattle.storytext.specs.Events.{seconds, ticks_text, report_name, name_of, phase_text, verb_of, attempt_text, code_text, when_text, event_text}

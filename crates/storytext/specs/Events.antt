@@ -5,7 +5,7 @@ use Rattle.ascii.specs.Text.{text, decimal}
 use Rattle.phrases.specs.Phrases.{thousandths}
 use Rattle.supervisor.specs.declared.Supervisor.{Supervisor}
 use Rattle.supervisor.specs.Names.{Ready, Gap, Await, Cr, Hearing, Quiet, Sc, Sr, Tc, Tr, Fc, Settling, Valid, Exception}
-use Rattle.story.specs.declared.Event.{Event}
+use Rattle.story.specs.Events.{Event}
 
 -- ---- numbers
 

@@ -1,4 +1,5 @@
 // The phrases of a story's text, a row each, counted from 0 (crate phrases): # is the phrase's number, @ the same in seconds, $ ends a line.
+// Stays: rows are numbers, since most are found by adding a code's, kind's or phase's number to the first of their rows (`KINDS + kind`).
 
 // No phrase, in either table.
 pub const NONE: u32 = 0;
@@ -156,3 +157,19 @@ pub const UNHEARD: u32 = 34;
 
 // The end of the line.
 pub const OVER: u32 = 35;
+
+// The line of a refusal: the reasons' rows are the answers' numbers.
+pub const REFUSED: [u8; 150] = *b"\n\
+    : the log has more than 1048576 octets\n\
+    : this line is no code\n\n\
+    : no line counts so many ticks, or the log has over 1000000000\n\
+    refused # at line \n#\n$\n";
+
+// What is refused.
+pub const REFUSAL: u32 = 5;
+
+// The number of the log's line.
+pub const LINE: u32 = 6;
+
+// The end of the line.
+pub const LINE_OVER: u32 = 7;

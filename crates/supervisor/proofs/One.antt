@@ -1,21 +1,38 @@
 -- One result per call: any two results that a promise allows for the same call are equal. Each promise is an equation. Assumes nothing.
 use Prim.Native.Nat.{ℕ}
-use mathlib.Core.Path.{◌≡◌, refl, sym, ◌∙◌}
+use mathlib.Core.Path.{◌≡◌, refl, sym, ap, ◌∙◌}
 use mathlib.Core.Bool.{Bool, true}
+use Rattle.std.specs.Prelude.{Result, Ok, Err}
+use Rattle.answer.specs.declared.Refused.{Refused}
 use Rattle.answer.specs.Answer.{answer, in_order}
+use Rattle.answer.specs.Given.{answer_of}
+use Rattle.answer.proofs.Given.{result-one}
 use Rattle.supervisor.specs.declared.Supervisor.{Supervisor}
 use Rattle.supervisor.specs.declared.Answer.{Answer}
 use Rattle.supervisor.specs.Phases.{in_attempt}
-use Rattle.supervisor.specs.Step.{state_refusals, step_refusals, start_refusals, step_of, start_of}
+use Rattle.supervisor.specs.Step.{Numbered, numbered, none, state_refusals, step_refusals, start_refusals, step_of, start_of}
 
-pub start-one : (end silence : ℕ) (r r' : Answer) → r ≡ start_of end silence → r' ≡ start_of end silence → r ≡ r'
-start-one end silence r r' p q = p ∙ sym q
+-- two results that are the same with their numbers
+pub numbered-one : (s : Supervisor) (r r' : Result Answer Refused) → numbered s r ≡ numbered s r' → r ≡ r'
+numbered-one s r r' e = result-one r r' (sym (number r) ∙ ap (λ (n : Numbered). n.answer) e ∙ number r') value
+  where
+    number : (r : Result Answer Refused) → (numbered s r).answer ≡ answer_of r
+    number (Ok v) = refl
+    number (Err n) = refl
 
-pub step-one : (s : Supervisor) (c : ℕ) (r r' : Answer) → r ≡ step_of s c → r' ≡ step_of s c → r ≡ r'
-step-one s c r r' p q = p ∙ sym q
+    value : (v w : Answer) → r ≡ Ok v → r' ≡ Ok w → v ≡ w
+    value v w p q =
+        let f : numbered s (Ok v) ≡ numbered s (Ok w) = ap (numbered s) (sym p) ∙ e ∙ ap (numbered s) q in
+        λ i. record { phase = (f i).phase; attempt = (f i).attempt; state = (f i).state }
 
-pub refusal-one : (s : Supervisor) (r r' : ℕ) → r ≡ answer (state_refusals s) → r' ≡ answer (state_refusals s) → r ≡ r'
-refusal-one s r r' p q = p ∙ sym q
+pub start-one : (end silence : ℕ) (r r' : Result Answer Refused) → numbered none r ≡ start_of end silence → numbered none r' ≡ start_of end silence → r ≡ r'
+start-one end silence r r' p q = numbered-one none r r' (p ∙ sym q)
+
+pub step-one : (s : Supervisor) (c : ℕ) (r r' : Result Answer Refused) → numbered s r ≡ step_of s c → numbered s r' ≡ step_of s c → r ≡ r'
+step-one s c r r' p q = numbered-one s r r' (p ∙ sym q)
+
+pub allowed-one : (s : Supervisor) (r r' : Result Unit Refused) → answer_of r ≡ answer (state_refusals s) → answer_of r' ≡ answer (state_refusals s) → r ≡ r'
+allowed-one s r r' p q = result-one r r' (p ∙ sym q) (λ v w x y. refl)
 
 pub in-attempt-one : (phase : ℕ) (r r' : Bool) → r ≡ in_attempt phase → r' ≡ in_attempt phase → r ≡ r'
 in-attempt-one phase r r' p q = p ∙ sym q

@@ -1,6 +1,8 @@
 -- A start and a step of the supervisor, over the table of phases.
-use Rattle.std.specs.Prelude.{ℕ, cond, not, List, [], ◌∷◌, ltb, eqb}
+use Rattle.std.specs.Prelude.{ℕ, cond, not, List, [], ◌∷◌, Result, Ok, Err, ltb, eqb}
+use Rattle.answer.specs.declared.Refused.{Refused}
 use Rattle.answer.specs.Answer.{Refusal, refuse, answer, held}
+use Rattle.answer.specs.Given.{number_of}
 use Rattle.supervisor.specs.declared.Supervisor.{Supervisor}
 use Rattle.supervisor.specs.declared.Answer.{Answer}
 use Rattle.supervisor.specs.Limits.{most_attempt, most_ticks, default_silence, shortest_silence, longest_silence}
@@ -24,9 +26,21 @@ state_refusals s =
 abbrev pub step_refusals : Supervisor → ℕ → List Refusal
 step_refusals s c = refuse 2 (ltb 8 c) ∷ state_refusals s
 
+-- what a start and a step give, with the answer's number
+pub record Numbered : Type 0 where
+  pub answer : ℕ
+  pub phase : ℕ
+  pub attempt : ℕ
+  pub state : Supervisor
+
+-- a Result so: 0 with what it gives; or with a refusal its number, every other number 0, and the state that was handed in
+abbrev pub numbered : Supervisor → Result Answer Refused → Numbered
+numbered old (Ok a) = record { answer = 0; phase = a.phase; attempt = a.attempt; state = a.state }
+numbered old (Err e) = record { answer = number_of e; phase = 0; attempt = 0; state = old }
+
 -- "Each answer gives the phase and, in an attempt, the ticks since its opening (else 0)." With n other than 0 the state is the one
 -- handed in and the other numbers are 0.
-abbrev pub answered : ℕ → Supervisor → Supervisor → Answer
+abbrev pub answered : ℕ → Supervisor → Supervisor → Numbered
 answered n old new = record {
   answer = n;
   phase = held n 0 new.phase;
@@ -35,7 +49,7 @@ answered n old new = record {
 }
 
 -- THE STEP
-abbrev pub step_of : Supervisor → ℕ → Answer
+abbrev pub step_of : Supervisor → ℕ → Numbered
 step_of s c = answered (answer (step_refusals s c)) s (moved s c)
 
 -- no state: every number 0, which each later step refuses, since a silence of 0 is outside its range
@@ -59,5 +73,5 @@ abbrev pub fresh : ℕ → ℕ → Supervisor
 fresh end silence = record { end = end; phase = Ready; ticks = 0; attempt = 0; silence = silence; converged = 0; seen = 0 }
 
 -- THE START
-abbrev pub start_of : ℕ → ℕ → Answer
+abbrev pub start_of : ℕ → ℕ → Numbered
 start_of end silence = answered (answer (start_refusals end silence)) none (fresh end (silence_of silence))

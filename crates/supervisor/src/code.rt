@@ -1,4 +1,5 @@
 // The nine codes that a step takes (clauses 4.1.2 and 4.1.8): a millisecond, and eight reports that take no time.
+// Stays: numbers, since C hands in any code (sdsl_step), and one above 8 is answered 2 (`step_refusals`).
 
 // One millisecond.
 pub const TICK: u32 = 0;

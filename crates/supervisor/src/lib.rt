@@ -1,11 +1,14 @@
 // The start-up supervisor (000, clauses 4.1.2 and 4.1.8): a state by value, and one step for each code.
 #![tactic(auto)]
 
-ghost use Rattle.std.specs.Prelude.{ℕ, ◌≡◌, ◌||◌, ltb};
+ghost use Rattle.std.specs.Prelude.{◌≡◌, ◌≤◌, ◌||◌, true, ltb, Ok};
 ghost use Rattle.answer.specs.Answer.{answer};
+ghost use Rattle.answer.specs.Given.{answer_of};
 ghost use Rattle.supervisor.specs.Limits.{most_attempt, most_ticks, shortest_silence, longest_silence};
 ghost use Rattle.supervisor.specs.Phases.{phases_of, is_of, in_attempt};
-ghost use Rattle.supervisor.specs.Step.{state_refusals, answered, step_of, fresh, silence_of, start_of};
+ghost use Rattle.supervisor.specs.Step.{state_refusals, answered, numbered, step_of, none, fresh, silence_of, start_of};
+
+use answer::Refused;
 
 pub mod code;
 pub mod phase;
@@ -30,14 +33,22 @@ pub struct Supervisor {
     pub seen: u32,
 }
 
-// What a start and a step give. With any answer but 0 the other numbers are 0 and the state is the one handed in.
+// What a start and a step give.
 #[derive(Drop)]
 pub struct Answer {
-    pub answer: u32,
     pub phase: u32,
     // In an attempt the ticks since its opening, else 0.
     pub attempt: u32,
     pub state: Supervisor,
+}
+
+// A legal state: its phase is one of its end, and one more tick wraps no number.
+#[derive(Clone, Copy)]
+struct Legal {
+    state: Supervisor,
+    ghost of_end: { is_of state.phase (phases_of state.end state.silence) ≡ true },
+    ghost attempt: { state.attempt ≤ most_attempt },
+    ghost ticks: { state.ticks ≤ most_ticks },
 }
 
 impl Supervisor {
@@ -70,32 +81,13 @@ impl Supervisor {
     // The longest.
     pub const LONGEST_SILENCE: u32 = 60000;
 
-    // No state: every number is 0, which each later step refuses.
-    const NONE: Supervisor = Supervisor {
-        end: 0,
-        phase: 0,
-        ticks: 0,
-        attempt: 0,
-        silence: 0,
-        converged: 0,
-        seen: 0,
-    };
-
-    // A card that is ready. The end is 2 where unknown, a silence out of its range 4, and then there is no state.
-    pub fn start(end: u32, silence: u32) -> Answer
-        ensures { result ≡ start_of end silence }
+    // A card that is ready. The end is 2 where unknown, a silence out of its range 4.
+    pub fn start(end: u32, silence: u32) -> Result<Answer, Refused>
+        ensures { numbered none result ≡ start_of end silence }
     {
         let state = Self::fresh(end, silence);
-        let refusal = state.refusal();
-        match refusal {
-            answer::DONE => state.answered(),
-            _ => Answer {
-                answer: refusal,
-                phase: 0,
-                attempt: 0,
-                state: Self::NONE,
-            },
-        }
+        state.allowed()?;
+        Ok(state.answered())
     }
 
     // A card that is ready. A silence of 0 stands for the default.
@@ -117,86 +109,65 @@ impl Supervisor {
         }
     }
 
-    // A code above 8 and an unknown end are 2, a state that is not legal is 4, and then the state comes back equal.
-    pub fn step(self, code: u32) -> Answer
-        ensures { result ≡ step_of self code }
+    // A code above 8 and an unknown end are 2, a state that is not legal is 4.
+    pub fn step(self, code: u32) -> Result<Answer, Refused>
+        ensures { numbered self result ≡ step_of self code }
     {
         if code::ABNORMAL < code {
-            return Answer {
-                answer: answer::UNKNOWN,
-                phase: 0,
-                attempt: 0,
-                state: self,
-            };
+            return Err(Refused::Unknown);
         }
-        let refusal = self.refusal();
-        match refusal {
-            answer::DONE => self.moved(code).answered(),
-            _ => Answer {
-                answer: refusal,
-                phase: 0,
-                attempt: 0,
-                state: self,
-            },
-        }
+        self.allowed()?;
+        let legal = Legal { state: self };
+        Ok(legal.moved(code).answered())
     }
 
-    // What a state is refused with, or 0 where it is legal.
-    pub fn refusal(self) -> u32
-        ensures { result ≡ answer (state_refusals self) }
+    // Whether a state is legal, or what it is refused with.
+    pub fn allowed(self) -> Result<(), Refused>
+        ensures { answer_of result ≡ answer (state_refusals self) }
     {
         if Self::NTU < self.end {
-            answer::UNKNOWN
-        } else if !Self::has_phase(self.end, self.phase)
-            | Self::outside(self.attempt, self.ticks, self.silence)
-        {
-            answer::RANGE
+            Err(Refused::Unknown)
+        } else if !self.has_phase() || self.outside() {
+            Err(Refused::Range)
         } else {
-            answer::DONE
+            Ok(())
         }
     }
 
     // Whether a number is outside its range.
-    fn outside(attempt: u32, ticks: u32, silence: u32) -> bool
-        ensures { result ≡ (ltb most_attempt attempt || (ltb most_ticks ticks || (ltb silence shortest_silence || ltb longest_silence silence))) }
+    fn outside(self) -> bool
+        ensures { result ≡ (ltb most_attempt self.attempt || ltb most_ticks self.ticks
+            || ltb self.silence shortest_silence || ltb longest_silence self.silence) }
     {
-        (Self::ATTEMPT <= attempt)
-            | (Self::MOST_TICKS < ticks)
-            | (silence < Self::SHORTEST_SILENCE)
-            | (Self::LONGEST_SILENCE < silence)
+        Self::ATTEMPT <= self.attempt
+            || Self::MOST_TICKS < self.ticks
+            || !(Self::SHORTEST_SILENCE..=Self::LONGEST_SILENCE).contains(&self.silence)
     }
 
     // Whether the phase is one of the end's. Both ends have Ready, Quiet, Settling, Valid and Exception.
-    fn has_phase(end: u32, phase: u32) -> bool
-        ensures { (silence : ℕ) → result ≡ is_of phase (phases_of end silence) }
+    fn has_phase(self) -> bool
+        ensures { result ≡ is_of self.phase (phases_of self.end self.silence) }
     {
-        match phase {
-            phase::GAP | phase::C_R | phase::S_R | phase::T_R => end == Self::NTU,
-            phase::AWAIT | phase::HEARING | phase::S_C | phase::T_C | phase::F_C => end
+        match self.phase {
+            phase::GAP | phase::C_R | phase::S_R | phase::T_R => self.end == Self::NTU,
+            phase::AWAIT | phase::HEARING | phase::S_C | phase::T_C | phase::F_C => self.end
                 != Self::NTU,
-            _ => phase <= phase::EXCEPTION,
+            _ => self.phase <= phase::EXCEPTION,
         }
     }
 
-    // The answer 0, with the phase and, in an attempt, the ticks since its opening.
+    // The phase and, in an attempt, the ticks since its opening.
     fn answered(self) -> Answer
-        ensures { result ≡ answered 0 self self }
+        ensures { numbered self (Ok result) ≡ answered 0 self self }
     {
-        let phase = self.phase;
-        if in_attempt(phase) {
-            Answer {
-                answer: answer::DONE,
-                phase,
-                attempt: self.attempt,
-                state: self,
-            }
-        } else {
-            Answer {
-                answer: answer::DONE,
-                phase,
-                attempt: 0,
-                state: self,
-            }
+        Answer {
+            phase: self.phase,
+            attempt: if in_attempt(self.phase) {
+                self.attempt
+            } else {
+                0
+            },
+            state: self,
         }
     }
 }
@@ -205,5 +176,5 @@ impl Supervisor {
 pub fn in_attempt(phase: u32) -> bool
     ensures { result ≡ in_attempt phase }
 {
-    (phase::C_R <= phase) & (phase <= phase::F_C)
+    (phase::C_R..=phase::F_C).contains(&phase)
 }

@@ -1,4 +1,5 @@
 // The phases of both ends by number, in the order of a start-up. An attempt is C_r to F_c. specs/Names.antt has the same names.
+// Stays: numbers, since C hands in a state with any phase (sdsl_step), and one that its end has not is answered 4 (`state_refusals`).
 
 // Either end: waits for a 1.
 pub const READY: u32 = 0;

@@ -1,20 +1,18 @@
 -- Laws of the levels: the two maps are inverse, the sixteen differ, are odd and lie from -15 to 15. Assumes nothing.
 use mathlib.Core.Path.{◌≡◌, refl, sym, ap, ◌∙◌}
-use mathlib.Core.Bool.{Bool, true, false, cond}
+use mathlib.Core.Bool.{Bool, true, false, cond, and-true}
 use mathlib.Core.List.{List, [], ◌∷◌}
 use Prim.Native.Nat.{ℕ, suc, ◌+◌, ◌-◌, ◌*◌, ◌/◌, ◌%◌, ◌≤◌, ◌<◌}
 use native.Mathlib.Omega.{arith}
-use native.Mathlib.Nat.{not-suc-le-zero, le_of_suc-le-suc, lt_of_le_of_lt}
-use mir.Syntax.{w32}
-use mir.Val.{SFits}
-use lib.Dec.{T, eqb, leb, ltb, eqb→eq, leb→le}
+use native.Mathlib.Nat.{not-suc-le-zero, le_of_suc-le-suc}
+use lib.Dec.{T, eqb, leb, eqb→eq, leb→le}
 use lib.IntN.{ℤ, pos, negsuc, nat_abs, sub_ℕ, ◌+ℤ◌}
 use lib.ListN.{length}
-use lib.Signed.{mag, lt_z}
-use borrow.Author.Tests.{eq-eqb, ne_eqb, lt-ltb, le-ltb, le-leb, lt-leb, eqb-true, ltb-true, ltb-false}
-use Rattle.answer.proofs.Laws.{refused, passed, given}
-use Rattle.symbol.specs.declared.Level.{Level}
-use Rattle.symbol.specs.Levels.{activation_levels, data_levels, level_at, same_level, place_in, DataLevel, LevelCode}
+use borrow.Author.Tests.{eq-eqb, ne_eqb, lt-ltb, le-ltb, le-leb, lt-leb, eqb-true, leb-true, leb-false}
+use Rattle.std.specs.Prelude.{Ok, Err}
+use Rattle.ranges.specs.Ranges.{between}
+use Rattle.answer.specs.declared.Refused.TheVariants.{Range}
+use Rattle.symbol.specs.Levels.{activation_levels, data_levels, level_at, same_level, place_in, LevelCode}
 use Rattle.symbol.proofs.Numbers.{at_each}
 
 -- activation uses the levels of codes 0011 and 1000
@@ -87,39 +85,32 @@ place-by-rank n h =
     (at_each 31 (λ (k : ℕ). eqb (place_in data_levels (sub_ℕ k 15)) (code_above k)) tt n (omega arith))
 
 -- no level lies below -15 or above 15
-pub place-below : (z : ℤ) → lt_z z (negsuc 14) ≡ true → place_in data_levels z ≡ 16
+pub place-out : (z : ℤ) → between (negsuc 14) (pos 15) z ≡ false → place_in data_levels z ≡ 16
 unfolding place_in
-place-below (pos n) e = let z : ◌≡◌ {A = Bool} false true = e in cc
-place-below (negsuc n) e =
-    let h = ltb-true 14 n e in
-    simp (
-      ne_eqb 14 n (λ e. omega arith),
-      ne_eqb 12 n (λ e. omega arith),
-      ne_eqb 10 n (λ e. omega arith),
-      ne_eqb 8 n (λ e. omega arith),
-      ne_eqb 6 n
-          (λ e. omega arith),
-      ne_eqb 4 n (λ e. omega arith),
-      ne_eqb 2 n (λ e. omega arith),
-      ne_eqb 0 n (λ e. omega arith),
-    )
-
-pub place-over : (z : ℤ) → lt_z (pos 15) z ≡ true → place_in data_levels z ≡ 16
-unfolding place_in
-place-over (pos n) e =
-    let h = ltb-true 15 n e in
+place-out (pos n) e =
+    let h : 15 < n = leb-false n 15 e in
     simp (
       ne_eqb 9 n (λ e. omega arith),
       ne_eqb 11 n (λ e. omega arith),
       ne_eqb 13 n (λ e. omega arith),
       ne_eqb 15 n (λ e. omega arith),
-      ne_eqb 1 n
-          (λ e. omega arith),
+      ne_eqb 1 n (λ e. omega arith),
       ne_eqb 3 n (λ e. omega arith),
       ne_eqb 5 n (λ e. omega arith),
       ne_eqb 7 n (λ e. omega arith),
     )
-place-over (negsuc n) e = let z : ◌≡◌ {A = Bool} false true = e in cc
+place-out (negsuc n) e =
+    let h : 14 < n = leb-false n 14 (sym (and-true (leb n 14)) ∙ e) in
+    simp (
+      ne_eqb 14 n (λ e. omega arith),
+      ne_eqb 12 n (λ e. omega arith),
+      ne_eqb 10 n (λ e. omega arith),
+      ne_eqb 8 n (λ e. omega arith),
+      ne_eqb 6 n (λ e. omega arith),
+      ne_eqb 4 n (λ e. omega arith),
+      ne_eqb 2 n (λ e. omega arith),
+      ne_eqb 0 n (λ e. omega arith),
+    )
 
 -- how far a whole number from -15 to 15 lies above -15
 pub record Above (z : ℤ) : Type 0 where
@@ -128,16 +119,16 @@ pub record Above (z : ℤ) : Type 0 where
   pub is : z +ℤ pos 15 ≡ pos far
   pub same : z ≡ sub_ℕ far 15
 
-pub above : (z : ℤ) → lt_z z (negsuc 14) ≡ false → lt_z (pos 15) z ≡ false → Above z
-above (pos n) lo hi =
+pub above : (z : ℤ) → between (negsuc 14) (pos 15) z ≡ true → Above z
+above (pos n) e =
     record {
       far = n + 15;
-      small = omega (arith, ltb-false 15 n hi);
+      small = omega (arith, leb-true n 15 e);
       is = refl;
       same = rw (le-ltb (n + 15) 15 (omega arith)) (ap pos (omega arith));
     }
-above (negsuc n) lo hi =
-    let h = ltb-false 14 n lo in
+above (negsuc n) e =
+    let h = leb-true n 14 (sym (and-true (leb n 14)) ∙ e) in
     record {
       far = 15 - suc n;
       small = omega arith;
@@ -156,37 +147,16 @@ rank-middle code h k = simp (lt-leb code 7, le-leb code 11)
 pub rank-high : (code : ℕ) → 11 < code → rank code ≡ code - 4
 rank-high code h = simp (lt-leb code 7 (omega arith), lt-leb code 11)
 
--- the level at a code's rank is what is promised of the code
-pub level-given : (code n : ℕ) (r : Level) → code ≤ 15 → rank code ≡ n → (r.answer ≡ 0) × (r.sixteenths ≡ sub_ℕ (2 * n) 15) → DataLevel code r
-level-given code n r h e p =
-    record {
-      answered = p.0 ∙ sym (passed 4 [] (le-ltb 15 code h));
-      level = p.1 ∙ sym (level-by-rank code h ∙ ap (λ (k : ℕ). sub_ℕ (2 * k) 15) e) ∙ sym (given r.answer (pos 0) (level_at data_levels code) p.0);
-    }
-
--- a level that is not in the table is refused
-pub code-refused : (z : ℤ) → place_in data_levels z ≡ 16 → LevelCode z (record { answer = 4; code = 0 })
-code-refused z e = record { answered = sym (refused 4 [] (ap (ltb 15) e)); code = refl }
-
--- a level in the table has the code at its rank
-pub code-given : (z : ℤ) (n : ℕ) → place_in data_levels z ≡ n → n ≤ 15 → LevelCode z (record { answer = 0; code = n })
-code-given z n e h = record { answered = sym (passed 4 [] (le-ltb 15 (place_in data_levels z) (omega arith))); code = sym e }
-
 pub place-odd : (z : ℤ) (a : Above z) → a.far % 2 ≡ 1 → place_in data_levels z ≡ 16
 place-odd z a e = ap (place_in data_levels) a.same ∙ place-by-rank a.far a.small ∙ rw (eq-eqb (a.far % 2) 1 e)
 
 pub place-even : (z : ℤ) (a : Above z) → (a.far % 2 ≡ 1 → ⊥) → place_in data_levels z ≡ rank (a.far / 2)
 place-even z a e = ap (place_in data_levels) a.same ∙ place-by-rank a.far a.small ∙ rw (ne_eqb (a.far % 2) 1 e)
 
--- what is promised of a code in range is its level
-pub level-done : (code : ℕ) (r : Level) → DataLevel code r → code ≤ 15 → r.sixteenths ≡ level_at data_levels code
-level-done code r d h =
-    d.level ∙ given r.answer (pos 0) (level_at data_levels code) (d.answered ∙ passed 4 [] (le-ltb 15 code h))
+-- a level that is not in the table is refused
+pub level_code-refused : (z : ℤ) → place_in data_levels z ≡ 16 → LevelCode z (Err Range)
+level_code-refused z e = record { answered = rw e; code = tt }
 
--- a level fits an i32
-pub level-fits : (code : ℕ) → code ≤ 15 → SFits w32 (level_at data_levels code)
-level-fits code h = record { sfits = lt_of_le_of_lt (mag-abs (level_at data_levels code)) (omega (arith, (odd-and-small code h).1)) }
-  where
-    mag-abs : (z : ℤ) → mag z ≤ nat_abs z
-    mag-abs (pos n) = omega arith
-    mag-abs (negsuc n) = omega arith
+-- a level in the table has the code at its rank
+pub level_code-given : (z : ℤ) (n : ℕ) → place_in data_levels z ≡ n → n ≤ 15 → LevelCode z (Ok n)
+level_code-given z n e h = record { answered = rw (e, le-ltb 15 n h); code = sym e }

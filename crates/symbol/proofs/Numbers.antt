@@ -1,14 +1,11 @@
 -- Laws of whole numbers and of tests over a range. Assumes nothing.
 use mathlib.Core.Path.{◌≡◌, refl, sym, subst}
-use mathlib.Core.Bool.{Bool, true, false, cond, ◌&&◌}
-use Prim.Native.Nat.{ℕ, zero, suc, ◌-◌, ◌≤◌, ◌<◌}
-use native.Mathlib.Omega.{arith}
+use mathlib.Core.Bool.{Bool, true, false, ◌&&◌}
+use Prim.Native.Nat.{ℕ, zero, suc, ◌<◌}
 use native.Mathlib.Nat.{not-suc-le-zero, le_of_suc-le-suc}
 use lib.Arith.{lt_of_le-ne}
-use lib.Dec.{T, eqb, ltb}
-use lib.IntN.{pos, negsuc, sub_ℕ}
-use lib.Signed.{mag}
-use borrow.Author.Tests.{ltb-true, eqb-true, eqb-false}
+use lib.Dec.{T, eqb}
+use borrow.Author.Tests.{eqb-true, eqb-false}
 
 -- whether a test holds at every number below n
 abbrev pub all_below : ℕ → (ℕ → Bool) → Bool
@@ -31,11 +28,3 @@ at_each (suc n) t h k l = by (eqb k n) refl (at_each n t (and_right (t n) (all_b
     by : (b : Bool) → eqb k n ≡ b → (k < n → T (t k)) → T (t k)
     by true e below = subst (λ (i : ℕ). T (t i)) (sym (eqb-true k n e)) (and_left (t n) (all_below n t) h)
     by false e below = below (lt_of_le-ne (le_of_suc-le-suc l) (eqb-false k n e))
-
--- a difference of two numbers below m
-pub sub-mag : (a b m : ℕ) → a < m → b ≤ m → mag (sub_ℕ a b) < m
-sub-mag a b m h k = by (ltb a b) refl
-  where
-    by : (t : Bool) → ltb a b ≡ t → mag (cond t (negsuc (b - suc a)) (pos (a - b))) < m
-    by true e = omega (arith, ltb-true a b e)
-    by false e = omega arith

@@ -1,12 +1,12 @@
 -- Laws of steps and runs: what one turn adds to a run. Assumes nothing.
 use mathlib.Core.Path.{◌≡◌, ap, ◌∙◌}
-use mathlib.Core.Bool.{true, false}
+use mathlib.Core.Bool.{true}
 use mathlib.Core.List.{List, [], ◌∷◌, ◌++◌, append-nil}
 use Prim.Native.Nat.{ℕ, zero, suc, ◌+◌, ◌/◌, ◌^◌, ◌≤◌, ◌<◌}
 use native.Mathlib.Omega.{arith}
 use native.Mathlib.Numerals.{add-one}
 use native.Mathlib.Nat.{mod-eq_of_lt}
-use borrow.Author.Tests.{le-leb, lt-leb, leb-true, ltb-true, lt-ltb}
+use borrow.Author.Tests.{le-leb, leb-true, ltb-true, lt-ltb}
 use lib.Dec.{leb, lit≤}
 use lib.ListN.{length, get_or, take, drop, set}
 use lib.Seq.{take-suc-set, drop-cons, drop-length, take-length, append_snoc}
@@ -29,22 +29,6 @@ encoder-in e h =
 -- a code has four bits
 pub code-small : (a b : ℕ) (earlier : List ℕ) (symbol : ℕ) → code_of a b earlier symbol ≤ 15
 code-small a b earlier symbol = omega arith
-
--- one symbol in range leaves the rest to be tested
-pub symbols-next : (symbols : List ℕ) (i : ℕ) → i < length symbols → get_or symbols i 0 ≤ 7 → symbols_in (drop i symbols) ≡ symbols_in (drop (i + 1) symbols)
-unfolding symbols_in
-symbols-next symbols i h k = rw (add-one i, drop-cons symbols i 0 h, le-leb (get_or symbols i 0) 7 k)
-
--- one out of range decides
-pub symbols-out : (symbols : List ℕ) (i : ℕ) → i < length symbols → 7 < get_or symbols i 0 → symbols_in (drop i symbols) ≡ false
-unfolding symbols_in
-symbols-out symbols i h k = rw (drop-cons symbols i 0 h, lt-leb (get_or symbols i 0) 7 k)
-
-pub symbols-end : (symbols : List ℕ) (i : ℕ) → length symbols ≤ i → i ≤ length symbols → symbols_in (drop i symbols) ≡ true
-unfolding symbols_in
-symbols-end symbols i h k =
-    let e : i ≡ length symbols = omega arith in
-    rw (e, drop-length symbols)
 
 -- each symbol of a list in range is
 pub symbol-in : (symbols : List ℕ) (i : ℕ) → i < length symbols → symbols_in symbols ≡ true → get_or symbols i 0 ≤ 7

@@ -1,12 +1,13 @@
 -- The encoder (000, clause 4.3.3; which word feeds which output is a reading: figure 8 is not in our copy).
-use Rattle.std.specs.Prelude.{◌≡◌, Bool, true, not, ◌&&◌, List, [], ◌∷◌, ℕ, zero, suc, ◌+◌, ◌*◌, ◌/◌, ◌%◌, ◌^◌, leb, ltb, pos, length, get_or, take}
+use Rattle.std.specs.Prelude.{◌≡◌, Bool, true, not, ◌&&◌, List, [], ◌∷◌, ℕ, zero, suc, ◌+◌, ◌*◌, ◌/◌, ◌%◌, ◌^◌, leb, ltb, length, get_or, take, Result, IfOk}
+use Rattle.answer.specs.declared.Refused.{Refused}
 use Rattle.answer.specs.Answer.{Refusal, refuse, wrong_length, answer, held}
+use Rattle.answer.specs.Given.{answer_of}
 use Rattle.octets.specs.Bits.{digits_of, value_of}
 use Rattle.ranges.specs.Ranges.{is_word}
 use Rattle.symbol.specs.Levels.{data_levels, level_at}
 use Rattle.symbol.specs.declared.Encoder.{Encoder}
 use Rattle.symbol.specs.declared.Step.{Step}
-use Rattle.symbol.specs.declared.Run.{Run}
 
 -- the bit of weight 2^k of a number: a_k of word A is `bit A k`
 abbrev pub bit : ℕ → ℕ → ℕ
@@ -91,20 +92,24 @@ start_of a b = record { a = a; b = b; register = register_of [] }
 abbrev pub start_tests : ℕ → ℕ → List Refusal
 start_tests a b = refuse 4 (not (is_word a && is_word b)) ∷ []
 
--- what `Encoder::start` gives back: refused or not, the register is that of the start
-pub record Started (a b : ℕ) (r : Run) : Type 0 where
-  pub answered : r.answer ≡ answer (start_tests a b)
-  pub next : r.next ≡ start_of a b
+-- what `Encoder::start` gives back
+pub record Started (a b : ℕ) (r : Result Encoder Refused) : Type 0 where
+  pub answered : answer_of r ≡ answer (start_tests a b)
+  pub first : IfOk r (λ e. e ≡ start_of a b)
+
+-- one step with nothing to refuse: the code, its level and the next state
+pub record Sent (e : Encoder) (symbol : ℕ) (s : Step) : Type 0 where
+  pub code : s.code ≡ code_of e.a e.b (held_in e.register) symbol
+  pub level : s.sixteenths ≡ level_at data_levels (code_of e.a e.b (held_in e.register) symbol)
+  pub next : s.next ≡ next_of e symbol
 
 -- what `Encoder::step` gives back
-pub record Stepped (e : Encoder) (symbol : ℕ) (r : Step) : Type 0 where
-  pub answered : r.answer ≡ answer (step_tests e symbol)
-  pub code : r.code ≡ held r.answer 0 (code_of e.a e.b (held_in e.register) symbol)
-  pub level : r.sixteenths ≡ held r.answer (pos 0) (level_at data_levels (code_of e.a e.b (held_in e.register) symbol))
-  pub next : r.next ≡ held r.answer e (next_of e symbol)
+pub record Stepped (e : Encoder) (symbol : ℕ) (r : Result Step Refused) : Type 0 where
+  pub answered : answer_of r ≡ answer (step_tests e symbol)
+  pub sent : IfOk r (λ s. Sent e symbol s)
 
 -- what `Encoder::run` gives back, and what the room for the codes holds afterwards
-pub record Ran (e : Encoder) (symbols codes : List ℕ) (r : Run) (codes' : List ℕ) : Type 0 where
-  pub answered : r.answer ≡ answer (run_tests e symbols codes)
-  pub written : codes' ≡ held r.answer codes (codes_of e.a e.b (held_in e.register) symbols)
-  pub next : r.next ≡ held r.answer e (with_register e (register_of (sent_after (held_in e.register) symbols)))
+pub record Ran (e : Encoder) (symbols codes : List ℕ) (r : Result Encoder Refused) (codes' : List ℕ) : Type 0 where
+  pub answered : answer_of r ≡ answer (run_tests e symbols codes)
+  pub written : codes' ≡ held (answer_of r) codes (codes_of e.a e.b (held_in e.register) symbols)
+  pub next : IfOk r (λ n. n ≡ with_register e (register_of (sent_after (held_in e.register) symbols)))

@@ -1,8 +1,8 @@
 -- Levels (000, clauses 4.1.6 and 4.3.3, table 3), in sixteenths.
-use Rattle.std.specs.Prelude.{◌≡◌, Bool, false, cond, List, [], ◌∷◌, ℕ, suc, eqb, ltb, ℤ, pos, negsuc, neg_ℤ, get_or}
-use Rattle.answer.specs.Answer.{Refusal, refuse, answer, held}
-use Rattle.symbol.specs.declared.Level.{Level}
-use Rattle.symbol.specs.declared.Code.{Code}
+use Rattle.std.specs.Prelude.{◌≡◌, Bool, false, cond, List, [], ◌∷◌, ℕ, suc, eqb, ltb, ℤ, pos, negsuc, neg_ℤ, get_or, Result, IfOk}
+use Rattle.answer.specs.declared.Refused.{Refused}
+use Rattle.answer.specs.Answer.{Refusal, refuse, answer}
+use Rattle.answer.specs.Given.{answer_of}
 
 -- activation: 0 gives -9/16, 1 gives +9/16
 abbrev pub activation_levels : List ℤ
@@ -44,16 +44,16 @@ abbrev pub back_tests : ℤ → List Refusal
 back_tests level = refuse 4 (ltb 15 (place_in data_levels level)) ∷ []
 
 -- what `activation_level` gives back
-pub record ActivationLevel (bit : ℕ) (r : Level) : Type 0 where
-  pub answered : r.answer ≡ answer (activation_tests bit)
-  pub level : r.sixteenths ≡ held r.answer (pos 0) (level_at activation_levels bit)
+pub record ActivationLevel (bit : ℕ) (r : Result ℤ Refused) : Type 0 where
+  pub answered : answer_of r ≡ answer (activation_tests bit)
+  pub level : IfOk r (λ z. z ≡ level_at activation_levels bit)
 
 -- what `data_level` gives back
-pub record DataLevel (code : ℕ) (r : Level) : Type 0 where
-  pub answered : r.answer ≡ answer (data_tests code)
-  pub level : r.sixteenths ≡ held r.answer (pos 0) (level_at data_levels code)
+pub record DataLevel (code : ℕ) (r : Result ℤ Refused) : Type 0 where
+  pub answered : answer_of r ≡ answer (data_tests code)
+  pub level : IfOk r (λ z. z ≡ level_at data_levels code)
 
 -- what `level_code` gives back
-pub record LevelCode (level : ℤ) (r : Code) : Type 0 where
-  pub answered : r.answer ≡ answer (back_tests level)
-  pub code : r.code ≡ held r.answer 0 (place_in data_levels level)
+pub record LevelCode (level : ℤ) (r : Result ℕ Refused) : Type 0 where
+  pub answered : answer_of r ≡ answer (back_tests level)
+  pub code : IfOk r (λ n. n ≡ place_in data_levels level)

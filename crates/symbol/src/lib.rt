@@ -1,109 +1,63 @@
 // Symbols: levels in sixteenths, and the data encoder (000, clauses 4.1.6 and 4.3.3).
 #![tactic(auto)]
 
-ghost use Rattle.std.specs.Prelude.{◌≡◌, true, ◌+◌, ◌*◌, ◌^◌, ◌≤◌, ◌<◌, pos, ◌-ℤ◌, length};
+ghost use Rattle.std.specs.Prelude.{◌≡◌, true, not, ◌+◌, ◌*◌, ◌^◌, ◌≤◌, ◌<◌, pos, ◌-ℤ◌, [], ◌∷◌, length};
+ghost use Rattle.answer.specs.Answer.{refuse, answer};
+ghost use Rattle.answer.specs.Given.{answer_of};
 ghost use Rattle.octets.specs.Bits.{digits_of};
 ghost use Rattle.symbol.specs.Levels.{ActivationLevel, DataLevel, LevelCode};
 ghost use Rattle.symbol.specs.Encoder.{x2, x3, parity_of, code_of, next_of, held_in, encoder_in, Started, Stepped};
 ghost use Rattle.symbol.specs.Encoder.{codes_of, sent_after, register_of, symbols_in, with_register, Ran};
 
-// A level, with the answer first.
-#[derive(Drop)]
-pub struct Level {
-    pub answer: u32,
-    pub sixteenths: i32,
-}
-
-// A code Y3..Y0, with the answer first.
-#[derive(Drop)]
-pub struct Code {
-    pub answer: u32,
-    pub code: u32,
-}
+use answer::Refused;
 
 // The level of an activation bit: 0 gives -9/16, 1 gives +9/16.
-pub fn activation_level(bit: u32) -> Level
+pub fn activation_level(bit: u32) -> Result<i32, Refused>
     ensures { ActivationLevel bit result }
 {
     match bit {
-        0 => Level {
-            answer: answer::DONE,
-            sixteenths: -9,
-        },
-        1 => Level {
-            answer: answer::DONE,
-            sixteenths: 9,
-        },
-        _ => Level {
-            answer: answer::RANGE,
-            sixteenths: 0,
-        },
+        0 => Ok(-9),
+        1 => Ok(9),
+        _ => Err(Refused::Range),
     }
 }
 
 // The n-th of the sixteen levels from below, n from 0.
-fn from_below(n: u32) -> Level
+fn from_below(n: u32) -> i32
     requires { n < 16 }
-    ensures { (result.answer ≡ 0) × (result.sixteenths ≡ pos (2 * n) -ℤ pos 15) }
+    ensures { result ≡ pos (2 * n) -ℤ pos 15 }
 {
-    Level {
-        answer: answer::DONE,
-        sixteenths: 2 * (n as i32) - 15,
-    }
+    2 * (n as i32) - 15
 }
 
 // The level of a data code Y3..Y0. 1100 to 1111 lie below 1000 to 1011: the codes do not rise in order.
-pub fn data_level(code: u32) -> Level
+pub fn data_level(code: u32) -> Result<i32, Refused>
     ensures { DataLevel code result }
 {
     match code {
-        0..=7 => from_below(code),
-        8..=11 => from_below(code + 4),
-        12..=15 => from_below(code - 4),
-        _ => Level {
-            answer: answer::RANGE,
-            sixteenths: 0,
-        },
+        0..=7 => Ok(from_below(code)),
+        8..=11 => Ok(from_below(code + 4)),
+        12..=15 => Ok(from_below(code - 4)),
+        _ => Err(Refused::Range),
     }
 }
 
-// Going back: the code of a level in sixteenths.
-pub fn level_code(sixteenths: i32) -> Code
+// Going back: the code of a level in sixteenths. The levels are odd, from -15 to 15.
+pub fn level_code(sixteenths: i32) -> Result<u32, Refused>
     ensures { LevelCode sixteenths result }
 {
-    if sixteenths < -15 {
-        return Code {
-            answer: answer::RANGE,
-            code: 0,
-        };
-    }
-    if 15 < sixteenths {
-        return Code {
-            answer: answer::RANGE,
-            code: 0,
-        };
+    if !ranges::in_range(sixteenths, -15, 15) {
+        return Err(Refused::Range);
     }
     let above = (sixteenths + 15) as u32;
     if above % 2 == 1 {
-        return Code {
-            answer: answer::RANGE,
-            code: 0,
-        };
+        return Err(Refused::Range);
     }
     let n = above / 2;
     match n {
-        0..=7 => Code {
-            answer: answer::DONE,
-            code: n,
-        },
-        8..=11 => Code {
-            answer: answer::DONE,
-            code: n + 4,
-        },
-        _ => Code {
-            answer: answer::DONE,
-            code: n - 4,
-        },
+        0..=7 => Ok(n),
+        8..=11 => Ok(n + 4),
+        _ => Ok(n - 4),
     }
 }
 
@@ -115,19 +69,11 @@ pub struct Encoder {
     pub register: u32,
 }
 
-// What a step gives: the answer, the code, its level in sixteenths and the next state.
+// What a step gives: the code, its level in sixteenths and the next state.
 #[derive(Drop)]
 pub struct Step {
-    pub answer: u32,
     pub code: u32,
     pub sixteenths: i32,
-    pub next: Encoder,
-}
-
-// What a start and a run give: the answer and the next state.
-#[derive(Drop)]
-pub struct Run {
-    pub answer: u32,
     pub next: Encoder,
 }
 
@@ -145,37 +91,30 @@ impl Encoder {
     pub const START: u32 = 0;
 
     // The encoder before the first symbol. Words out of range are refused, here and by every step.
-    pub fn start(a: u32, b: u32) -> Run
+    pub fn start(a: u32, b: u32) -> Result<Encoder, Refused>
         ensures { Started a b result }
     {
-        let next = Encoder {
+        let first = Encoder {
             a,
             b,
             register: Self::START,
         };
-        if !next.in_range() {
-            return Run {
-                answer: answer::RANGE,
-                next,
-            };
-        }
-        Run {
-            answer: answer::DONE,
-            next,
-        }
+        first.allowed()?;
+        Ok(first)
     }
 
-    // Whether A, B and the register lie in their ranges.
-    fn in_range(self) -> bool
-        ensures { result ≡ encoder_in self }
+    // That A, B and the register lie in their ranges.
+    fn allowed(self) -> Result<(), Refused>
+        ensures { answer_of result ≡ answer (refuse 4 (not (encoder_in self)) ∷ []) }
     {
-        if ranges::HIGHEST_WORD < self.a {
-            return false;
+        if self.a <= ranges::HIGHEST_WORD
+            && self.b <= ranges::HIGHEST_WORD
+            && self.register < Self::REGISTERS
+        {
+            Ok(())
+        } else {
+            Err(Refused::Range)
         }
-        if ranges::HIGHEST_WORD < self.b {
-            return false;
-        }
-        self.register < Self::REGISTERS
     }
 
     // A symbol's code by the window, which holds the current X1 at weight 1, where a0 and b0 meet it.
@@ -185,8 +124,8 @@ impl Encoder {
     {
         let y3 = symbol % 2;
         let y2 = symbol / 2 % 2;
-        let y1 = u32::count_ones(self.a & window) % 2;
-        let y0 = u32::count_ones(self.b & window) % 2;
+        let y1 = (self.a & window).count_ones() % 2;
+        let y0 = (self.b & window).count_ones() % 2;
         y3 * 8 + y2 * 4 + y1 * 2 + y0
     }
 
@@ -207,34 +146,19 @@ impl Encoder {
     }
 
     // One symbol: its bits X1, X2, X3 as a number, X1 weighs 4.
-    pub fn step(self, symbol: u32) -> Step
+    pub fn step(self, symbol: u32) -> Result<Step, Refused>
         ensures { Stepped self symbol result }
     {
-        if !self.in_range() {
-            return Step {
-                answer: answer::RANGE,
-                code: 0,
-                sixteenths: 0,
-                next: self,
-            };
-        }
+        self.allowed()?;
         if 7 < symbol {
-            return Step {
-                answer: answer::RANGE,
-                code: 0,
-                sixteenths: 0,
-                next: self,
-            };
+            return Err(Refused::Range);
         }
         let t = self.turn(symbol);
-        let next = t.next;
-        let level = data_level(t.code);
-        Step {
-            answer: answer::DONE,
+        Ok(Step {
             code: t.code,
-            sixteenths: level.sixteenths,
-            next,
-        }
+            sixteenths: data_level(t.code)?,
+            next: t.next,
+        })
     }
 
     // The codes of symbols with nothing to refuse, and the encoder after them.
@@ -244,43 +168,28 @@ impl Encoder {
             × (result ≡ with_register self (register_of (sent_after (held_in self.register) symbols.now))) }
     {
         let mut next = self;
-        let mut i = 0;
-        while i < symbols.len() {
-            let t = next.turn(symbols[i] as u32);
+        // Stays: codes by index; after iter_mut under zip a proof knows nothing of what was written (goal returns).
+        for (i, &symbol) in symbols.iter().enumerate() {
+            let t = next.turn(u32::from(symbol));
             codes[i] = t.code as u8;
             next = t.next;
-            i += 1;
         }
         next
     }
 
     // Many symbols, one to an octet; their codes, one to an octet. A single symbol over 7 makes it refuse the whole run.
-    pub fn run(self, symbols: &[u8], codes: &mut [u8]) -> Run
+    pub fn run(self, symbols: &[u8], codes: &mut [u8]) -> Result<Encoder, Refused>
         ensures { Ran self symbols.now codes.old result codes.new }
     {
         if codes.len() != symbols.len() {
-            return Run {
-                answer: answer::LENGTH,
-                next: self,
-            };
+            return Err(Refused::Length);
         }
-        if !self.in_range() {
-            return Run {
-                answer: answer::RANGE,
-                next: self,
-            };
-        }
+        self.allowed()?;
         if !symbols_in(symbols) {
-            return Run {
-                answer: answer::RANGE,
-                next: self,
-            };
+            return Err(Refused::Range);
         }
-        let last = self.go(symbols, codes);
-        Run {
-            answer: answer::DONE,
-            next: last,
-        }
+        let next = self.go(symbols, codes);
+        Ok(next)
     }
 }
 
@@ -288,12 +197,5 @@ impl Encoder {
 fn symbols_in(symbols: &[u8]) -> bool
     ensures { result ≡ symbols_in symbols.now }
 {
-    let mut i = 0;
-    while i < symbols.len() {
-        if 7 < symbols[i] {
-            return false;
-        }
-        i += 1;
-    }
-    true
+    symbols.iter().all(|&symbol| symbol <= 7)
 }

@@ -23,10 +23,6 @@ most_written = 4294967295
 abbrev pub written : ℕ → ℕ
 written n = min n most_written
 
--- the words of the totals, as a table
-abbrev pub words : List ℕ
-words = text " card: \n cards: \n match, \n good, \n do not\n bad\n: \n; \nall match\nnot all match\nall good\nnot all good\n \n"
-
 -- so many cards: "1 card: ", "340 cards: "
 unfoldable pub cards_text : ℕ → List ℕ
 cards_text n = cond (eqb n 1) (text "1 card: ") (formed (text "# cards: ") (written n ∷ []))

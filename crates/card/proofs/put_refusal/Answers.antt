@@ -1,10 +1,8 @@
 -- `card::put_refusal` meets its contract.
-use Rattle.forms.specs.Forms.{row_of}
-use Rattle.ascii.proofs.Room.{put-more}
-use Rattle.card.specs.Words.{reasons, refusal}
+use Rattle.ascii.proofs.Room.{puts-more, puts_as}
+use Rattle.card.specs.Words.{refusal}
 use Rattle.card.proofs.put_refusal.Goals as goal
 
 pub returns : goal.returns
 unfolding refusal
-returns c =
-    put-more _ (row_of reasons c.args.n) c.put_form-next.ensures c.put_row.ensures
+returns c = puts-more c.form.ensures (puts_as c.word.ensures c.row.ensures)

@@ -1,11 +1,7 @@
-use Prim.Native.Nat.{◌-◌, ◌≤◌}
-use lib.ListN.{length, take}
-use Rattle.ascii.specs.Promises.{Put}
+use Rattle.std.proofs.Common.{take}
+use Rattle.ascii.specs.Promises.{Puts}
 use Rattle.cardline.specs.Line.{csv_octets}
 use Rattle.cardline.proofs.put_csvs.Given as goal
 
-abbrev pub invariant-loop-k : goal.invariant-loop-k
-invariant-loop-k l = (l.k ≤ length l.line) × Put l.initial.room l.at (csv_octets (take l.k l.line)) l.next l.room
-
-abbrev pub decreases-loop-k : goal.decreases-loop-k
-decreases-loop-k l = length l.line - l.k
+abbrev pub invariant-loop-octet : goal.invariant-loop-octet
+invariant-loop-octet l = Puts l.initial.text (csv_octets (take l.octet-index l.line)) l.text

@@ -1,9 +1,9 @@
 -- `cardline::reference` meets its contract.
-use mathlib.Core.Path.{ap}
-use mathlib.Core.List.{List, ◌++◌}
-use Prim.Native.Nat.{ℕ}
+use mathlib.Core.Path.{refl, ap}
+use mathlib.Core.List.{◌++◌}
+use Rattle.std.proofs.Common.{rules}
 use Rattle.ascii.specs.Text.{text}
-use Rattle.ascii.proofs.Room.{put-more, put_as, told}
+use Rattle.ascii.proofs.Room.{puts-more, puts_as, puts-told}
 use Rattle.cardline.specs.Words.{verdict_words}
 use Rattle.cardline.specs.Line.{reference_name, reference_line}
 use Rattle.cardline.proofs.reference.Goals as goal
@@ -12,11 +12,7 @@ pub returns : goal.returns
 unfolding reference_line
 returns c =
     let a = c.args in
-    let h = reference_name a.name.now in
-    let end = text "; a training frame that reads is wanted\n" in
-    let w : ℕ → List ℕ = λ (n : ℕ). verdict_words n a.v.octets in
-    let u = c.unfit in
-    told (reference_line a.name.now a.v) a.room.now _ _
-    (put_as
-    (put-more (h ++ w u.result) end (put-more h (w u.result) c.put_reference-next.ensures c.put_verdict-next.ensures) c.put_word.ensures)
-    (ap (λ n. h ++ w n ++ end) u.ensures))
+    puts-told
+    (puts_as (puts-more (puts-more c.put_reference.ensures c.put_verdict.ensures) c.word.ensures)
+    (ap (λ n. reference_name a.name.now ++ verdict_words n a.v.octets ++ text "; a training frame that reads is wanted\n") c.unfit.ensures))
+    refl (search rules)

@@ -1,9 +1,8 @@
 -- `datacrc::carried` meets its contract.
-use Rattle.datacrc.proofs.Laws.{carried-is}
+use Rattle.datacrc.proofs.Laws.{carried-in}
 use Rattle.datacrc.proofs.carried.Goals as goal
 
--- src/lib.rt:59:1
 pub returns : goal.returns
 returns c =
-    carried-is c.args.frame.now c.args.m c.pair-first.result c.pair-second.result c.pair-third.result c.turned.result c.requires.1 c.pair-first.ensures.0
-    c.pair-second.ensures.0 c.pair-third.ensures.0 c.turned.ensures
+    carried-in c.args.room c.block-m.result c.piece-first.result c.piece-second.result c.piece-third.result c.turned.result c.block-m.ensures
+    c.piece-first.ensures.0 c.piece-second.ensures.0 c.piece-third.ensures.0 c.turned.ensures

@@ -1,50 +1,51 @@
 -- `eoclisting::line` meets its contract.
-use mathlib.Core.Path.{refl, sym}
-use native.Mathlib.Omega.{arith}
-use lib.ListN.{replicate}
-use lib.Seq.{length-take-le}
-use Rattle.ascii.proofs.Room.{put_as, told}
-use Rattle.eoclisting.specs.Line.{line_of}
-use Rattle.eoclisting.proofs.Reading.{read_answer, refused-line, refused-to, read_fits, read-line, read-to}
+use mathlib.Core.Path.{◌≡◌, refl, sym, ap, ◌∙◌, subst}
+use mathlib.Core.List.{List}
+use Prim.Native.Nat.{ℕ}
+use lib.ListN.{take, replicate}
+use Rattle.std.proofs.Common.{rules}
+use Rattle.std.specs.Prelude.{Result, IfOk}
+use Rattle.answer.specs.declared.Refused.{Refused}
+use Rattle.answer.specs.Given.{answer_of}
+use Rattle.answer.proofs.Given.{refused-number}
+use Rattle.ascii.specs.Promises.{Puts}
+use Rattle.ascii.proofs.Room.{puts_as, puts-told}
+use Rattle.eoc.specs.Reading.{message_in}
+use Rattle.eocreader.specs.declared.Found.{Found}
+use Rattle.eocreader.specs.Promises.{MessageRead}
+use Rattle.eoclisting.specs.Line.{message_line}
+use Rattle.eoclisting.proofs.Reading.{refused-line, read-line}
 use Rattle.eoclisting.proofs.line.Goals as goal
-
-pub returns-then-no-ne-DONE : goal.returns-then-no-ne-DONE
-returns-then-no-ne-DONE c =
-    let a = c.args in
-    let s = a.octets.now in
-    let d = c.read-found in
-    let h = c.if-no-ne-DONE.true in
-    record {
-      answered = read_answer s (replicate 73 0) d.new.contents d.result d.ensures refl;
-      to = refused-to s (replicate 73 0) d.new.contents d.result d.ensures refl h;
-      told =
-          told (line_of a.n s) a.room.now _ _
-          (put_as c.put_refused-length.ensures (refused-line s (replicate 73 0) d.new.contents d.result d.ensures refl h a.n));
-    }
-
-pub slice_bounds-contents-end : goal.slice_bounds-contents-end
-slice_bounds-contents-end c =
-    let d = c.read-found in
-    omega (arith, read_fits c.args.octets.now (replicate 73 0) d.new.contents d.result d.ensures refl c.if-no-ne-DONE.false)
-
-pub slice_bounds-put_message-end : goal.slice_bounds-put_message-end
-slice_bounds-put_message-end c =
-    let d = c.read-found in
-    let e = d.new.contents in
-    sym
-    (length-take-le d.result.length e
-    (omega (arith, d.auto.contents, read_fits c.args.octets.now (replicate 73 0) e d.result d.ensures refl c.if-no-ne-DONE.false)))
+use Rattle.eoclisting.proofs.line.Goals.{in-Ok, in-Err}
 
 pub returns : goal.returns
 returns c =
     let a = c.args in
     let s = a.octets.now in
-    let d = c.read-found in
-    let z = c.if-no-ne-DONE.false in
-    record {
-      answered = read_answer s (replicate 73 0) d.new.contents d.result d.ensures refl;
-      to = read-to s (replicate 73 0) d.new.contents d.result d.ensures refl z;
-      told =
-          told (line_of a.n s) a.room.now _ _
-          (put_as c.put_message-length.ensures (read-line s (replicate 73 0) d.new.contents d.result d.ensures refl z a.n));
-    }
+    let room : List ℕ = replicate 73 0 in
+    let m = c.match-read in
+    let read = λ (r : Result Found Refused). MessageRead s room r c.read.new.contents in
+    elim m.branch [
+      | in-Ok w ↦
+          let f = w.in-Ok.found in
+          let p = subst read w.in-Ok.is c.read.ensures in
+          let whole = ap (λ (k : ℕ). message_line a.n (record {
+            source = f.source;
+            destination = f.destination;
+            number = f.number;
+            contents = take k c.read.new.contents;
+          })) w.from.ensures ∙ read-line s c.read.new.contents f p a.n in
+          record {
+            answered = ap answer_of w.destination-is ∙ p.answered;
+            to = subst (λ (r : Result ℕ Refused). IfOk r (λ d. d ≡ (message_in s).destination)) (sym w.destination-is)
+                (w.from-in-Ok.ensures ∙ ap (λ (x : Found). x.destination) p.numbers);
+            told = puts-told (subst (Puts _ _) (sym w.text-is) (puts_as w.put_message.ensures whole)) refl (search rules);
+          }
+      | in-Err w ↦
+          let p = subst read w.in-Err.is c.read.ensures in
+          record {
+            answered = ap answer_of w.destination-is ∙ p.answered;
+            to = subst (λ (r : Result ℕ Refused). IfOk r (λ d. d ≡ (message_in s).destination)) (sym w.destination-is) tt;
+            told = puts-told (subst (Puts _ _) (sym w.text-is) (puts_as w.put_refused.ensures (refused-line s a.n _ (refused-number w.in-Err.no) p.answered))) refl (search rules);
+          }
+    ]

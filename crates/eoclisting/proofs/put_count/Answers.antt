@@ -1,14 +1,12 @@
 -- `eoclisting::put_count` meets its contract.
-use Rattle.ascii.proofs.Room.{put_as}
+use Rattle.ascii.proofs.Room.{puts_as}
 use Rattle.eoclisting.proofs.Laws.{count-one, count-more}
 use Rattle.eoclisting.proofs.put_count.Goals as goal
 
 pub returns-then-n-eq1 : goal.returns-then-n-eq1
 returns-then-n-eq1 c =
-    let a = c.args in
-    put_as c.put_form.ensures (count-one a.n a.good c.others-refused.result c.others-refused.ensures c.if-n-eq1.true)
+    puts_as c.form.ensures (count-one c.args.n c.args.good c.saturating_sub.result c.saturating_sub.ensures c.if-n-eq1.true)
 
-pub returns : goal.returns
-returns c =
-    let a = c.args in
-    put_as c.put_form-2.ensures (count-more a.n a.good c.others-refused.result c.others-refused.ensures c.if-n-eq1.false)
+pub returns-else-n-eq1 : goal.returns-else-n-eq1
+returns-else-n-eq1 c =
+    puts_as c.form-else-n-eq1.ensures (count-more c.args.n c.args.good c.saturating_sub.result c.saturating_sub.ensures c.if-n-eq1.false)

@@ -1,15 +1,13 @@
 -- `eoclisting::put_hex` meets its contract.
-use Rattle.ascii.specs.Text.{text, hexes}
-use Rattle.ascii.proofs.Room.{put-none, put-more, put_as}
-use Rattle.eoclisting.proofs.Laws.{hex-none, hex-some}
+use Rattle.std.proofs.Common.{rules, tests}
+use Rattle.ascii.proofs.Room.{puts-none, puts-more, puts_as}
+use Rattle.eoclisting.specs.Contents.{hex_part}
 use Rattle.eoclisting.proofs.put_hex.Goals as goal
 
-pub returns-then-contents-eq0 : goal.returns-then-contents-eq0
-returns-then-contents-eq0 c =
-    let a = c.args in
-    put_as (put-none a.room.now a.at) (hex-none a.contents.now c.if-contents-eq0.true)
+pub returns-then-not-is_empty : goal.returns-then-not-is_empty
+unfolding hex_part
+returns-then-not-is_empty c = puts_as (puts-more c.word.ensures c.hexes.ensures) (search (rules, tests))
 
-pub returns : goal.returns
-returns c =
-    let a = c.args in
-    put_as (put-more (text ": ") (hexes a.contents.now) c.put_word-next.ensures c.put_hexes.ensures) (hex-some a.contents.now c.if-contents-eq0.false)
+pub returns-else-not-is_empty : goal.returns-else-not-is_empty
+unfolding hex_part
+returns-else-not-is_empty c = puts_as (puts-none c.args.text.now) (search (rules, tests))

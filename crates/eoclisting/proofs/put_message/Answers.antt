@@ -1,7 +1,9 @@
 -- `eoclisting::put_message` meets its contract.
-use mathlib.Core.List.{[], ◌∷◌, ◌++◌}
+use mathlib.Core.Path.{ap, ap₂}
+use mathlib.Core.List.{[], ◌∷◌}
+use Prim.Native.Nat.{ℕ}
 use Rattle.ascii.specs.Text.{text}
-use Rattle.ascii.proofs.Room.{put-more}
+use Rattle.ascii.proofs.Room.{puts-more, puts_as}
 use Rattle.forms.specs.Forms.{formed}
 use Rattle.eoclisting.specs.Names.{name_of}
 use Rattle.eoclisting.specs.Contents.{contents_text}
@@ -12,16 +14,12 @@ pub returns : goal.returns
 unfolding message_line
 returns c =
     let a = c.args in
-    let m = a.found in
-    let f = formed (text "# ") (a.n ∷ []) in
-    let w = way_text m.source m.destination in
-    let g = formed (text ": # ") (m.number ∷ []) in
-    let x = name_of m.number in
-    let y = contents_text m.number a.contents.now in
-    put-more (f ++ w ++ g ++ x ++ y) (text "\n")
-    (put-more (f ++ w ++ g ++ x) y
-    (put-more (f ++ w ++ g) x
-    (put-more (f ++ w) g (put-more f w c.put_form-next.ensures c.put_way-next.ensures) c.put_form-next-2.ensures)
-    c.put_name-next.ensures)
-    c.put_contents-next.ensures)
+    let n = c.from-number.ensures in
+    puts-more
+    (puts-more
+    (puts-more
+    (puts-more (puts-more c.form.ensures (puts_as c.put_way.ensures (ap₂ way_text c.from.ensures c.from-2.ensures)))
+    (puts_as c.form-2.ensures (ap (λ (k : ℕ). formed (text ": # ") (k ∷ [])) n)))
+    (puts_as c.put_name.ensures (ap name_of n)))
+    (puts_as c.put_contents.ensures (ap (λ (k : ℕ). contents_text k a.contents.now) n)))
     c.put.ensures

@@ -1,36 +1,28 @@
 -- `eoclisting::put_string` meets its contract.
 use mathlib.Core.Path.{sym, ◌∙◌}
-use mathlib.Core.List.{[], ◌∷◌, ◌++◌}
 use native.Mathlib.Omega.{arith}
-use lib.ListN.{take}
 use lib.Seq.{length-take-le}
-use Rattle.ascii.proofs.Room.{put-more, put_as}
+use Rattle.ascii.proofs.Room.{puts-more, puts_as}
 use Rattle.eoclisting.proofs.Laws.{string-within, string-hex, string-quoted}
 use Rattle.eoclisting.proofs.put_string.Goals as goal
 
-pub slice_bounds-text_length-end : goal.slice_bounds-text_length-end
-slice_bounds-text_length-end c =
+pub slice_bounds-string-end : goal.slice_bounds-string-end
+slice_bounds-string-end c =
     let f = c.args.field.now in
-    let n = c.string_length-n in
+    let n = c.string_length in
     sym (length-take-le n.result f (omega (arith, n.ensures, string-within f)))
 
-pub returns-then-text_length-n : goal.returns-then-text_length-n
-returns-then-text_length-n c =
-    let n = c.string_length-n in
-    put_as c.put_hexes.ensures
-    (string-hex c.args.field.now n.result n.ensures (λ z. c.if-text_length-n.true (c.text_length.ensures ∙ z)))
-
-pub slice_bounds-put_word-end : goal.slice_bounds-put_word-end
-slice_bounds-put_word-end c =
+pub returns-then-text_length-string : goal.returns-then-text_length-string
+returns-then-text_length-string c =
     let f = c.args.field.now in
-    let n = c.string_length-n in
-    sym (length-take-le n.result f (omega (arith, n.ensures, string-within f)))
+    let n = c.string_length in
+    let l = length-take-le n.result f (omega (arith, n.ensures, string-within f)) in
+    puts_as (puts-more (puts-more c.put.ensures c.word.ensures) c.put-then-text_length-string.ensures)
+    (string-quoted f n.result n.ensures (sym c.text_length.ensures ∙ c.if-text_length-string.true ∙ l))
 
-pub returns : goal.returns
-returns c =
-    let n = c.string_length-n in
+pub returns-else-text_length-string : goal.returns-else-text_length-string
+returns-else-text_length-string c =
     let f = c.args.field.now in
-    let t = take n.result f in
-    put_as
-    (put-more ((34 ∷ []) ++ t) (34 ∷ []) (put-more (34 ∷ []) t c.put-next.ensures c.put_word-next.ensures) c.put.ensures)
-    (string-quoted f n.result n.ensures (sym c.text_length.ensures ∙ c.if-text_length-n.false))
+    let n = c.string_length in
+    let l = length-take-le n.result f (omega (arith, n.ensures, string-within f)) in
+    puts_as c.hexes.ensures (string-hex f n.result n.ensures (λ z. c.if-text_length-string.false (c.text_length.ensures ∙ z ∙ sym l)))

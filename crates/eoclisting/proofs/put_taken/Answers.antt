@@ -1,24 +1,14 @@
 -- `eoclisting::put_taken` meets its contract.
-use mathlib.Core.List.{[], ◌∷◌, ◌++◌}
 use borrow.Author.Tests.{lt-ltb, le-ltb}
-use Rattle.ascii.specs.Text.{text}
-use Rattle.ascii.proofs.Room.{put-none, put-more}
-use Rattle.forms.specs.Forms.{formed, row_of}
-use Rattle.eoclisting.specs.Names.{units}
+use Rattle.ascii.proofs.Room.{puts-none, puts-more}
 use Rattle.eoclisting.specs.Totals.{taken_text}
 use Rattle.eoclisting.proofs.put_taken.Goals as goal
 
-pub returns-then-own-ge-ADDRESSES : goal.returns-then-own-ge-ADDRESSES
+pub returns-then-own-lt-ADDRESSES : goal.returns-then-own-lt-ADDRESSES
 unfolding taken_text
-returns-then-own-ge-ADDRESSES c =
-    let a = c.args in
-    simp (le-ltb a.own 16 c.if-own-ge-ADDRESSES.true) (put-none a.room.now a.at)
+returns-then-own-lt-ADDRESSES c =
+    simp (lt-ltb c.args.own 16 c.if-own-lt-ADDRESSES.true) (puts-more (puts-more c.word.ensures c.put_unit.ensures) c.form.ensures)
 
-pub returns : goal.returns
+pub returns-else-own-lt-ADDRESSES : goal.returns-else-own-lt-ADDRESSES
 unfolding taken_text
-returns c =
-    let a = c.args in
-    let u = row_of units a.own in
-    simp (lt-ltb a.own 16 c.if-own-ge-ADDRESSES.false)
-    (put-more (text "; " ++ u) (formed (text " takes #") (a.taken ∷ [])) (put-more (text "; ") u c.put_word-next.ensures c.put_unit-next.ensures)
-    c.put_form.ensures)
+returns-else-own-lt-ADDRESSES c = simp (le-ltb c.args.own 16 c.if-own-lt-ADDRESSES.false) (puts-none c.args.text.now)

@@ -1,38 +1,31 @@
 -- `eoclisting::string_length` meets its contract. What was found so far and what is found from place k on are the string's length.
-use mathlib.Core.Path.{sym, ◌∙◌}
-use native.Mathlib.Omega.{arith}
-use Rattle.eoclisting.proofs.Laws.{length-first, length-stop, length-end, length_over, length-blank}
+use mathlib.Core.Path.{◌≡◌, sym, ◌∙◌, subst}
+use Prim.Native.Nat.{ℕ, ◌+◌}
+use lib.ListN.{drop}
+use Rattle.eoclisting.specs.Contents.{string_length}
+use Rattle.eoclisting.proofs.Laws.{length_from, length-first, length-stop, length-end, length_over, length-blank}
 use Rattle.eoclisting.proofs.string_length.Goals as goal
+use Rattle.eoclisting.proofs.string_length.Goals.{then-octet-ne32, else-octet-ne32}
 
 pub loop-k-init : goal.loop-k-init
 loop-k-init c = length-first _
 
-pub bounds-field-k : goal.bounds-field-k
-bounds-field-k c = omega arith
-
 pub returns-then-octet-eq0 : goal.returns-then-octet-eq0
 returns-then-octet-eq0 c =
-    let s = c.args.field.now in
-    sym (length-stop s c.loop-k.last c.loop-k.k c.loop-k-test.true c.if-octet-eq0.true) ∙ c.loop-k.invariant
-
-pub overflow_add-k : goal.overflow_add-k
-overflow_add-k c = omega arith
-
-pub loop-k-smaller-then-octet-ne32 : goal.loop-k-smaller-then-octet-ne32
-loop-k-smaller-then-octet-ne32 c = omega arith
-
-pub loop-k-preserved-then-octet-ne32 : goal.loop-k-preserved-then-octet-ne32
-loop-k-preserved-then-octet-ne32 c =
-    length_over c.args.field.now c.loop-k.last c.loop-k.k c.loop-k-test.true c.if-octet-eq0.false c.if-octet-ne32.true ∙ c.loop-k.invariant
-
-pub loop-k-smaller : goal.loop-k-smaller
-loop-k-smaller c = omega arith
+    let l = c.loop-k in
+    sym (length-stop c.args.field.now l.last l.k c.loop-k-test.true c.if-octet-eq0.true) ∙ l.invariant
 
 pub loop-k-preserved : goal.loop-k-preserved
 loop-k-preserved c =
-    length-blank c.args.field.now c.loop-k.last c.loop-k.k c.loop-k-test.true c.if-octet-eq0.false c.if-octet-ne32.false ∙ c.loop-k.invariant
+    let l = c.loop-k in
+    let s = c.args.field.now in
+    let from = λ (n : ℕ). length_from n (l.k + 1) (string_length (drop (l.k + 1) s)) ≡ string_length s in
+    elim c.if-octet-ne32.branch [
+      | then-octet-ne32 w ↦
+          subst from (sym w.last-is) (length_over s l.last l.k c.loop-k-test.true c.if-octet-eq0.false w.if-octet-ne32.true ∙ l.invariant)
+      | else-octet-ne32 w ↦
+          subst from (sym w.last-is) (length-blank s l.last l.k c.loop-k-test.true c.if-octet-eq0.false w.if-octet-ne32.false ∙ l.invariant)
+    ]
 
 pub returns : goal.returns
-returns c =
-    let s = c.args.field.now in
-    sym (length-end s c.loop-k.last c.loop-k.k c.loop-k-test.false) ∙ c.loop-k.invariant
+returns c = sym (length-end c.args.field.now c.loop-k.last c.loop-k.k c.loop-k-test.false) ∙ c.loop-k.invariant

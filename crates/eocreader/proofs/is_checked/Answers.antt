@@ -1,28 +1,29 @@
 -- `eocreader::is_checked` meets its contract.
+use mathlib.Core.Path.{sym, ap, ap₂, ◌∙◌}
+use mathlib.Core.Bool.{Bool, ◌&&◌}
 use mathlib.Core.List.{[], ◌∷◌}
-use Prim.Native.Nat.{◌-◌, ◌/◌, ◌%◌}
-use native.Mathlib.Omega.{arith}
-use lib.ListN.{take}
+use Prim.Native.Nat.{ℕ, ◌-◌, ◌/◌, ◌%◌}
+use borrow.Author.Tests.{eq-eqb, ne_eqb}
+use lib.Dec.{eqb}
+use lib.ListN.{length, get_or}
 use Rattle.fcs.proofs.Laws.{sequence-computed}
-use Rattle.eocreader.proofs.Judging.{first-wrong, first_right}
+use Rattle.eoc.specs.Reading.{body_in}
+use Rattle.eocreader.proofs.Judging.{checked-is}
 use Rattle.eocreader.proofs.is_checked.Goals as goal
 
-pub overflow_cast-fields : goal.overflow_cast-fields
-overflow_cast-fields c = let a = c.args in omega (arith, c.type_inv.fields (a.n - 2))
-
-pub returns-then-fields-n : goal.returns-then-fields-n
-returns-then-fields-n c =
-    let a = c.args in
+pub returns-then-from-c : goal.returns-then-from-c
+returns-then-from-c c =
+    let f = c.args.fields.now in
     let r = c.sequence-c.result in
-    let s = sequence-computed (take (a.n - 2) a.fields.now) (r % 256 ∷ r / 256 ∷ []) c.sequence-c.ensures.right in
-    first-wrong a.fields.now a.n (r % 256) (r / 256) c.requires.0 c.requires.2 s c.if-fields-n.true
+    let s = sequence-computed (body_in f) (r % 256 ∷ r / 256 ∷ []) c.sequence-c.ensures.right in
+    sym (checked-is f (r % 256) (r / 256) c.requires.0 s
+    ∙ ap₂ (λ (t : Bool) (x : ℕ). t && eqb x (r / 256)) (eq-eqb _ _ (sym c.from.ensures ∙ c.if-from-c.true)) (sym c.from-then-from-c.ensures))
 
-pub overflow_cast-result : goal.overflow_cast-result
-overflow_cast-result c = let a = c.args in omega (arith, c.type_inv.fields (a.n - 1))
-
-pub returns : goal.returns
-returns c =
-    let a = c.args in
+pub returns-else-from-c : goal.returns-else-from-c
+returns-else-from-c c =
+    let f = c.args.fields.now in
     let r = c.sequence-c.result in
-    let s = sequence-computed (take (a.n - 2) a.fields.now) (r % 256 ∷ r / 256 ∷ []) c.sequence-c.ensures.right in
-    first_right a.fields.now a.n (r % 256) (r / 256) c.requires.0 c.requires.2 s c.if-fields-n.false
+    let s = sequence-computed (body_in f) (r % 256 ∷ r / 256 ∷ []) c.sequence-c.ensures.right in
+    ne_eqb _ _ c.if-from-c.false
+    ∙ sym (checked-is f (r % 256) (r / 256) c.requires.0 s
+    ∙ ap (λ (t : Bool). t && eqb (get_or f (length f - 1) 0) (r / 256)) (ne_eqb _ _ (λ e. c.if-from-c.false (c.from.ensures ∙ e))))

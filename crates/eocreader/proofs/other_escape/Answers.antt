@@ -1,51 +1,49 @@
 -- `eocreader::other_escape` meets its contract.
-use mathlib.Core.Path.{refl, sym, ◌∙◌}
-use Prim.Native.Nat.{◌+◌}
+use mathlib.Core.Path.{◌≡◌, ap, ap₂, ◌∙◌, subst}
+use mathlib.Core.Bool.{Bool, not, ◌&&◌, ◌||◌}
+use mathlib.Core.List.{List}
+use Prim.Native.Nat.{ℕ, ◌+◌, ◌-◌}
 use native.Mathlib.Omega.{arith}
-use lib.Dec.{lit≤}
-use lib.ListN.{get_or}
-use Rattle.eocreader.proofs.Laws.{Others, others-next, others-all, found, right, no-escape}
+use lib.Dec.{eqb}
+use lib.ListN.{length, get_or, drop, length-drop}
+use lib.Seq.{get_or-drop}
+use Rattle.std.proofs.lemmas.Iterator.{window_more}
+use Rattle.std.specs.Slice.Iter.{windows_rest}
+use Rattle.octets.specs.Bits.{part}
+use Rattle.eoc.specs.Message.{escape}
+use Rattle.eoc.specs.Reading.{other_escape}
+use Rattle.eocreader.proofs.Laws.{Others, ends, others-next, others-all}
 use Rattle.eocreader.proofs.other_escape.Goals as goal
-use Rattle.eocreader.proofs.other_escape.Goals.{then-s-k-eq-ESCAPE+then-not-ends_escape, then-s-k-eq-ESCAPE+else-not-ends_escape, else-s-k-eq-ESCAPE}
 
-pub loop-k-init : goal.loop-k-init
-loop-k-init c = (lit≤ tt, c.requires.0, refl)
-
-pub overflow_add-next : goal.overflow_add-next
-overflow_add-next c = omega (arith, c.requires)
-
-pub bounds-s-k : goal.bounds-s-k
-bounds-s-k c = omega (arith, c.requires)
-
-pub bounds-s-k-in-loop-k : goal.bounds-s-k-in-loop-k
-bounds-s-k-in-loop-k c = omega (arith, c.requires)
-
-pub ends_escape-requires : goal.ends_escape-requires
-ends_escape-requires c = tt
-
-pub overflow_add-k : goal.overflow_add-k
-overflow_add-k c = omega (arith, c.requires)
-
-pub loop-k-smaller : goal.loop-k-smaller
-loop-k-smaller c = omega arith
-
-pub loop-k-preserved : goal.loop-k-preserved
-loop-k-preserved c =
-    let l = c.loop-k in
-    let a = c.args in
-    let o = get_or a.s.now l.k 0 in
-    let p = get_or a.s.now (l.k + 1) 0 in
-    let next = others-next a.s.now a.end l.other c.if-s-k-eq-ESCAPE.other l.k (omega arith) c.requires.1 c.requires.2 l.invariant.2 in
-    let f : Others a.s.now a.end c.if-s-k-eq-ESCAPE.other (l.k + 1) =
-    elim c.if-s-k-eq-ESCAPE.branch [
-      | then-s-k-eq-ESCAPE+then-not-ends_escape w ↦ next (w.other-is ∙ sym (found o p l.other w.if-s-k-eq-ESCAPE.true (sym w.ends_escape.ensures ∙ w.if-not-ends_escape.true)))
-      | then-s-k-eq-ESCAPE+else-not-ends_escape w ↦ next (w.other-is ∙ sym (right o p l.other (sym w.ends_escape.ensures ∙ w.if-not-ends_escape.false)))
-      | else-s-k-eq-ESCAPE w ↦ next (w.other-is ∙ sym (no-escape o p l.other w.if-s-k-eq-ESCAPE.false))
-    ] in
-    (omega arith, omega arith, f)
+pub loop-pair-preserved : goal.loop-pair-preserved
+loop-pair-preserved c =
+    let s = c.args.s.now in
+    let l = c.loop-pair in
+    let i = l.invariant in
+    let k = length s - length (windows_rest l.pair-iterator) in
+    let m = window_more (drop 1 s) l.pair-iterator c.next.new.self c.next.result c.in-Some.pair c.in-Some.is c.next.ensures.steps (omega arith) i.2 i.3 in
+    let all = length-drop 1 s in
+    let first : get_or c.in-Some.pair.now 0 0 ≡ get_or s k 0 = at s _ _ k (m.3 0 0 (omega arith)) (omega arith) in
+    let second : get_or c.in-Some.pair.now 1 0 ≡ get_or s (k + 1) 0 = at s _ _ (k + 1) (m.3 1 0 (omega arith)) (omega arith) in
+    let next : k + 1 ≡ length s - length (windows_rest c.next.new.self) = omega arith in (
+      omega arith,
+      omega arith,
+      omega arith,
+      m.1,
+      subst (Others s (length s - 1) (l.other || (eqb (get_or c.in-Some.pair.now 0 0) 125 && not c.ends_escape.result))) next
+          (others-next s (length s - 1) l.other _ k (omega arith) (omega arith) c.requires.1 i.4
+          (ap₂ (λ (x : ℕ) (b : Bool). l.other || (eqb x escape && not b)) first (c.ends_escape.ensures ∙ ap ends second))),
+    )
+  where
+    at : (s : List ℕ) (o i k : ℕ) → o ≡ get_or (drop 1 s) i 0 → 1 + i ≡ k → o ≡ get_or s k 0
+    at s o i k e f = e ∙ get_or-drop 1 s i 0 ∙ ap (λ (n : ℕ). get_or s n 0) f
 
 pub returns : goal.returns
 returns c =
-    let l = c.loop-k in
-    let a = c.args in
-    others-all a.s.now a.end l.other l.k (omega arith) l.invariant.2
+    let s = c.args.s.now in
+    let l = c.loop-pair in
+    let i = l.invariant in
+    let few = c.in-None.ensures.steps in
+    let n : length s - 1 - 1 ≡ length s - 2 = omega arith in
+    others-all s (length s - 1) l.other (length s - length (windows_rest l.pair-iterator)) (omega (arith, few.1.0)) i.4
+    ∙ ap (λ (k : ℕ). other_escape (part 1 k s)) n

@@ -1,43 +1,37 @@
 -- `eocunits::some_wide` meets its contract.
 use mathlib.Core.Path.{sym, ap, ◌∙◌, subst}
-use Prim.Native.Nat.{ℕ, ◌≤◌, ◌<◌, zero-le}
+use mathlib.Core.Bool.{Bool, ◌||◌}
+use Prim.Native.Nat.{ℕ, ◌≤◌, ◌<◌}
 use native.Mathlib.Omega.{arith}
-use Rattle.eocunits.specs.Units.{some_wide}
-use Rattle.eocunits.proofs.Laws.{rest_all, wide-here, not_wide, none-wide}
+use lib.ListN.{length, length-append}
+use borrow.Author.Tests.{le-leb, lt-leb}
+use Rattle.std.specs.Slice.Iter.{chunks_exact_rest}
+use Rattle.eocunits.specs.Units.{records_in, some_wide}
+use Rattle.eocunits.proofs.Laws.{wide-cons, none-wide}
 use Rattle.eocunits.proofs.some_wide.Goals as goal
 
-pub loop-j-init : goal.loop-j-init
-loop-j-init c = let a = c.args in (zero-le, ap some_wide (rest_all a.units.now a.count))
+pub returns-then-from-ge-ADDRESSES : goal.returns-then-from-ge-ADDRESSES
+returns-then-from-ge-ADDRESSES c =
+    let i = c.loop-unit.invariant in
+    let rest = chunks_exact_rest c.next.new.self in
+    let t = c.in-Some.ensures.steps.1 in
+    sym (sym i.2 ∙ wide-cons _ c.in-Some.unit.now rest t.0 (t.1 ∙ i.0)
+    ∙ ap (λ (b : Bool). b || some_wide (records_in rest)) (le-leb _ _ (subst (λ (n : ℕ). 16 ≤ n) c.from.ensures c.if-from-ge-ADDRESSES.true)))
 
-pub overflow_mul-j : goal.overflow_mul-j
-overflow_mul-j c = omega (arith, c.requires)
-
-pub bounds-units-j : goal.bounds-units-j
-bounds-units-j c = omega (arith, c.requires)
-
-pub wide-requires : goal.wide-requires
-wide-requires c = tt
-
-pub returns-then-wide-ge-ADDRESSES : goal.returns-then-wide-ge-ADDRESSES
-returns-then-wide-ge-ADDRESSES c =
-    let l = c.loop-j in
-    let a = c.args in
-    sym (sym l.invariant.1 ∙ wide-here a.units.now a.count l.j (omega arith) (subst (λ (n : ℕ). 16 ≤ n) c.wide.ensures c.if-wide-ge-ADDRESSES.true))
-
-pub overflow_add-j : goal.overflow_add-j
-overflow_add-j c = omega arith
-
-pub loop-j-smaller : goal.loop-j-smaller
-loop-j-smaller c = omega arith
-
-pub loop-j-preserved : goal.loop-j-preserved
-loop-j-preserved c =
-    let l = c.loop-j in
-    let a = c.args in
-    (omega arith, sym (not_wide a.units.now a.count l.j (omega arith) (subst (λ (n : ℕ). n < 16) c.wide.ensures c.if-wide-ge-ADDRESSES.false)) ∙ l.invariant.1)
+pub loop-unit-preserved : goal.loop-unit-preserved
+loop-unit-preserved c =
+    let i = c.loop-unit.invariant in
+    let rest = chunks_exact_rest c.next.new.self in
+    let s = c.in-Some.ensures.steps in
+    let t = s.1 in (
+      s.0 ∙ i.0,
+      omega (arith, i.1, ap length t.0, length-append c.in-Some.unit.now rest, t.1, i.0),
+      sym (ap (λ (b : Bool). b || some_wide (records_in rest)) (lt-leb _ _ (subst (λ (n : ℕ). n < 16) c.from.ensures c.if-from-ge-ADDRESSES.false)))
+          ∙ sym (wide-cons _ c.in-Some.unit.now rest t.0 (t.1 ∙ i.0)) ∙ i.2,
+    )
 
 pub returns : goal.returns
 returns c =
-    let l = c.loop-j in
-    let a = c.args in
-    sym (sym l.invariant.1 ∙ none-wide a.units.now a.count l.j (omega arith))
+    let i = c.loop-unit.invariant in
+    let s = c.in-None.ensures.steps.1 in
+    sym (sym i.2 ∙ none-wide (chunks_exact_rest c.loop-unit.unit-iterator) (omega (arith, s.0, i.0)))

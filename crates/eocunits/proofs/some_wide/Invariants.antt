@@ -1,11 +1,11 @@
 use mathlib.Core.Path.{◌≡◌}
-use Prim.Native.Nat.{◌-◌, ◌≤◌}
-use Rattle.eocunits.specs.Units.{records_of, some_wide}
-use Rattle.eocunits.proofs.Laws.{rest_of}
+use Prim.Native.Nat.{◌%◌}
+use lib.ListN.{length}
+use Rattle.std.specs.Slice.Iter.{chunks_exact_rest, chunks_exact_size}
+use Rattle.eocunits.specs.Units.{records_in, some_wide}
 use Rattle.eocunits.proofs.some_wide.Given as goal
 
-abbrev pub invariant-loop-j : goal.invariant-loop-j
-invariant-loop-j l = (l.j ≤ l.count) × (some_wide (rest_of l.units l.count l.j) ≡ some_wide (records_of l.count l.units))
-
-abbrev pub decreases-loop-j : goal.decreases-loop-j
-decreases-loop-j l = l.count - l.j
+abbrev pub invariant-loop-unit : goal.invariant-loop-unit
+invariant-loop-unit l =
+    let rest = chunks_exact_rest l.unit-iterator in
+    (chunks_exact_size l.unit-iterator ≡ 79) × (length rest % 79 ≡ 0) × (some_wide (records_in rest) ≡ some_wide (records_in l.units))

@@ -1,9 +1,5 @@
-use Prim.Native.Nat.{◌-◌, ◌≤◌}
 use Rattle.eocwriter.proofs.Laws.{SoFar}
 use Rattle.eocwriter.proofs.put_escaped.Given as goal
 
-abbrev pub invariant-loop-k : goal.invariant-loop-k
-invariant-loop-k l = (l.k ≤ l.n) × SoFar l.initial.room l.fields l.room l.at l.k
-
-abbrev pub decreases-loop-k : goal.decreases-loop-k
-decreases-loop-k l = l.n - l.k
+abbrev pub invariant-loop-octet : goal.invariant-loop-octet
+invariant-loop-octet l = SoFar l.initial.room l.fields l.room l.at l.octet-index

@@ -3,13 +3,10 @@ use mathlib.Core.Path.{refl, ap, ◌∙◌}
 use mathlib.Core.List.{List, [], ◌∷◌, ◌++◌}
 use Prim.Native.Nat.{ℕ, ◌+◌, ◌/◌, ◌%◌}
 use native.Mathlib.Omega.{arith}
-use lib.ListN.{take, length-set}
+use lib.ListN.{take}
 use Rattle.fcs.proofs.Laws.{sequence-computed}
 use Rattle.eocwriter.proofs.Laws.{two-put}
 use Rattle.eocwriter.proofs.put_sequence.Goals as goal
-
-pub bounds-fields-n-2 : goal.bounds-fields-n-2
-bounds-fields-n-2 c = simp length-set (omega (arith, c.requires))
 
 pub returns : goal.returns
 returns c =

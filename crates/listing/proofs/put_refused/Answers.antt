@@ -5,4 +5,4 @@ use Rattle.listing.proofs.put_refused.Goals as goal
 
 pub returns : goal.returns
 unfolding formed formed_by first_of number_line
-returns c = c.put_form.ensures
+returns c = c.form.ensures

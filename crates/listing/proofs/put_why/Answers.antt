@@ -1,18 +1,29 @@
 -- `listing::put_why` meets its contract.
-use mathlib.Core.Path.{sym, ap, ◌∙◌}
-use Rattle.forms.specs.Forms.{row_of}
-use Rattle.ascii.proofs.Room.{put_as}
-use Rattle.listing.proofs.Wording.{reasons, fewer-told, row_told}
+use mathlib.Core.Logic.{⊎_elim}
+use Rattle.ascii.proofs.Room.{puts-none}
+use Rattle.listing.specs.Words.{reason_words}
 use Rattle.listing.proofs.put_why.Goals as goal
 
-pub returns-then-row-eq-FEWER : goal.returns-then-row-eq-FEWER
-returns-then-row-eq-FEWER c =
-    let a = c.args in
-    put_as c.put_form.ensures (fewer-told a.n a.octets (sym c.why_row-row.ensures ∙ c.if-row-eq-FEWER.true))
+pub returns-in-Sync : goal.returns-in-Sync
+unfolding reason_words
+returns-in-Sync c = rw c.in-Sync.is c.word.ensures
 
-pub returns : goal.returns
-returns c =
-    let w = c.why_row-row in
-    let a = c.args in
-    put_as c.put_row.ensures
-    (ap (row_of reasons) w.ensures ∙ row_told a.n a.octets (λ e. c.if-row-eq-FEWER.false (w.ensures ∙ e)))
+pub returns-in-Pad : goal.returns-in-Pad
+unfolding reason_words
+returns-in-Pad c = rw c.in-Pad.is c.word-in-Pad.ensures
+
+pub returns-in-Check : goal.returns-in-Check
+unfolding reason_words
+returns-in-Check c = rw c.in-Check.is c.word-in-Check.ensures
+
+pub returns-in-Unknown : goal.returns-in-Unknown
+unfolding reason_words
+returns-in-Unknown c =
+    let none = puts-none c.args.text.now in
+    ⊎_elim (λ e. rw e none)
+    (⊎_elim (λ e. rw e none)
+    (⊎_elim (λ e. rw e none)
+    (⊎_elim (λ e. rw e none)
+    (⊎_elim (λ e. rw e none)
+    (⊎_elim (λ e. rw e none)
+    (λ e. rw e none)))))) c.in-Unknown.is

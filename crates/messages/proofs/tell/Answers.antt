@@ -1,31 +1,34 @@
 -- `messages::tell` meets its contract.
-use mathlib.Core.Path.{refl, sym}
-use native.Mathlib.Omega.{arith}
-use mathlib.Core.Bool.{◌&&◌}
-use lib.Dec.{eqb}
-use lib.Seq.{length-take-le}
-use Rattle.messages.proofs.Laws.{good-counted, taken-counted, at_most_one}
+use mathlib.Core.Path.{◌≡◌, refl, ap, ◌∙◌}
+use mathlib.Core.Bool.{Bool, true, false, cond}
+use Prim.Native.Nat.{ℕ, ◌+◌}
+use mir.Val.{bool_byte}
+use Rattle.messages.specs.Messages.{is_good, is_taken}
+use Rattle.messages.proofs.Laws.{told-ok, told-err}
 use Rattle.messages.proofs.tell.Goals as goal
+use Rattle.messages.proofs.tell.Goals.{in-Ok, in-Err}
 
-pub slice_bounds-print-end : goal.slice_bounds-print-end
-slice_bounds-print-end c =
-    let t = c.line-line in
-    sym (length-take-le t.result.length t.new.room (omega (arith, t.ensures.told.count, t.auto.room)))
-
-pub overflow_add-result : goal.overflow_add-result
-overflow_add-result c = omega (arith, at_most_one (eqb c.line-line.result.answer 0) c.one.result c.one.ensures, c.requires.1)
-
-pub overflow_add-result-2 : goal.overflow_add-result-2
-overflow_add-result-2 c = omega (arith, at_most_one (eqb c.line-line.result.answer 0 && c.is_meant.result) c.one-2.result c.one-2.ensures, c.requires.2)
+-- one or none
+counted : (b d : Bool) → b ≡ d → bool_byte b ≡ cond d 1 0
+counted true d e = ap {B = ℕ} (λ (x : Bool). cond x 1 0) e
+counted false d e = ap {B = ℕ} (λ (x : Bool). cond x 1 0) e
 
 pub returns : goal.returns
 returns c =
     let a = c.args in
     let s = a.octets.now in
     let l = c.line-line in
-    let e = l.ensures.answered in (
+    let m = c.match-line in
+    let told : (m.good.0 ≡ is_good s) × (m.good.1 ≡ is_taken a.own s) =
+    elim m.branch [
+      | in-Ok w ↦
+          let k = told-ok s l.result.destination w.in-Ok.destination a.own w.in-Ok.is l.ensures.answered l.ensures.to in
+          (ap (λ (p : Bool × Bool). p.0) w.good-is ∙ k.0, ap (λ (p : Bool × Bool). p.1) w.good-is ∙ w.is_meant.ensures ∙ k.1)
+      | in-Err w ↦
+          let k = told-err s l.result.destination _ a.own w.in-Err.is l.ensures.answered in
+          (ap (λ (p : Bool × Bool). p.0) w.good-is ∙ k.0, ap (λ (p : Bool × Bool). p.1) w.good-is ∙ k.1)
+    ] in (
       refl,
-      good-counted s l.result.answer e a.told.good c.one.result c.one.ensures,
-      taken-counted s l.result.answer e a.own l.result.destination c.is_meant.result a.told.taken c.one-2.result l.ensures.to
-          c.is_meant.ensures c.one-2.ensures,
+      ap (λ (n : ℕ). a.told.good + n) (c.from.ensures ∙ counted _ _ told.0),
+      ap (λ (n : ℕ). a.told.taken + n) (c.from-2.ensures ∙ counted _ _ told.1),
     )

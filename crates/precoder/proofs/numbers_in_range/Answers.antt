@@ -16,7 +16,7 @@ use Rattle.precoder.proofs.Turns.{number-end, remains}
 use Rattle.precoder.proofs.numbers_in_range.Goals as goal
 
 pub loop-i-init : goal.loop-i-init
-loop-i-init c = (omega arith, refl)
+loop-i-init c = refl
 
 -- with number i tested, what remains behind it decides
 split : (os : List ℕ) (i : ℕ) (z : ℤ) (t : Bool) → 4 * i + 4 ≤ length os → SFits w32 z → z ≡ get_or (numbers_of os) i (pos 0)
@@ -30,18 +30,18 @@ returns-then-not-in_range c =
     let l = c.loop-i in
     let n = c.number in
     let e = split c.args.octets.now l.i n.result c.in_range.result (omega (arith, c.loop-i-test.true)) (record { sfits = n.type_inv }) n.ensures c.in_range.ensures in
-    sym (l.invariant.1 ∙ rw c.if-not-in_range.true at e)
+    sym (l.invariant ∙ rw c.if-not-in_range.true at e)
 
 pub loop-i-preserved : goal.loop-i-preserved
 loop-i-preserved c =
     let l = c.loop-i in
     let n = c.number in
     let e = split c.args.octets.now l.i n.result c.in_range.result (omega (arith, c.loop-i-test.true)) (record { sfits = n.type_inv }) n.ensures c.in_range.ensures in
-    (omega (arith, c.loop-i-test.true), l.invariant.1 ∙ rw c.if-not-in_range.false at e)
+    l.invariant ∙ rw c.if-not-in_range.false at e
 
 pub returns : goal.returns
 unfolding every
 returns c =
     let l = c.loop-i in
     let os = c.args.octets.now in
-    sym (l.invariant.1 ∙ ap (every is_signal) (number-end os l.i (omega arith)))
+    sym (l.invariant ∙ ap (every is_signal) (number-end os l.i (omega arith)))

@@ -1,13 +1,9 @@
 use mathlib.Core.Path.{◌≡◌}
-use Prim.Native.Nat.{◌*◌, ◌-◌, ◌≤◌}
-use lib.ListN.{length, drop}
+use lib.ListN.{drop}
 use Rattle.numbers.specs.Promises.{numbers_of}
 use Rattle.ranges.specs.Ranges.{every}
 use Rattle.samples.specs.Samples.{is_signal}
 use Rattle.precoder.proofs.numbers_in_range.Given as goal
 
 abbrev pub invariant-loop-i : goal.invariant-loop-i
-invariant-loop-i l = (4 * l.i ≤ length l.octets) × (every is_signal (numbers_of l.octets) ≡ every is_signal (drop l.i (numbers_of l.octets)))
-
-abbrev pub decreases-loop-i : goal.decreases-loop-i
-decreases-loop-i l = l.count - l.i
+invariant-loop-i l = (every is_signal (numbers_of l.octets) ≡ every is_signal (drop l.i (numbers_of l.octets)))

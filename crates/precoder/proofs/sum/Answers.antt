@@ -18,7 +18,7 @@ use Rattle.precoder.proofs.sum.Goals as goal
 
 pub loop-tap-init : goal.loop-tap-init
 unfolding exact_sum
-loop-tap-init c = (omega arith, refl, omega arith, omega arith, omega arith, omega arith)
+loop-tap-init c = (refl, omega arith, omega arith, omega arith, omega arith)
 
 pub product-p-requires : goal.product-p-requires
 product-p-requires c =
@@ -35,22 +35,22 @@ product-p-requires c =
 pub overflow_add-hh : goal.overflow_add-hh
 overflow_add-hh c =
     let l = c.loop-tap in
-    column-asks l.tap (omega arith) (to_z w32 l.hh-bits) c.product-p.result.hh l.invariant.2 c.product-p.ensures.1
+    column-asks l.tap (omega arith) (to_z w32 l.hh-bits) c.product-p.result.hh l.invariant.1 c.product-p.ensures.1
 
 pub overflow_add-hl : goal.overflow_add-hl
 overflow_add-hl c =
     let l = c.loop-tap in
-    column-asks l.tap (omega arith) (to_z w32 l.hl-bits) c.product-p.result.hl l.invariant.3 c.product-p.ensures.2
+    column-asks l.tap (omega arith) (to_z w32 l.hl-bits) c.product-p.result.hl l.invariant.2 c.product-p.ensures.2
 
 pub overflow_add-lh : goal.overflow_add-lh
 overflow_add-lh c =
     let l = c.loop-tap in
-    column-asks l.tap (omega arith) (to_z w32 l.lh-bits) c.product-p.result.lh l.invariant.4 c.product-p.ensures.3
+    column-asks l.tap (omega arith) (to_z w32 l.lh-bits) c.product-p.result.lh l.invariant.3 c.product-p.ensures.3
 
 pub overflow_add-ll : goal.overflow_add-ll
 overflow_add-ll c =
     let l = c.loop-tap in
-    column-asks l.tap (omega arith) (to_z w32 l.ll-bits) c.product-p.result.ll l.invariant.5 c.product-p.ensures.4
+    column-asks l.tap (omega arith) (to_z w32 l.ll-bits) c.product-p.result.ll l.invariant.4 c.product-p.ensures.4
 
 -- the four sums with the products of one tap more, put together, are the exact sum with that tap
 more : (coefficients past : List ℤ) (k : ℕ) (hh hl lh ll : ℤ) (p : Parts) (x y : ℤ)
@@ -80,22 +80,21 @@ loop-tap-preserved c =
     let lh = to_z w32 l.lh-bits in
     let ll = to_z w32 l.ll-bits in
     rw (
-      column-is l.tap less hh p.hh i.2 e.1,
-      column-is l.tap less hl p.hl i.3 e.2,
-      column-is l.tap less lh p.lh i.4 e.3,
-      column-is l.tap less ll p.ll i.5 e.4,
+      column-is l.tap less hh p.hh i.1 e.1,
+      column-is l.tap less hl p.hl i.2 e.2,
+      column-is l.tap less lh p.lh i.3 e.3,
+      column-is l.tap less ll p.ll i.4 e.4,
     ) (
-      omega arith,
-      more cs ys l.tap hh hl lh ll p _ _ i.1 e.0 (to_z-of_z f) (to_z-of_z g),
-      column-more l.tap hh p.hh i.2 e.1,
-      column-more l.tap hl p.hl i.3 e.2,
-      column-more l.tap lh p.lh i.4 e.3,
-      column-more l.tap ll p.ll i.5 e.4,
+      more cs ys l.tap hh hl lh ll p _ _ i.0 e.0 (to_z-of_z f) (to_z-of_z g),
+      column-more l.tap hh p.hh i.1 e.1,
+      column-more l.tap hl p.hl i.2 e.2,
+      column-more l.tap lh p.lh i.3 e.3,
+      column-more l.tap ll p.ll i.4 e.4,
     )
 
 pub returns : goal.returns
 returns c =
     let l = c.loop-tap in
     let k : l.tap ≡ 180 = omega arith in
-    to_z-of_z {w = w64} (record { sfits = c.joined.type_inv }) ∙ c.joined.ensures ∙ l.invariant.1
+    to_z-of_z {w = w64} (record { sfits = c.joined.type_inv }) ∙ c.joined.ensures ∙ l.invariant.0
     ∙ ap (λ (n : ℕ). exact_sum n c.args.coefficients.now c.args.history.now) k

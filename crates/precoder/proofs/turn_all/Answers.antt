@@ -25,7 +25,7 @@ use Rattle.precoder.proofs.turn_all.Goals as goal
 pub loop-i-init : goal.loop-i-init
 loop-i-init c =
     let r = ranges-are c.args.coefficients.now c.args.history.now (numbers_of c.args.symbols.now) c.requires.0 in
-    (omega arith, refl, r.1, refl, refl, r.2)
+    (refl, r.1, refl, refl, r.2)
 
 -- symbol i and those after it are in range
 symbols-in : (symbols : List ℕ) (i : ℕ) → 4 * i + 4 ≤ length symbols → every is_signal (drop i (numbers_of symbols)) ≡ true
@@ -39,9 +39,9 @@ turn-w-requires c =
     let l = c.loop-i in
     let symbols = c.args.symbols.now in
     let fits : SFits w32 c.number.result = record { sfits = c.number.type_inv } in (
-      rw (to_z-of_z fits, c.number.ensures) (symbols-in symbols l.i (omega (arith, c.loop-i-test.true)) l.invariant.5).0,
+      rw (to_z-of_z fits, c.number.ensures) (symbols-in symbols l.i (omega (arith, c.loop-i-test.true)) l.invariant.4).0,
       (ranges-are c.args.coefficients.now c.args.history.now (numbers_of symbols) c.requires.0).0,
-      l.invariant.2,
+      l.invariant.1,
     )
 
 pub loop-i-preserved : goal.loop-i-preserved
@@ -57,8 +57,8 @@ loop-i-preserved c =
     let v = turn_of back coefficients past z in
     let next = past_after past (line_of back z v) in
     let four-more : 4 * i + 4 ≤ length symbols = omega (arith, c.loop-i-test.true) in
-    let four-room : 4 * i + 4 ≤ length l.room = omega (arith, four-more, l.invariant.1, c.requires.2) in
-    let ins = symbols-in symbols i four-more l.invariant.5 in
+    let four-room : 4 * i + 4 ≤ length l.room = omega (arith, four-more, l.invariant.0, c.requires.2) in
+    let ins = symbols-in symbols i four-more l.invariant.4 in
     let fits : SFits w32 c.number.result = record { sfits = c.number.type_inv } in
     let fit : SFits w32 out.result = record { sfits = out.type_inv } in
     let e = rw (to_z-of_z fits, c.number.ensures) at out.ensures in
@@ -67,13 +67,12 @@ loop-i-preserved c =
     let q = rw is at e.1 in
     rw (p, q)
     ((
-      omega (arith, four-more),
-      with-many l.room i v four-room ∙ l.invariant.1,
-      past-in past (line_of back z v) l.invariant.2 (line-in coefficients past back z v ins.0 (turns-of coefficients past back z ins.0)),
+      with-many l.room i v four-room ∙ l.invariant.0,
+      past-in past (line_of back z v) l.invariant.1 (line-in coefficients past back z v ins.0 (turns-of coefficients past back z ins.0)),
       written-turn l.room i v (turned_of back coefficients next (drop (i + 1) (numbers_of symbols))) four-room
           ∙ ap (λ (r : List ℤ). take (4 * i) l.room ++ number_octets r) (sym (turned_turn back coefficients past symbols i four-more))
-          ∙ l.invariant.3,
-      sym (past-turn back coefficients past symbols i four-more) ∙ l.invariant.4,
+          ∙ l.invariant.2,
+      sym (past-turn back coefficients past symbols i four-more) ∙ l.invariant.3,
       ins.1,
     ))
 
@@ -84,10 +83,10 @@ returns c =
     let zs = numbers_of a.symbols.now in
     let in-range = (ranges-are a.coefficients.now a.history.now zs c.requires.0).2 in
     let over : length a.symbols.now ≤ 4 * l.i = omega (arith, c.loop-i-test.false, c.requires.1) in
-    let full : length l.room ≤ 4 * l.i = omega (arith, over, l.invariant.1, c.requires.2) in
+    let full : length l.room ≤ 4 * l.i = omega (arith, over, l.invariant.0, c.requires.2) in
     record {
       out = turned_of a.back a.coefficients.now a.history.now zs;
       turns = turned-turns a.coefficients.now a.back a.history.now zs in-range;
-      written = sym (written-end l.room l.i _ full (turned-end a.back a.coefficients.now l.history a.symbols.now l.i over)) ∙ l.invariant.3;
-      past_is = sym (past_end a.back a.coefficients.now l.history a.symbols.now l.i over) ∙ l.invariant.4;
+      written = sym (written-end l.room l.i _ full (turned-end a.back a.coefficients.now l.history a.symbols.now l.i over)) ∙ l.invariant.2;
+      past_is = sym (past_end a.back a.coefficients.now l.history a.symbols.now l.i over) ∙ l.invariant.3;
     }

@@ -1,7 +1,7 @@
 use mathlib.Core.Path.{◌≡◌}
 use mathlib.Core.Bool.{Bool, true}
 use mathlib.Core.List.{List, ◌++◌}
-use Prim.Native.Nat.{◌*◌, ◌-◌, ◌≤◌}
+use Prim.Native.Nat.{◌*◌}
 use lib.IntN.{ℤ}
 use lib.ListN.{length, take, drop}
 use Rattle.numbers.specs.Promises.{numbers_of, number_octets}
@@ -17,11 +17,8 @@ end back coefficients past zs = past_after_all past (lines_of back zs (turned_of
 
 abbrev pub invariant-loop-i : goal.invariant-loop-i
 invariant-loop-i l =
-    (4 * l.i ≤ length l.symbols) × (length l.room ≡ length l.initial.room) × (every is_signal l.history ≡ true)
+    (length l.room ≡ length l.initial.room) × (every is_signal l.history ≡ true)
     × (take (4 * l.i) l.room ++ number_octets (turned_of l.back l.coefficients l.history (drop l.i (numbers_of l.symbols)))
     ≡ number_octets (turned_of l.back l.coefficients l.initial.history (numbers_of l.symbols)))
     × (end l.back l.coefficients l.history (drop l.i (numbers_of l.symbols)) ≡ end l.back l.coefficients l.initial.history (numbers_of l.symbols))
     × (every is_signal (drop l.i (numbers_of l.symbols)) ≡ true)
-
-abbrev pub decreases-loop-i : goal.decreases-loop-i
-decreases-loop-i l = l.count - l.i

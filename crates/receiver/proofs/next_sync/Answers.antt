@@ -14,39 +14,30 @@ loop-at-init c = (omega arith, c.requires.0, λ q h l. absurd (omega arith))
 pub overflow_sub-stop : goal.overflow_sub-stop
 overflow_sub-stop c = omega arith
 
-pub least-n-requires : goal.least-n-requires
-least-n-requires c = tt
-
-pub bits-requires : goal.bits-requires
-bits-requires c = tt
-
-pub first_in-j-requires : goal.first_in-j-requires
-first_in-j-requires c = tt
-
 pub overflow_add-result : goal.overflow_add-result
-overflow_add-result c = omega (arith, c.least-n.ensures)
+overflow_add-result c = omega (arith, c.min-n.ensures)
 
 pub returns-then-j-n : goal.returns-then-j-n
 returns-then-j-n c =
     let l = c.loop-at in
     let a = c.args in
-    sync-found a.s.now a.p a.stop l.at c.least-n.result c.bits.result c.first_in-j.result c.requires.1 l.invariant.0
-    c.loop-at-test.true c.least-n.ensures c.bits.ensures c.first_in-j.ensures l.invariant.2 c.if-j-n.true
+    sync-found a.s.now a.p a.stop l.at c.min-n.result c.bits.result c.first_in-j.result c.requires.1 l.invariant.0
+    c.loop-at-test.true c.min-n.ensures c.bits.ensures c.first_in-j.ensures l.invariant.2 c.if-j-n.true
 
 pub overflow_add-at : goal.overflow_add-at
-overflow_add-at c = omega (arith, c.least-n.ensures)
+overflow_add-at c = omega (arith, c.min-n.ensures)
 
 pub loop-at-smaller : goal.loop-at-smaller
-loop-at-smaller c = omega (arith, c.least-n.ensures)
+loop-at-smaller c = omega (arith, c.min-n.ensures)
 
 pub loop-at-preserved : goal.loop-at-preserved
 loop-at-preserved c =
     let l = c.loop-at in
     let a = c.args in (
       omega (arith, l.invariant.0),
-      omega (arith, c.least-n.ensures, c.loop-at-test.true),
-      sync-none a.s.now a.p a.stop l.at c.least-n.result c.bits.result c.first_in-j.result c.requires.1 l.invariant.0
-          c.loop-at-test.true c.least-n.ensures c.bits.ensures c.first_in-j.ensures l.invariant.2 c.if-j-n.false,
+      omega (arith, c.min-n.ensures, c.loop-at-test.true),
+      sync-none a.s.now a.p a.stop l.at c.min-n.result c.bits.result c.first_in-j.result c.requires.1 l.invariant.0
+          c.loop-at-test.true c.min-n.ensures c.bits.ensures c.first_in-j.ensures l.invariant.2 c.if-j-n.false,
     )
 
 pub returns : goal.returns

@@ -1,10 +1,9 @@
-use mathlib.Core.Path.{◌≡◌}
-use Prim.Native.Nat.{◌-◌, ◌≤◌}
+use Prim.Native.Nat.{◌-◌}
+use Rattle.story.specs.Events.{refused_with}
 use Rattle.replay.specs.Replay.{repeated}
+use Rattle.replay.proofs.Laws.{Alike}
 use Rattle.replay.proofs.follow.Given as goal
 
 abbrev pub invariant-loop-k : goal.invariant-loop-k
-invariant-loop-k l = (l.k ≤ l.times) × (repeated l.code (l.times - l.k) l.event ≡ repeated l.code l.times l.initial.event)
-
-abbrev pub decreases-loop-k : goal.decreases-loop-k
-decreases-loop-k l = l.times - l.k
+invariant-loop-k l =
+    Alike (repeated l.said.code (l.said.times - l.k) (refused_with l.story 0)) (repeated l.said.code l.said.times (refused_with l.initial.story 0))

@@ -1,5 +1,5 @@
 -- `sender::clocked` meets its contract.
-use Rattle.recurrence.specs.Run.{scramble}
+use Rattle.recurrence.specs.declared.Way.TheVariants.{Scramble as scramble}
 use Rattle.scrambler.proofs.Laws.{frame-clocked}
 use Rattle.sender.proofs.clocked.Goals as goal
 

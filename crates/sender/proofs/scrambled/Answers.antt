@@ -1,14 +1,10 @@
 -- `sender::scrambled` meets its contract.
-use Rattle.recurrence.specs.Run.{scramble}
+use Rattle.recurrence.specs.declared.Way.TheVariants.{Scramble as scramble}
 use Rattle.scrambler.proofs.Laws.{frame-taken}
 use Rattle.sender.proofs.scrambled.Goals as goal
 
 pub returns : goal.returns
 returns c =
-    let s = c.clear in
-    let r = c.clocked-ran in
     let a = c.args in
-    frame-taken a.x a.plain.now a.room.now scramble (record {
-      answer = r.result.answer;
-      next = record { end = a.x.end; state = r.result.state };
-    }) r.new.room s.new.s r.ensures s.ensures c.requires
+    frame-taken a.x a.plain.now a.room.now scramble c.clocked.result c.clocked.new.room c.clocked.ensures c.requires c.in_ok-state.state c.clear.new.s
+    c.in_ok-state.was c.clear.ensures

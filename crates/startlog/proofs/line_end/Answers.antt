@@ -1,28 +1,21 @@
--- `startlog::line_end` meets its contract. No newline stands from the first place to the place k.
-use mathlib.Core.Path.{refl, sym, ◌∙◌}
+-- `startlog::line_end` meets its contract.
+use mathlib.Core.Path.{sym, ◌∙◌}
 use native.Mathlib.Omega.{arith}
-use Rattle.startlog.proofs.Laws.{end-here, end-next, end-last}
+use Prim.Native.Nat.{◌-◌}
+use lib.ListN.{length, drop, length-drop}
+use lib.Seq.{take_all}
+use Rattle.startlog.proofs.Laws.{end-past, line-ends}
 use Rattle.startlog.proofs.line_end.Goals as goal
 
-pub loop-k-init : goal.loop-k-init
-loop-k-init c = refl
+pub returns-in-Some : goal.returns-in-Some
+returns-in-Some c =
+    let f = c.in-Some.ensures.lookup in
+    let l = c.args.log.now in
+    let at = c.args.at in
+    let whole = take_all (length l - at) (drop at l) (omega (arith, length-drop at l)) in
+    line-ends l c.in-Some.rest.now at c.newline.result c.unwrap_or.result (f.0.2 ∙ whole) c.newline.ensures c.unwrap_or.ensures
 
-pub bounds-log-k : goal.bounds-log-k
-bounds-log-k c = omega arith
-
-pub returns-then-log-k-eq10 : goal.returns-then-log-k-eq10
-returns-then-log-k-eq10 c =
-    sym (end-here c.args.log.now c.loop-k.k c.loop-k-test.true c.if-log-k-eq10.true) ∙ c.loop-k.invariant
-
-pub overflow_add-k : goal.overflow_add-k
-overflow_add-k c = omega arith
-
-pub loop-k-smaller : goal.loop-k-smaller
-loop-k-smaller c = omega arith
-
-pub loop-k-preserved : goal.loop-k-preserved
-loop-k-preserved c =
-    end-next c.args.log.now c.loop-k.k c.loop-k-test.true c.if-log-k-eq10.false ∙ c.loop-k.invariant
-
-pub returns : goal.returns
-returns c = sym (end-last c.args.log.now c.loop-k.k c.loop-k-test.false) ∙ c.loop-k.invariant
+pub returns-in-None : goal.returns-in-None
+returns-in-None c =
+    let f = c.in-None.ensures.lookup in
+    sym (end-past c.args.log.now c.args.at (omega arith))

@@ -1,15 +1,14 @@
 -- `symbol::level_code` meets its contract. Assumes nothing.
-use mathlib.Core.Path.{◌≡◌, ◌∙◌}
-use mathlib.Core.Bool.{false}
+use mathlib.Core.Path.{◌≡◌, sym, ◌∙◌}
+use mathlib.Core.Bool.{Bool, true}
 use Prim.Native.Nat.{◌+◌, ◌-◌, ◌/◌}
 use native.Mathlib.Omega.{arith}
 use lib.IntN.{ℤ, pos, negsuc, nat_abs, ◌+ℤ◌}
-use lib.Signed.{lt_z}
 use mir.Syntax.{w32}
 use mir.Val.{SFits, to_z, of_z}
 use mir.Facts.{to_z-of_z}
-use Rattle.symbol.proofs.Levels.{rank-low, rank-middle, rank-high, place-below, place-over, place-odd, place-even, Above, above}
-use Rattle.symbol.proofs.Levels.{code-given, code-refused}
+use Rattle.ranges.specs.Ranges.{between}
+use Rattle.symbol.proofs.Levels.{rank-low, rank-middle, rank-high, place-out, place-odd, place-even, Above, above, level_code-given, level_code-refused}
 use Rattle.symbol.proofs.level_code.Goals as goal
 
 -- a level from -15 to 15, with how far it lies above -15 read back from its bits
@@ -19,47 +18,47 @@ record Read (z : ℤ) : Type 0 where
   fits : SFits w32 (pos far.far)
   is : nat_abs (to_z w32 (of_z w32 (to_z w32 (of_z w32 z) +ℤ pos 15))) ≡ far.far
 
-read : (z : ℤ) → SFits w32 z → lt_z (to_z w32 (of_z w32 z)) (negsuc 14) ≡ false → lt_z (pos 15) (to_z w32 (of_z w32 z)) ≡ false → Read z
-read z h lo hi =
-    let a = above z (rw (to_z-of_z h) at lo) (rw (to_z-of_z h) at hi) in
+read-in : (z : ℤ) → SFits w32 z → between (negsuc 14) (pos 15) z ≡ true → Read z
+read-in z h e =
+    let a = above z e in
     let f : SFits w32 (pos a.far) = record { sfits = omega (arith, a.small) } in
     record { far = a; sum = rw (to_z-of_z h) a.is; fits = f; is = rw (to_z-of_z h, a.is, to_z-of_z f) }
 
-pub returns-then-sixteenths-ltminus15 : goal.returns-then-sixteenths-ltminus15
-returns-then-sixteenths-ltminus15 c = code-refused _ (place-below _ (rw (to_z-of_z c.ranges.sixteenths) at c.if-sixteenths-ltminus15.true))
+read : (z : ℤ) (t : Bool) → SFits w32 z → t ≡ between (negsuc 14) (pos 15) (to_z w32 (of_z w32 z)) → t ≡ true → Read z
+read z t h said e = read-in z h (rw (to_z-of_z h) at (sym said ∙ e))
 
-pub returns-then-sixteenths-gt15 : goal.returns-then-sixteenths-gt15
-returns-then-sixteenths-gt15 c = code-refused _ (place-over _ (rw (to_z-of_z c.ranges.sixteenths) at c.if-sixteenths-gt15.true))
+pub returns-then-not-in_range : goal.returns-then-not-in_range
+returns-then-not-in_range c = level_code-refused _ (place-out _ (rw (to_z-of_z c.ranges.sixteenths) at (sym c.in_range.ensures ∙ c.if-not-in_range.true)))
 
 pub overflow_add-above : goal.overflow_add-above
 overflow_add-above c =
-    let r = read c.args.sixteenths c.ranges.sixteenths c.if-sixteenths-ltminus15.false c.if-sixteenths-gt15.false in
+    let r = read c.args.sixteenths _ c.ranges.sixteenths c.in_range.ensures c.if-not-in_range.false in
     rw r.sum r.fits
 
 pub overflow_cast-above : goal.overflow_cast-above
 overflow_cast-above c =
-    let r = read c.args.sixteenths c.ranges.sixteenths c.if-sixteenths-ltminus15.false c.if-sixteenths-gt15.false in
+    let r = read c.args.sixteenths _ c.ranges.sixteenths c.in_range.ensures c.if-not-in_range.false in
     rw (r.sum, to_z-of_z r.fits) (tt, record { fits = omega (arith, r.far.small) })
 
 pub returns-then-above-eq1 : goal.returns-then-above-eq1
 returns-then-above-eq1 c =
-    let r = read c.args.sixteenths c.ranges.sixteenths c.if-sixteenths-ltminus15.false c.if-sixteenths-gt15.false in
-    code-refused _ (place-odd _ r.far (rw r.is at c.if-above-eq1.true))
+    let r = read c.args.sixteenths _ c.ranges.sixteenths c.in_range.ensures c.if-not-in_range.false in
+    level_code-refused _ (place-odd _ r.far (rw r.is at c.if-above-eq1.true))
 
 pub returns-in-0-to-7 : goal.returns-in-0-to-7
 returns-in-0-to-7 c =
-    let r = read c.args.sixteenths c.ranges.sixteenths c.if-sixteenths-ltminus15.false c.if-sixteenths-gt15.false in
+    let r = read c.args.sixteenths _ c.ranges.sixteenths c.in_range.ensures c.if-not-in_range.false in
     let even = place-even _ r.far (rw r.is at c.if-above-eq1.false) in
-    rw r.is (code-given _ (r.far.far / 2) (even ∙ rank-low (r.far.far / 2) (omega arith)) (omega arith))
+    rw r.is (level_code-given _ (r.far.far / 2) (even ∙ rank-low (r.far.far / 2) (omega arith)) (omega arith))
 
 pub returns-in-8-to-11 : goal.returns-in-8-to-11
 returns-in-8-to-11 c =
-    let r = read c.args.sixteenths c.ranges.sixteenths c.if-sixteenths-ltminus15.false c.if-sixteenths-gt15.false in
+    let r = read c.args.sixteenths _ c.ranges.sixteenths c.in_range.ensures c.if-not-in_range.false in
     let even = place-even _ r.far (rw r.is at c.if-above-eq1.false) in
-    rw r.is (code-given _ (r.far.far / 2 + 4) (even ∙ rank-middle (r.far.far / 2) (omega arith) (omega arith)) (omega arith))
+    rw r.is (level_code-given _ (r.far.far / 2 + 4) (even ∙ rank-middle (r.far.far / 2) (omega arith) (omega arith)) (omega arith))
 
 pub returns-in_default : goal.returns-in_default
 returns-in_default c =
-    let r = read c.args.sixteenths c.ranges.sixteenths c.if-sixteenths-ltminus15.false c.if-sixteenths-gt15.false in
+    let r = read c.args.sixteenths _ c.ranges.sixteenths c.in_range.ensures c.if-not-in_range.false in
     let even = place-even _ r.far (rw r.is at c.if-above-eq1.false) in
-    rw r.is (code-given _ (r.far.far / 2 - 4) (even ∙ rank-high (r.far.far / 2) (omega arith)) (omega arith))
+    rw r.is (level_code-given _ (r.far.far / 2 - 4) (even ∙ rank-high (r.far.far / 2) (omega arith)) (omega arith))

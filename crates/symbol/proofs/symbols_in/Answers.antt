@@ -1,32 +1,23 @@
--- `symbol::symbols_in` meets its contract. The invariant: what remains decides. Assumes nothing.
-use mathlib.Core.Path.{refl, sym, ◌∙◌}
-use native.Mathlib.Omega.{arith}
-use Rattle.symbol.proofs.Runs.{symbols-next, symbols-out, symbols-end}
+-- `symbol::symbols_in` meets its contract. Assumes nothing.
+use mathlib.Core.Path.{◌≡◌, refl, ap, ◌∙◌}
+use mathlib.Core.Bool.{Bool, ◌&&◌}
+use mathlib.Core.List.{List, [], ◌∷◌}
+use Prim.Native.Nat.{ℕ}
+use lib.Dec.{leb}
+use Rattle.std.proofs.Common.{rules, tests}
+use Rattle.std.proofs.lemmas.Iterator.{YieldsList-from_slice}
+use Rattle.std.proofs.lemmas.Iterator.Search.{all_from_yields_List}
+use Rattle.std.specs.List.{list_all}
+use Rattle.symbol.specs.Encoder.{symbols_in}
 use Rattle.symbol.proofs.symbols_in.Goals as goal
 
-pub loop-i-init : goal.loop-i-init
-loop-i-init c = (omega arith, refl)
-
-pub bounds-symbols-i : goal.bounds-symbols-i
-bounds-symbols-i c = omega arith
-
-pub returns-then-symbols-i-gt7 : goal.returns-then-symbols-i-gt7
-returns-then-symbols-i-gt7 c =
-    let l = c.loop-i in
-    sym (l.invariant.1 ∙ symbols-out c.args.symbols.now l.i c.loop-i-test.true c.if-symbols-i-gt7.true)
-
-pub overflow_add-i : goal.overflow_add-i
-overflow_add-i c = omega arith
-
-pub loop-i-smaller : goal.loop-i-smaller
-loop-i-smaller c = omega arith
-
-pub loop-i-preserved : goal.loop-i-preserved
-loop-i-preserved c =
-    let l = c.loop-i in
-    (omega arith, l.invariant.1 ∙ symbols-next c.args.symbols.now l.i c.loop-i-test.true c.if-symbols-i-gt7.false)
+-- the definition is the library's word for such a test
+all_in : (symbols : List ℕ) → list_all (λ (symbol : ℕ). leb symbol 7) symbols ≡ symbols_in symbols
+unfolding symbols_in
+all_in [] = refl
+all_in (symbol ∷ symbols) = ap (λ (b : Bool). leb symbol 7 && b) (all_in symbols)
 
 pub returns : goal.returns
 returns c =
-    let l = c.loop-i in
-    sym (l.invariant.1 ∙ symbols-end c.args.symbols.now l.i c.loop-i-test.false l.invariant.0)
+    all_from_yields_List (λ (symbol : ℕ). leb symbol 7) _ _ c.all.result c.all.ensures.ran (YieldsList-from_slice c.args.symbols.now cc)
+    (λ x b q k. search (rules, tests)) ∙ all_in c.args.symbols.now

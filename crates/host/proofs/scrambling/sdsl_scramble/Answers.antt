@@ -1,12 +1,12 @@
 -- `host::scrambling::sdsl_scramble` meets its contract.
-use mathlib.Core.Path.{refl}
+use mathlib.Core.Path.{sym, subst}
+use Rattle.recurrence.specs.declared.Way.TheVariants.{Scramble as scramble}
+use Rattle.host.specs.declared.scrambling.Scrambled.{Scrambled}
+use Rattle.host.specs.Scrambling.{ScrambledRun}
+use Rattle.host.proofs.ScramblingLaws.{run-crossed}
 use Rattle.host.proofs.scrambling.sdsl_scramble.Goals as goal
 
-pub scramble_run-ran-requires : goal.scramble_run-ran-requires
-scramble_run-ran-requires c = tt
-
-pub shape_of-output : goal.shape_of-output
-shape_of-output c = c.scramble_run-ran.auto.output
-
 pub returns : goal.returns
-returns c = record { ran = c.scramble_run-ran.result; crossed = refl; promise = c.scramble_run-ran.ensures }
+returns c =
+    let a = c.args in
+    subst (λ (s : Scrambled). ScrambledRun scramble a.end a.state a.input.now a.bits a.output.now s c.scramble_run-ran.new.output) (sym c.scrambled_out.ensures) (run-crossed scramble a.end a.state a.input.now a.bits a.output.now c.scramble_run-ran.result c.scramble_run-ran.new.output c.scramble_run-ran.ensures)

@@ -12,7 +12,7 @@ use Rattle.host.specs.Symbols.{HistoryStarted}
 use Rattle.host.proofs.symbols.sdsl_history_start.Goals as goal
 
 pub returns-then-history-ne-HISTORY_OCTETS : goal.returns-then-history-ne-HISTORY_OCTETS
-returns-then-history-ne-HISTORY_OCTETS c = record { answered = simp (ne_eqb _ _ c.if-history-ne-HISTORY_OCTETS.true); left = refl }
+returns-then-history-ne-HISTORY_OCTETS c = rw c.number.ensures (record { answered = simp (ne_eqb _ _ c.if-history-ne-HISTORY_OCTETS.true); left = refl })
 
 pub start-past-requires : goal.start-past-requires
 start-past-requires c = tt

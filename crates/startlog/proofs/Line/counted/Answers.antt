@@ -1,51 +1,37 @@
 -- `Line::counted` meets its contract. After k turns the first k digits are read.
-use mathlib.Core.Path.{◌∙◌}
+use mathlib.Core.Logic.{inl, inr}
 use native.Mathlib.Omega.{arith}
-use Rattle.startlog.proofs.Laws.{below, above, read_none, read_more, none-counted, many-counted, some-counted}
+use Rattle.std.proofs.Common.{◌≡◌, rules, true, false}
+use lib.ListN.{get_or}
+use Rattle.startlog.specs.Lines.{is_digit}
+use Rattle.startlog.proofs.Laws.{read_none, read_more, not-counted, none-counted, some-counted}
 use Rattle.startlog.proofs.Line.counted.Goals as goal
+use Rattle.startlog.proofs.Line.counted.Goals.{then-ticks-eq0-via-then-ticks-eq0, then-ticks-eq0-via-else-ticks-eq0+then-from-ticks}
 
-pub loop-k-init : goal.loop-k-init
-loop-k-init c = read_none c.args.digits.now
+pub loop-digit-init : goal.loop-digit-init
+loop-digit-init c = read_none c.args.digits.now
 
-pub bounds-digits-k : goal.bounds-digits-k
-bounds-digits-k c = omega arith
+pub returns-then-not-contains : goal.returns-then-not-contains
+returns-then-not-contains c =
+    let d : is_digit (get_or c.args.digits.now c.loop-digit.digit-index 0) ≡ false = search rules in
+    not-counted c.args.digits.now c.loop-digit.digit-index c.loop-digit-test.true d
 
-pub returns-then-digit-lt48 : goal.returns-then-digit-lt48
-returns-then-digit-lt48 c =
-    c.with.ensures ∙ below c.args.digits.now c.loop-k.k c.loop-k-test.true c.if-digit-lt48.true
-
-pub returns-then-digit-gt57 : goal.returns-then-digit-gt57
-returns-then-digit-gt57 c =
-    c.with-then-digit-gt57.ensures ∙ above c.args.digits.now c.loop-k.k c.loop-k-test.true c.if-digit-gt57.true
-
-pub overflow_add-k : goal.overflow_add-k
-overflow_add-k c = omega arith
-
-pub loop-k-smaller : goal.loop-k-smaller
-loop-k-smaller c = omega arith
-
-pub loop-k-preserved : goal.loop-k-preserved
-loop-k-preserved c =
-    let l = c.loop-k in
-    read_more c.args.digits.now l.ticks l.k c.more-ticks.result l.invariant c.loop-k-test.true
-    c.if-digit-lt48.false c.if-digit-gt57.false c.more-ticks.ensures
+pub loop-digit-preserved : goal.loop-digit-preserved
+loop-digit-preserved c =
+    let i = c.loop-digit in
+    let d : is_digit (get_or c.args.digits.now i.digit-index 0) ≡ true = search rules in
+    read_more c.args.digits.now i.ticks i.digit-index c.more-ticks.result i.invariant c.loop-digit-test.true d c.more-ticks.ensures
 
 pub returns-then-ticks-eq0 : goal.returns-then-ticks-eq0
 returns-then-ticks-eq0 c =
-    let l = c.loop-k in
-    c.with-then-ticks-eq0.ensures ∙ none-counted c.args.digits.now l.ticks l.k l.invariant c.loop-k-test.false
-    c.if-ticks-eq0.true
-
-pub returns-then-ticks : goal.returns-then-ticks
-returns-then-ticks c =
-    let l = c.loop-k in
-    c.with-then-ticks.ensures ∙ many-counted c.args.digits.now l.ticks l.k l.invariant c.loop-k-test.false c.if-ticks.true
-
-pub overflow_cast-ticks : goal.overflow_cast-ticks
-overflow_cast-ticks c = omega arith
+    let i = c.loop-digit in
+    none-counted c.args.digits.now i.ticks i.digit-index i.invariant c.loop-digit-test.false
+    (elim c.then-ticks-eq0.branch [
+      | then-ticks-eq0-via-then-ticks-eq0 w ↦ inl w.if-ticks-eq0.true
+      | then-ticks-eq0-via-else-ticks-eq0+then-from-ticks w ↦ inr (omega arith)
+    ])
 
 pub returns : goal.returns
 returns c =
-    let l = c.loop-k in
-    c.with-2.ensures ∙ some-counted c.args.digits.now l.ticks l.k l.invariant c.loop-k-test.false
-    c.if-ticks-eq0.false c.if-ticks.false
+    let i = c.loop-digit in
+    some-counted c.args.digits.now i.ticks i.digit-index i.invariant c.loop-digit-test.false c.if-ticks-eq0.false (omega arith)

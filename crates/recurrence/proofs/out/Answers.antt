@@ -1,6 +1,0 @@
--- `recurrence::out` meets its contract.
-use Rattle.recurrence.proofs.Laws.{out-is}
-use Rattle.recurrence.proofs.out.Goals as goal
-
-pub returns : goal.returns
-returns c = out-is c.args.tap c.args.state c.args.bit c.requires.2
