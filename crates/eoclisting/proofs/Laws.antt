@@ -1,5 +1,5 @@
 -- Laws of the texts of messages. Assumes nothing.
-use mathlib.Core.Path.{◌≡◌, refl, sym, ap, ◌∙◌, subst₂}
+use mathlib.Core.Path.{◌≡◌, refl, sym, ap, ◌∙◌}
 use mathlib.Core.Bool.{Bool, true, false, cond, ◌&&◌}
 use mathlib.Core.List.{List, [], ◌∷◌, ◌++◌}
 use Prim.Native.Nat.{ℕ, zero, suc, ◌+◌, ◌-◌, ◌≤◌, ◌<◌}
@@ -11,23 +11,10 @@ use lib.ListN.{length, get_or, take, drop, drop_of_length-le}
 use lib.Seq.{drop-cons}
 use Rattle.ascii.specs.Text.{text, hexes}
 use Rattle.ascii.specs.Plain.{text_length}
-use Rattle.ascii.specs.declared.Text.{Text}
-use Rattle.ascii.specs.Promises.{Put, Puts, Told}
-use Rattle.ascii.proofs.Room.{told}
 use Rattle.forms.specs.Forms.{formed}
 use Rattle.eoclisting.specs.Contents.{hex_part, margin_text, string_length, string_by, string_text}
 use Rattle.eoclisting.specs.Contents.{short_part, margins_text, status_part, inventory_text, inventory_part, contents_text}
 use Rattle.eoclisting.specs.Totals.{left_text, count_text}
-
--- ---- contents in hex
-
-pub hex-none : (c : List ℕ) → length c ≡ 0 → [] ≡ hex_part c
-unfolding hex_part
-hex-none c e = simp (eq-eqb (length c) 0 e)
-
-pub hex-some : (c : List ℕ) → (length c ≡ 0 → ⊥) → text ": " ++ hexes c ≡ hex_part c
-unfolding hex_part
-hex-some c h = simp (ne_eqb (length c) 0 h)
 
 -- ---- a margin
 
@@ -185,10 +172,3 @@ module _ (n good refused : ℕ) (e : refused ≡ n - good) where
   pub count-more : (n ≡ 1 → ⊥) → formed (text "# messages: # good, # refused") (n ∷ good ∷ refused ∷ []) ≡ count_text n good
   unfolding count_text
   count-more h = ap (λ (r : ℕ). formed (text "# messages: # good, # refused") (n ∷ good ∷ r ∷ [])) e ∙ (simp (ne_eqb n 1 h))
-
--- ---- a whole text
-
--- a text put from a room's start on is told
-pub puts-told : {text exit : List ℕ} {s e : Text} → Puts s text e → s.at ≡ 0 → exit ≡ e.room.now → Told text s.room.now e.at exit
-puts-told {text} {exit} {s} {e} p start end =
-    told text s.room.now exit e.at (subst₂ (λ (n : ℕ) (x : List ℕ). Put s.room.now n text e.at x) start (sym end) p.put)

@@ -62,9 +62,6 @@ module _ (s : List ℕ) (count : ℕ) where
   pub nth-length : count * 79 ≡ length s → (j : ℕ) → j < count → length (nth j) ≡ 79
   nth-length e j h = omega (arith, length-take 79 (drop (j * 79) s), length-drop (j * 79) s, there e j h)
 
-  pub nth-own : (j : ℕ) → own_of (nth j) ≡ get_or s (j * 79) 0
-  nth-own j = get_or-take 79 (drop (j * 79) s) 0 0 (omega arith) ∙ get_or-drop (j * 79) s 0 0 ∙ ap (λ (n : ℕ). get_or s n 0) (add-zero (j * 79))
-
   -- ---- the message put into the records that are meant
 
   module _ (d : ℕ) (tail : List ℕ) where

@@ -9,12 +9,11 @@ use Rattle.answer.specs.declared.Refused.{Refused}
 use Rattle.answer.specs.Given.{answer_of}
 use Rattle.answer.proofs.Given.{refused-number}
 use Rattle.ascii.specs.Promises.{Puts}
-use Rattle.ascii.proofs.Room.{puts_as}
+use Rattle.ascii.proofs.Room.{puts_as, puts-told}
 use Rattle.eoc.specs.Reading.{message_in}
 use Rattle.eocreader.specs.declared.Found.{Found}
 use Rattle.eocreader.specs.Promises.{MessageRead}
 use Rattle.eoclisting.specs.Line.{message_line}
-use Rattle.eoclisting.proofs.Laws.{puts-told}
 use Rattle.eoclisting.proofs.Reading.{refused-line, read-line}
 use Rattle.eoclisting.proofs.line.Goals as goal
 use Rattle.eoclisting.proofs.line.Goals.{in-Ok, in-Err}

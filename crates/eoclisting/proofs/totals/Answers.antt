@@ -1,9 +1,8 @@
 -- `eoclisting::totals` meets its contract.
 use mathlib.Core.Path.{refl}
 use Rattle.std.proofs.Common.{rules}
-use Rattle.ascii.proofs.Room.{puts-more}
+use Rattle.ascii.proofs.Room.{puts-more, puts-told}
 use Rattle.eoclisting.specs.Totals.{totals_text}
-use Rattle.eoclisting.proofs.Laws.{puts-told}
 use Rattle.eoclisting.proofs.totals.Goals as goal
 
 pub returns : goal.returns
