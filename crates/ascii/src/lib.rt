@@ -154,39 +154,24 @@ pub fn put_hexes(room: &mut [u8], at: usize, octets: &[u8]) -> usize
 fn is_printable(octet: u8) -> bool
     ensures { result ≡ is_printable octet }
 {
-    if octet < b' ' {
-        return false;
-    }
-    octet <= b'~'
+    (b' '..=b'~').contains(&octet)
 }
 
 // How many printable octets stand at the front.
 fn printables(octets: &[u8]) -> usize
     ensures { result ≡ printables octets.now }
 {
-    let mut k = 0;
-    while k < octets.len() {
-        if is_printable(octets[k]) {
-            k += 1;
-        } else {
-            return k;
-        }
-    }
-    k
+    octets
+        .iter()
+        .take_while(|octet| is_printable(**octet))
+        .count()
 }
 
-// Whether all octets from a place on are zero.
-fn is_zero_from(octets: &[u8], at: usize) -> bool
-    ensures { result ≡ all_zeros (drop at octets.now) }
+// Whether all octets are zero.
+fn is_zero(octets: &[u8]) -> bool
+    ensures { result ≡ all_zeros octets.now }
 {
-    let mut k = at;
-    while k < octets.len() {
-        if octets[k] != 0 {
-            return false;
-        }
-        k += 1;
-    }
-    true
+    octets.iter().all(|octet| *octet == 0)
 }
 
 // How many octets of a field are text: printable ones at its front, where only zeros follow; else 0.
@@ -194,8 +179,5 @@ pub fn text_length(octets: &[u8]) -> usize
     ensures { TextLength octets.now result }
 {
     let n = printables(octets);
-    if is_zero_from(octets, n) {
-        return n;
-    }
-    0
+    if is_zero(&octets[n..]) { n } else { 0 }
 }
