@@ -7,7 +7,7 @@ use native.Mathlib.Omega.{arith}
 use borrow.Author.Tests.{lt-ltb, le-ltb, ltb-true, ltb-false}
 use lib.Dec.{ltb}
 use lib.IntN.{ℤ, pos, negsuc, nat_abs}
-use lib.Signed.{mag, lt_z}
+use lib.Signed.{lt_z}
 use native.Mathlib.Nat.{pow-suc}
 use native.Mathlib.Numerals.{add-one}
 use native.Mathlib.Decide.{dec_lt}
@@ -80,16 +80,6 @@ pub decimal-last : (n d : ℕ) → 10 ≤ n → d ≡ digit (n % 10) → decimal
 decimal-last n d h e = ap (λ (x : ℕ). decimal (n / 10) ++ (x ∷ [])) e ∙ sym (decimal-more n h)
 
 -- ---- a whole number, by its sign
-
-pub signed_below : (z : ℤ) → lt_z z (pos 0) ≡ true → text "-" ++ decimal (mag z + 1) ≡ signed z
-unfolding signed
-signed_below (pos n) e = absurd (omega (arith, ltb-true n 0 e))
-signed_below (negsuc n) e = refl
-
-pub signed-from : (z : ℤ) → lt_z z (pos 0) ≡ false → decimal (mag z) ≡ signed z
-unfolding signed
-signed-from (pos n) e = refl
-signed-from (negsuc n) e = absurd (true≢false e)
 
 pub minus-first : (z : ℤ) → lt_z z (pos 0) ≡ true → text "-" ++ decimal (nat_abs z) ≡ signed z
 unfolding signed

@@ -1,56 +1,30 @@
--- Laws of printable octets and zeros, from a place on. Assumes nothing.
-use mathlib.Core.Path.{◌≡◌}
+-- Laws of octets that are text. Assumes nothing.
+use mathlib.Core.Path.{◌≡◌, refl, ap}
 use mathlib.Core.Bool.{Bool, true, false, cond}
 use mathlib.Core.List.{List, [], ◌∷◌}
-use Prim.Native.Nat.{ℕ, suc, ◌+◌, ◌≤◌, ◌<◌}
-use native.Mathlib.Numerals.{add-one}
+use Prim.Native.Nat.{ℕ, ◌-◌, ◌≤◌}
 use native.Mathlib.Omega.{arith}
-use borrow.Author.Tests.{eq-eqb, ne_eqb}
-use lib.ListN.{length, get_or, drop, drop_of_length-le}
-use lib.Seq.{drop-cons}
+use lib.ListN.{length, take, drop, length-drop}
+use lib.Seq.{take_all}
+use Rattle.std.specs.List.{prefix_len}
+use Rattle.std.proofs.lemmas.List.Sums.{prefix_len-le-length}
 use Rattle.ascii.specs.Plain.{is_printable, printables, all_zeros, text_length}
 
--- ---- printable octets
-
-pub print-stop : (os : List ℕ) (k : ℕ) → k < length os → is_printable (get_or os k 0) ≡ false → k ≡ k + printables (drop k os)
+-- the printable octets at the front, as the library counts them
+pub printables-prefix : (os : List ℕ) → printables os ≡ prefix_len is_printable os
 unfolding printables
-print-stop os k h e = rw (drop-cons os k 0 h) (simp e (omega arith))
-
-pub print-next : (os : List ℕ) (k : ℕ) → k < length os → is_printable (get_or os k 0) ≡ true → k + 1 + printables (drop (k + 1) os) ≡ k + printables (drop k os)
-unfolding printables
-print-next os k h e = rw (add-one, drop-cons os k 0 h) (simp e (omega arith))
-
-pub print-end : (os : List ℕ) (k : ℕ) → length os ≤ k → k ≡ k + printables (drop k os)
-unfolding printables
-print-end os k h = rw (drop_of_length-le os h) (omega arith)
-
--- ---- zeros
-
-pub zero-stop : (os : List ℕ) (k : ℕ) → k < length os → (get_or os k 0 ≡ 0 → ⊥) → false ≡ all_zeros (drop k os)
-unfolding all_zeros
-zero-stop os k h e = rw (drop-cons os k 0 h) (simp (ne_eqb (get_or os k 0) 0 e))
-
-pub zero-next : (os : List ℕ) (k : ℕ) → k < length os → get_or os k 0 ≡ 0 → all_zeros (drop (k + 1) os) ≡ all_zeros (drop k os)
-unfolding all_zeros
-zero-next os k h e = rw (add-one, drop-cons os k 0 h) (simp (eq-eqb (get_or os k 0) 0 e))
-
-pub zero-end : (os : List ℕ) (k : ℕ) → length os ≤ k → true ≡ all_zeros (drop k os)
-unfolding all_zeros
-zero-end os k h = rw (drop_of_length-le os h)
-
--- ---- both
+printables-prefix [] = refl
+printables-prefix (o ∷ os) = ap (λ (n : ℕ). cond (is_printable o) n 0) (omega (arith, printables-prefix os))
 
 pub text_of : (os : List ℕ) (n : ℕ) (b : Bool) → n ≡ printables os → b ≡ all_zeros (drop n os) → cond b n 0 ≡ text_length os
 text_of os n b p q = rw (q, p)
 
-prints-within : (os : List ℕ) → printables os ≤ length os
-unfolding printables
-prints-within [] = omega arith
-prints-within (o ∷ os) = go (is_printable o) (prints-within os)
-  where
-    go : (b : Bool) → printables os ≤ length os → cond b (suc (printables os)) 0 ≤ suc (length os)
-    go true h = omega arith
-    go false h = omega arith
+-- the octets from place n on
+pub rest_of : (os : List ℕ) (n : ℕ) → all_zeros (take (length os - n) (drop n os)) ≡ all_zeros (drop n os)
+rest_of os n = ap all_zeros (take_all (length os - n) (drop n os) (omega (arith, length-drop n os)))
+
+pub prints-within : (os : List ℕ) → printables os ≤ length os
+prints-within os = rw (printables-prefix os) (prefix_len-le-length is_printable os)
 
 -- text lies within its field
 pub text-within : (os : List ℕ) → text_length os ≤ length os

@@ -23,6 +23,8 @@ pub struct Verdict {
     pub vendor: [u8; 16],
 }
 
+// Stays: numbers and not an enum. put_name, put_todo and cardline's line take any number as a verdict, and any as how a word compares:
+// those that none of these names give no words, and a parameter of an enum would ask more of callers.
 // How a word compares with the customer's: no customer is given; the same; the customer's read last bit first; another; the card has none.
 pub const NO_CUSTOMER: u32 = 0;
 

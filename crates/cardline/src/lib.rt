@@ -9,6 +9,7 @@ ghost use Rattle.cardline.specs.Line.{shown_octet, shown, vendor_text, vendor_ce
 ghost use Rattle.cardline.specs.Line.{heading, training_cells, final_cells, cells, like_cell, findings, csv_octet, csv_octets, reference_name};
 ghost use Rattle.cardline.specs.Promises.{Headed, Lined, Separated, Referred};
 
+use answer::Refused;
 use ascii::Text;
 use card::Verdict;
 
@@ -56,7 +57,7 @@ fn put_length(text: &mut Text<'_>, n: u32)
 fn put_verdict(text: &mut Text<'_>, rank: u32, octets: u32)
     ensures { Puts text.old (verdict_words rank octets) text.new }
 {
-    if rank == answer::LENGTH {
+    if rank == Refused::Length.number() {
         put_length(text, octets);
     } else {
         card::put_name(text, rank);
@@ -120,7 +121,7 @@ fn put_final(text: &mut Text<'_>, vendor: &[u8])
 fn put_cells(text: &mut Text<'_>, v: Verdict)
     ensures { Puts text.old (cells v.answer v) text.new }
 {
-    if v.answer != answer::DONE {
+    if v.answer != 0 {
         text.word(b"\t-\t-\t-\t-\t-\t-");
     } else if v.kind == layout::TRAINING {
         put_training(text, v.used, v.a, v.b, &v.vendor);

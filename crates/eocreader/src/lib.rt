@@ -11,7 +11,7 @@ ghost use Rattle.eocreader.specs.Judging.{Judges};
 use answer::Refused;
 
 // Addresses, of which an octet holds two.
-const ADDRESSES: u8 = 16;
+const ADDRESSES: u8 = eoc::ADDRESSES as u8;
 
 // What reading gives: the addresses, the message number, and how many octets the contents have.
 #[derive(Clone, Copy)]

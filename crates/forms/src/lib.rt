@@ -3,7 +3,7 @@
 #![tactic(auto)]
 
 ghost use Rattle.std.specs.Prelude.{◌≡◌};
-ghost use Rattle.ascii.specs.Promises.{Put, Puts};
+ghost use Rattle.ascii.specs.Promises.{Puts};
 ghost use Rattle.forms.specs.Forms.{formed, row_of};
 
 use ascii::Text;
@@ -31,52 +31,4 @@ pub fn row(table: &[u8], n: u32) -> &[u8]
         .split(|&octet| octet == b'\n')
         .nth(n as usize)
         .unwrap_or(b"")
-}
-
-// A form with its numbers, in decimal, for the # in it.
-pub fn put_form(room: &mut [u8], at: usize, form: &[u8], numbers: &[u32]) -> usize
-    ensures { Put room.old at (formed form.now numbers.now) result room.new }
-{
-    let mut next = at;
-    let mut used = 0;
-    let mut k = 0;
-    while k < form.len() {
-        let octet = form[k];
-        k += 1;
-        if octet != b'#' {
-            next = ascii::put(room, next, octet);
-            continue;
-        }
-        if numbers.len() <= used {
-            continue;
-        }
-        next = ascii::put_decimal(room, next, numbers[used]);
-        used += 1;
-    }
-    next
-}
-
-// Row number n of a table, counted from 0. Each row ends with a newline, which is not put.
-pub fn put_row(room: &mut [u8], at: usize, table: &[u8], n: u32) -> usize
-    ensures { Put room.old at (row_of table.now n) result room.new }
-{
-    let mut next = at;
-    let mut before = n;
-    let mut k = 0;
-    while k < table.len() {
-        let octet = table[k];
-        k += 1;
-        if octet == b'\n' {
-            if before == 0 {
-                return next;
-            }
-            before -= 1;
-            continue;
-        }
-        if 0 < before {
-            continue;
-        }
-        next = ascii::put(room, next, octet);
-    }
-    next
 }

@@ -39,7 +39,10 @@ pub fn sdsl_eoc_write(
     ensures { EocWritten source destination number contents.now room.old result room.new }
 {
     match eocwriter::write(source, destination, number, contents, room) {
-        Ok(length) => EocForm { answer: 0, length },
+        Ok(length) => EocForm {
+            answer: answer::DONE,
+            length,
+        },
         Err(no) => EocForm {
             answer: no.number(),
             length: 0,
@@ -53,7 +56,7 @@ pub fn sdsl_eoc_read(octets: &[u8], contents: &mut [u8]) -> EocMessage
 {
     match eocreader::read(octets, contents) {
         Ok(found) => EocMessage {
-            answer: 0,
+            answer: answer::DONE,
             source: u32::from(found.source),
             destination: u32::from(found.destination),
             number: u32::from(found.number),
@@ -75,7 +78,7 @@ pub fn sdsl_eoc_hand_up(octets: &[u8], units: &mut [u8]) -> EocHandedUp
 {
     match eocunits::hand_up(octets, units) {
         Ok(taken) => EocHandedUp {
-            answer: 0,
+            answer: answer::DONE,
             units: taken,
         },
         Err(no) => EocHandedUp {

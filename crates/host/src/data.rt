@@ -3,6 +3,7 @@ ghost use Rattle.std.specs.Prelude.{◌≡◌};
 ghost use Rattle.datachecker.specs.Promises.{DataChecked};
 ghost use Rattle.host.specs.Data.{DataFrameWritten, DataCrcGiven, DataFrameRead};
 
+use crate::answered;
 use dataframe::Overhead;
 
 // What a frame carries beside sync word and payload.
@@ -120,10 +121,7 @@ pub fn sdsl_data_crc(form: u32, size: u32, frame: &[u8]) -> DataCrcs
 pub fn sdsl_data_check(form: u32, size: u32, sync: u32, next: u32, frame: &[u8]) -> u32
     ensures { DataChecked form size sync next frame.now result }
 {
-    match datachecker::check(form, size, sync, next, frame) {
-        Ok(()) => answer::DONE,
-        Err(no) => no.number(),
-    }
+    answered(datachecker::check(form, size, sync, next, frame))
 }
 
 // Reads a data-mode frame: what it carries, and into lent memory its payload.

@@ -4,6 +4,7 @@ ghost use Rattle.host.specs.Frames.{FrameRead};
 ghost use Rattle.checker.specs.Promises.{Checked};
 ghost use Rattle.answer.specs.Given.{number_of};
 
+use crate::answered;
 use answer::Refused;
 use reader::Found;
 
@@ -33,10 +34,7 @@ fn refused(no: Refused) -> FrameFields
 pub fn sdsl_frame_check(frame: &[u8]) -> u32
     ensures { Checked frame.now result }
 {
-    match checker::check(frame) {
-        Ok(()) => 0,
-        Err(no) => no.number(),
-    }
+    answered(checker::check(frame))
 }
 
 // Reads a frame: its kind, and into lent memory vendor data and, of a training frame, the coefficients and the reserved bits.
@@ -57,14 +55,14 @@ pub fn sdsl_frame_read(
         Ok(Found::Training { a, b }) => {
             numbers::put_numbers(coefficients, &cs);
             FrameFields {
-                answer: 0,
+                answer: answer::DONE,
                 kind: layout::TRAINING,
                 a,
                 b,
             }
         },
         Ok(Found::Final) => FrameFields {
-            answer: 0,
+            answer: answer::DONE,
             kind: layout::FINAL,
             a: 0,
             b: 0,

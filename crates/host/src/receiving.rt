@@ -43,7 +43,7 @@ pub fn sdsl_receive_start(end: u32) -> Received
     ensures { ReceiverStarted end result }
 {
     match receiver::Receiver::start(end) {
-        Ok(next) => received_out(0, None, next),
+        Ok(next) => received_out(answer::DONE, None, next),
         Err(no) => received_out(
             no.number(),
             None,
@@ -72,7 +72,7 @@ pub fn sdsl_receive(
         from: state.from,
     };
     match x.receive(line, lump, bits, frame) {
-        Ok(got) => received_out(0, got.place, got.next),
+        Ok(got) => received_out(answer::DONE, got.place, got.next),
         Err(no) => received_out(no.number(), None, x),
     }
 }

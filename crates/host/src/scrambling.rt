@@ -29,7 +29,7 @@ pub(crate) fn scrambled_out(ran: Result<Scrambler, Refused>, state: u32) -> Scra
 {
     match ran {
         Ok(next) => Scrambled {
-            answer: 0,
+            answer: answer::DONE,
             state: next.state,
         },
         Err(no) => Scrambled {
@@ -45,7 +45,7 @@ fn bit_out(step: Result<Step, Refused>, state: u32) -> ScrambledBit
 {
     match step {
         Ok(s) => ScrambledBit {
-            answer: 0,
+            answer: answer::DONE,
             bit: s.bit,
             state: s.next.state,
         },

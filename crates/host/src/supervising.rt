@@ -97,7 +97,7 @@ fn stepped_out(given: Result<supervisor::Answer, Refused>, before: Supervisor) -
 {
     match given {
         Ok(next) => Stepped {
-            answer: 0,
+            answer: answer::DONE,
             phase: next.phase,
             attempt: next.attempt,
             state: Supervisor::from(next.state),
@@ -115,7 +115,10 @@ fn stepped_out(given: Result<supervisor::Answer, Refused>, before: Supervisor) -
 pub fn sdsl_start(end: u32, silence: u32) -> Stepped
     ensures { Started end silence result }
 {
-    stepped_out(supervisor::Supervisor::start(end, silence), Supervisor::NONE)
+    stepped_out(
+        supervisor::Supervisor::start(end, silence),
+        Supervisor::NONE,
+    )
 }
 
 // One code.
@@ -131,7 +134,7 @@ pub fn sdsl_run_codes(state: Supervisor, codes: &[u8]) -> Run
 {
     match startup::Run::over(supervisor::Supervisor::from(state), codes) {
         Ok(run) => Run {
-            answer: 0,
+            answer: answer::DONE,
             attempts: run.attempts as u64,
             opened_at: run.opened_at as u64,
             outcome: match run.outcome {

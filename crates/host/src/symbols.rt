@@ -5,6 +5,7 @@ ghost use Rattle.precoder.specs.Runs.{PrecodesRun, DecodesRun};
 ghost use Rattle.host.specs.Symbols.{level_of, ActivationLevelGiven, DataLevelGiven, CodeGiven};
 ghost use Rattle.host.specs.Symbols.{EncoderStarted, SymbolEncoded, SymbolsEncoded, HistoryStarted, SampleShaped};
 
+use crate::answered;
 use answer::Refused;
 use symbol::Encoder;
 
@@ -60,7 +61,7 @@ impl From<Result<i32, Refused>> for Level {
     fn from(found: Result<i32, Refused>) -> Level {
         match found {
             Ok(sixteenths) => Level {
-                answer: 0,
+                answer: answer::DONE,
                 sixteenths,
             },
             Err(no) => Level {
@@ -90,7 +91,10 @@ pub fn sdsl_level_code(sixteenths: i32) -> Code
     ensures { CodeGiven sixteenths result }
 {
     match symbol::level_code(sixteenths) {
-        Ok(code) => Code { answer: 0, code },
+        Ok(code) => Code {
+            answer: answer::DONE,
+            code,
+        },
         Err(no) => Code {
             answer: no.number(),
             code: 0,
@@ -104,7 +108,7 @@ pub fn sdsl_encoder_start(a: u32, b: u32) -> EncodedRun
 {
     match Encoder::start(a, b) {
         Ok(first) => EncodedRun {
-            answer: 0,
+            answer: answer::DONE,
             register: first.register,
         },
         Err(no) => EncodedRun {
@@ -120,7 +124,7 @@ pub fn sdsl_encode(a: u32, b: u32, register: u32, symbol: u32) -> Encoded
 {
     match (Encoder { a, b, register }).step(symbol) {
         Ok(step) => Encoded {
-            answer: 0,
+            answer: answer::DONE,
             code: step.code,
             sixteenths: step.sixteenths,
             register: step.next.register,
@@ -146,7 +150,7 @@ pub fn sdsl_encode_run(
 {
     match (Encoder { a, b, register }).run(symbols, codes) {
         Ok(next) => EncodedRun {
-            answer: 0,
+            answer: answer::DONE,
             register: next.register,
         },
         Err(no) => EncodedRun {
@@ -165,7 +169,7 @@ pub fn sdsl_history_start(history: &mut [u8]) -> u32
     }
     let past = samples::start();
     numbers::put_numbers(history, &past);
-    0
+    answer::DONE
 }
 
 // Precodes samples, four octets each; the history moves on.
@@ -173,10 +177,7 @@ pub fn sdsl_precode(coefficients: &[u8], history: &mut [u8], xs: &[u8], ys: &mut
     ensures { PrecodesRun coefficients.now history.old xs.now ys.old result history.new
         ys.new }
 {
-    match precoder::precode_run(coefficients, history, xs, ys) {
-        Ok(()) => 0,
-        Err(no) => no.number(),
-    }
+    answered(precoder::precode_run(coefficients, history, xs, ys))
 }
 
 // The receiving end.
@@ -184,10 +185,7 @@ pub fn sdsl_unprecode(coefficients: &[u8], history: &mut [u8], ys: &[u8], xs: &m
     ensures { DecodesRun coefficients.now history.old ys.now xs.old result history.new
         xs.new }
 {
-    match precoder::decode_run(coefficients, history, ys, xs) {
-        Ok(()) => 0,
-        Err(no) => no.number(),
-    }
+    answered(precoder::decode_run(coefficients, history, ys, xs))
 }
 
 // A sample for the shaper: exactly y / 131,072.
@@ -195,7 +193,10 @@ pub fn sdsl_shaper(y: i32) -> Shaped
     ensures { SampleShaped y result }
 {
     match samples::shaper(y) {
-        Ok(value) => Shaped { answer: 0, value },
+        Ok(value) => Shaped {
+            answer: answer::DONE,
+            value,
+        },
         Err(outside) => Shaped {
             answer: outside.number(),
             value: 0.0,

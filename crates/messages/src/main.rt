@@ -2,13 +2,13 @@
 // crate eoclisting's; here octets are only read, parted at their flags, and lines written.
 #![tactic(auto)]
 
-ghost use Rattle.std.specs.Prelude.{◌≡◌, cond, ◌+◌, ◌≤◌, ◌<◌, length, IfOk, IfSome};
+ghost use Rattle.std.specs.Prelude.{◌≡◌, cond, ◌+◌, ◌≤◌, ◌<◌, length, IfSome};
 ghost use Rattle.eoc.specs.Channel.{pieces};
 ghost use Rattle.messages.specs.Messages.{most_octets, flag_from, is_good, is_taken, count_good, count_taken};
 
 use eoclisting::Counts;
-use std::io;
-use std::io::Read;
+use options::Argument;
+use outside::{Status, Unwritten};
 
 // The most octets that are read.
 const MOST: usize = 1048576;
@@ -18,30 +18,12 @@ const READ: usize = 1048577;
 const ROOM: usize = 4096;
 // An address that no unit has: every message is listed.
 const NO_UNIT: u32 = 16;
-// An option of this program alone.
-const FOR: u32 = 8;
-// The status: all messages are good, not so, and what could not be read or was asked for wrongly.
-const GOOD: u8 = b'0';
+// The name that its words on standard error begin with.
+const NAME: [u8; 8] = *b"messages";
 
-const OTHER: u8 = b'1';
-
-const WRONG: u8 = b'2';
-
-// Says what failed, and why.
-fn fail(rt: &HostRuntime, what: &[u8], why: io::Error) {
-    outside::complain(rt, b"messages: ");
-    outside::fail(rt, what, why);
-}
-
-// Writes to standard output, and answers whether it could; where not, says so.
-fn print(rt: &HostRuntime, text: &[u8]) -> bool {
-    match rt.stdout().write_all(text) {
-        Ok(()) => true,
-        Err(why) => {
-            fail(rt, b"standard output", why);
-            false
-        },
-    }
+// Writes to standard output, or says that it cannot.
+fn print(rt: &HostRuntime, text: &[u8]) -> Result<(), Unwritten> {
+    outside::print(rt, &NAME, text)
 }
 
 // The place of the first flag from a place on, or the channel's end.
@@ -78,9 +60,7 @@ fn tell(rt: &HostRuntime, told: Told, octets: &[u8], own: u32) -> Option<Told>
         Err(_) => (false, false),
     };
     if taken || own == NO_UNIT {
-        if !print(rt, &room[..line.length]) {
-            return None;
-        }
+        print(rt, &room[..line.length]).ok()?;
     }
     Some(Told {
         messages,
@@ -123,16 +103,16 @@ fn octets_behind(channel: &[u8]) -> u32
 }
 
 // The status of what was told: there is a message, and all are good.
-fn status(told: Told) -> u8 {
+fn status(told: Told) -> Status {
     if (told.messages != 0) & (told.messages == told.good) {
-        GOOD
+        Status::Good
     } else {
-        OTHER
+        Status::Bad
     }
 }
 
 // Tells the totals, and answers the status.
-fn tell_totals(rt: &HostRuntime, told: Told, before: u32, behind: u32, own: u32) -> u8 {
+fn tell_totals(rt: &HostRuntime, told: Told, before: u32, behind: u32, own: u32) -> Status {
     let mut room = [0u8; ROOM];
     let counts = Counts {
         before,
@@ -143,25 +123,25 @@ fn tell_totals(rt: &HostRuntime, told: Told, before: u32, behind: u32, own: u32)
         taken: told.taken,
     };
     let n = eoclisting::totals(counts, &mut room);
-    if print(rt, &room[..n]) {
-        return status(told);
+    match print(rt, &room[..n]) {
+        Ok(()) => status(told),
+        Err(Unwritten) => Status::Wrong,
     }
-    WRONG
 }
 
 // Tells a channel.
-fn tell_channel(rt: &HostRuntime, channel: &[u8], own: u32) -> u8
+fn tell_channel(rt: &HostRuntime, channel: &[u8], own: u32) -> Status
     requires { length channel.now ≤ most_octets }
 {
     let first = flag_from(channel, 0);
     let Some(told) = tell_from(rt, channel, first, own) else {
-        return WRONG;
+        return Status::Wrong;
     };
     tell_totals(rt, told, first as u32, octets_behind(channel), own)
 }
 
 // Tells what was read. One octet more than a channel may have shows that it is too long.
-fn tell_all(rt: &HostRuntime, channel: &[u8], own: u32) -> u8
+fn tell_all(rt: &HostRuntime, channel: &[u8], own: u32) -> Status
     requires { length channel.now ≤ most_octets + 1 }
 {
     if MOST < channel.len() {
@@ -169,34 +149,19 @@ fn tell_all(rt: &HostRuntime, channel: &[u8], own: u32) -> u8
             rt,
             b"messages: more than 1048576 octets: give it fewer at a time\n",
         );
-        return WRONG;
+        return Status::Wrong;
     }
     tell_channel(rt, channel, own)
 }
 
-// Reads up to 1,048,577 octets of standard input, and answers how many came.
-fn fill<R: Read>(input: &mut R, octets: &mut [u8]) -> io::Result<usize>
-    requires { length octets.old ≡ most_octets + 1 }
-    ensures { IfOk result (λ n. n ≤ most_octets + 1) }
-{
-    outside::read_full(input, octets)
-}
-
-// Room for a channel and one octet more. The proofs of its callers know its length alone, and never count it out.
-fn room() -> [u8; READ]
-    ensures { most_octets + 1 ≡ length result }
-{
-    [0; READ]
-}
-
 // Tells the channel on standard input.
-fn tell_input(rt: &HostRuntime, own: u32) -> u8 {
-    let mut channel = room();
-    match fill(&mut rt.stdin(), &mut channel) {
+fn tell_input(rt: &HostRuntime, own: u32) -> Status {
+    let mut channel: [u8; READ] = outside::room();
+    match outside::fill(&mut rt.stdin(), &mut channel) {
         Ok(n) => tell_all(rt, &channel[..n], own),
         Err(why) => {
-            fail(rt, b"standard input", why);
-            WRONG
+            outside::fail(rt, &NAME, b"standard input", why);
+            Status::Wrong
         },
     }
 }
@@ -233,24 +198,24 @@ impl Asked {
     }
 
     // One option more.
-    fn option(mut self, option: u32, at: usize) -> Asked {
+    fn option(mut self, option: Option<Argument>, at: usize) -> Asked {
         match option {
-            options::STATUS => {
+            Some(Argument::Status) => {
                 self.status = true;
                 self
             },
-            FOR => {
+            None => {
                 self.waits = true;
                 self
             },
-            options::HELP => self.asks(Task::Help),
-            options::VERSION => self.asks(Task::Version),
+            Some(Argument::Help) => self.asks(Task::Help),
+            Some(Argument::Version) => self.asks(Task::Version),
             _ => self.asks(Task::Refuse(at)),
         }
     }
 
     // One argument more, which is this option or a word.
-    fn with(mut self, option: u32, at: usize) -> Asked {
+    fn with(mut self, option: Option<Argument>, at: usize) -> Asked {
         if self.waits {
             self.waits = false;
             self.unit = Some(at);
@@ -268,12 +233,11 @@ impl Asked {
     }
 }
 
-// Which option argument i is. One that is too long to be one is a word.
-fn option_at(rt: &HostRuntime, i: usize) -> u32 {
-    let mut word = outside::buffer();
-    let n = outside::word(rt, i, &mut word);
-    let option = options::read(&word[..n]);
-    options::number(&word[..n], b"--for", FOR, option)
+// Which option argument i is; None is --for, which this program alone has. One that is too long to be one is a word.
+fn option_at(rt: &HostRuntime, i: usize) -> Option<Argument> {
+    let mut buf: [u8; outside::PATH] = outside::room();
+    let word = outside::said(rt, i, &mut buf);
+    options::named(word, b"--for", None, Some(options::read(word)))
 }
 
 // What all arguments ask for.
@@ -303,28 +267,31 @@ fn unit_named(word: &[u8]) -> Option<u32> {
 
 // The address of the unit that argument i names.
 fn unit_at(rt: &HostRuntime, i: usize) -> Option<u32> {
-    let mut word = outside::buffer();
-    let n = outside::word(rt, i, &mut word);
-    unit_named(&word[..n])
+    let mut buf: [u8; outside::PATH] = outside::room();
+    unit_named(outside::said(rt, i, &mut buf))
 }
 
 // Says that argument i is wrong, and how the program is called.
-fn refuse(rt: &HostRuntime, i: usize) -> u8 {
-    let mut word = outside::buffer();
-    let n = outside::word(rt, i, &mut word);
-    outside::complain(rt, b"messages: wrong argument: ");
-    outside::complain(rt, &word[..n]);
-    outside::complain(rt, b"\nusage: messages [--status] [--for UNIT] < OCTETS\n");
-    WRONG
+fn refuse(rt: &HostRuntime, i: usize) -> Status {
+    outside::refuse(
+        rt,
+        b"messages: wrong argument: ",
+        i,
+        b"\nusage: messages [--status] [--for UNIT] < OCTETS\n",
+    );
+    Status::Wrong
 }
 
 // The status of what had to be written and nothing else.
-fn done(written: bool) -> u8 {
-    if written { GOOD } else { WRONG }
+fn done(written: Result<(), Unwritten>) -> Status {
+    match written {
+        Ok(()) => Status::Good,
+        Err(Unwritten) => Status::Wrong,
+    }
 }
 
 // How the program is called.
-fn help(rt: &HostRuntime) -> u8 {
+fn help(rt: &HostRuntime) -> Status {
     done(print(
         rt,
         b"usage: messages [--status] [--for UNIT] < OCTETS\n\
@@ -337,19 +304,8 @@ fn help(rt: &HostRuntime) -> u8 {
     ))
 }
 
-// The version.
-fn version(rt: &HostRuntime) -> u8 {
-    if !print(rt, b"sdsl-messages ") {
-        return WRONG;
-    }
-    if !print(rt, &options::RELEASE) {
-        return WRONG;
-    }
-    done(print(rt, b"\n"))
-}
-
 // Lists the messages of the channel, all of them or those for the unit that an argument names.
-fn list(rt: &HostRuntime, unit: Option<usize>) -> u8 {
+fn list(rt: &HostRuntime, unit: Option<usize>) -> Status {
     let Some(i) = unit else {
         return tell_input(rt, NO_UNIT);
     };
@@ -360,11 +316,11 @@ fn list(rt: &HostRuntime, unit: Option<usize>) -> u8 {
 }
 
 // Does what is asked, and answers the status.
-fn run(rt: &HostRuntime, asked: Asked) -> u8 {
+fn run(rt: &HostRuntime, asked: Asked) -> Status {
     match asked.task {
         Task::List => list(rt, asked.unit),
         Task::Help => help(rt),
-        Task::Version => version(rt),
+        Task::Version => done(outside::print_version(rt, &NAME)),
         Task::Refuse(i) => refuse(rt, i),
     }
 }
@@ -374,6 +330,6 @@ fn main(rt: HostRuntime) {
     let asked = arguments(&rt);
     let status = run(&rt, asked);
     if asked.status {
-        outside::tell_status(status);
+        outside::tell_status(status.digit());
     }
 }

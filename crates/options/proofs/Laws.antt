@@ -6,7 +6,9 @@ use Prim.Native.Nat.{ℕ}
 use borrow.Author.Tests.{eq-eqb, eqb-true}
 use lib.Dec.{eqb}
 use Rattle.ascii.specs.Text.{text}
-use Rattle.options.specs.Options.{a_word, help, version, status, like, csv, end_of_options, unknown, same, dashed, meaning}
+use Rattle.options.specs.Options.{a_word, unknown, same, dashed, said_number, Named, Says}
+use Rattle.options.specs.declared.Argument.{Argument}
+use Rattle.options.specs.declared.Argument.TheVariants.{Help, Version, Status, Like, Csv, End}
 
 same_self : (a : List ℕ) → same a a ≡ true
 unfolding same
@@ -35,7 +37,15 @@ tested a b r to from = go r (same a b) refl to from
     go false false q to from = refl
 
 -- one name behind the other, from the last to the first
-pub read_by : (w : List ℕ) (a b c d e f g : ℕ) → a ≡ cond (dashed w) unknown a_word → b ≡ cond (same w (text "--")) end_of_options a
-    → c ≡ cond (same w (text "--csv")) csv b → d ≡ cond (same w (text "--like")) like c → e ≡ cond (same w (text "--status")) status d
-    → f ≡ cond (same w (text "--version")) version e → g ≡ cond (same w (text "--help")) help f → g ≡ meaning w
-read_by w a b c d e f g qa qb qc qd qe qf qg = rw (qg, qf, qe, qd, qc, qb, qa)
+pub read_by : (w : List ℕ) (a b c d e f g : Argument) → said_number a ≡ cond (dashed w) unknown a_word → Named w (text "--") End a b
+    → Named w (text "--csv") Csv b c → Named w (text "--like") Like c d → Named w (text "--status") Status d e
+    → Named w (text "--version") Version e f → Named w (text "--help") Help f g → Says w g
+read_by w a b c d e f g qa qb qc qd qe qf qg =
+    step (text "--help") Help f g qg (step (text "--version") Version e f qf (step (text "--status") Status d e qe (step (text "--like") Like c d qd (step (text "--csv") Csv b c qc (step (text "--") End a b qb qa)))))
+  where
+    either : (t : Bool) (own other : Argument) → said_number (cond t own other) ≡ cond t (said_number own) (said_number other)
+    either true own other = refl
+    either false own other = refl
+
+    step : (name : List ℕ) (own other r : Argument) → Named w name own other r → {n : ℕ} → said_number other ≡ n → said_number r ≡ cond (same w name) (said_number own) n
+    step name own other r q h = ap said_number q ∙ either (same w name) own other ∙ ap (cond (same w name) (said_number own)) h

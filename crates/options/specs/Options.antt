@@ -3,6 +3,8 @@
 use Rattle.std.specs.Prelude.{◌≡◌, Bool, true, false, cond, ◌&&◌, List, [], ◌∷◌, ℕ, eqb, ltb, length, get_or}
 use Prim.Native.String.{String}
 use Rattle.ascii.specs.Text.{text}
+use Rattle.options.specs.declared.Argument.{Argument}
+use Rattle.options.specs.declared.Argument.TheVariants.{Word, Help, Version, Status, Like, Csv, End, Unknown}
 
 -- WHAT IT MAY SAY, BY NUMBER
 
@@ -78,10 +80,21 @@ dashed w = ltb 1 (length w) && eqb (get_or w 0 0) 45
 abbrev pub meaning : List ℕ → ℕ
 meaning w = number_of w options (cond (dashed w) unknown a_word)
 
--- number: the own number of a name where the argument is this name, and else another
-abbrev pub Numbers : List ℕ → List ℕ → ℕ → ℕ → ℕ → Type 0
-Numbers w name own other r = r ≡ cond (same w name) own other
+-- named: what a name stands for where the argument is this name, and else another
+abbrev pub Named : {A : Type 0} → List ℕ → List ℕ → A → A → A → Type 0
+Named w name own other r = r ≡ cond (same w name) own other
+
+-- the numbers of what an argument says
+abbrev pub said_number : Argument → ℕ
+said_number Word = a_word
+said_number Help = help
+said_number Version = version
+said_number Status = status
+said_number Like = like
+said_number Csv = csv
+said_number End = end_of_options
+said_number Unknown = unknown
 
 -- read
-abbrev pub Says : List ℕ → ℕ → Type 0
-Says w r = r ≡ meaning w
+abbrev pub Says : List ℕ → Argument → Type 0
+Says w r = said_number r ≡ meaning w

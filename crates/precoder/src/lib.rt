@@ -65,6 +65,24 @@ fn split<const LOWEST: i32, const WEIGHT: u32, const RAISE: i16>(z: i32) -> Halv
     }
 }
 
+// A coefficient in halves of 11 bits.
+fn coefficient_halves(coefficient: i32) -> Halves
+    requires { is_coefficient coefficient ≡ true }
+    ensures { (pos 2048 *ℤ result.high +ℤ result.low ≡ coefficient)
+        × (between (neg_ℤ (pos 1024)) (pos 1023) result.high ≡ true) × (between (pos 0) (pos 2047) result.low ≡ true) }
+{
+    split::<LOWEST_COEFFICIENT, COEFFICIENT_WEIGHT, COEFFICIENT_RAISE>(coefficient)
+}
+
+// An output in halves of 9 bits.
+fn output_halves(y: i32) -> Halves
+    requires { is_signal y ≡ true }
+    ensures { (pos 512 *ℤ result.high +ℤ result.low ≡ y)
+        × (between (neg_ℤ (pos 256)) (pos 255) result.high ≡ true) × (between (pos 0) (pos 511) result.low ≡ true) }
+{
+    split::<LOWEST_OUTPUT, OUTPUT_WEIGHT, OUTPUT_RAISE>(y)
+}
+
 // The exact product of a coefficient and an output, as four narrow ones.
 fn product(coefficient: i32, y: i32) -> Parts
     requires { (is_coefficient coefficient ≡ true) × (is_signal y ≡ true) }
@@ -72,8 +90,8 @@ fn product(coefficient: i32, y: i32) -> Parts
         × (nat_abs result.hh ≤ 2047 * 511) × (nat_abs result.hl ≤ 2047 * 511)
         × (nat_abs result.lh ≤ 2047 * 511) × (nat_abs result.ll ≤ 2047 * 511) }
 {
-    let c = split::<LOWEST_COEFFICIENT, COEFFICIENT_WEIGHT, COEFFICIENT_RAISE>(coefficient);
-    let w = split::<LOWEST_OUTPUT, OUTPUT_WEIGHT, OUTPUT_RAISE>(y);
+    let c = coefficient_halves(coefficient);
+    let w = output_halves(y);
     Parts {
         hh: narrow(c.high, w.high),
         hl: narrow(c.high, w.low),

@@ -4,16 +4,16 @@
 //     replay [--status] ltu|ntu [SILENCE] < LOG
 #![tactic(auto)]
 
-ghost use Rattle.std.specs.Prelude.{◌+◌, ◌≤◌, ◌≡◌, length, IfOk};
+ghost use Rattle.std.specs.Prelude.{◌+◌, ◌≤◌, ◌≡◌, length};
 ghost use Rattle.startlog.specs.Lines.{line_of};
 ghost use Rattle.replay.specs.declared.Stop.TheVariants.{Unwritten, Refused};
 ghost use Rattle.replay.specs.Replay.{most_octets, followed, lines_of, ending_from, Follows, Ends};
 
 use answer::Refused;
 use ascii::Text;
+use options::Argument;
+use outside::Status;
 use startlog::Line;
-use std::io;
-use std::io::Read;
 use story::{Event, Story, kind};
 use supervisor::Supervisor;
 
@@ -27,16 +27,8 @@ const ROOM: usize = 320;
 const NO_END: u32 = 2;
 
 const NO_SILENCE: u32 = 1;
-// The status: in data mode, not so, and what was no log at all.
-const DATA_MODE: u8 = b'0';
-
-const OTHER: u8 = b'1';
-
-const WRONG: u8 = b'2';
-
-// Standard output could not be written, and that has been said.
-#[derive(Clone, Copy)]
-struct Silent;
+// The name that its words on standard error begin with.
+const NAME: [u8; 6] = *b"replay";
 
 // Why a log is not told to its end.
 #[derive(Clone, Copy)]
@@ -54,10 +46,10 @@ struct Stopped {
     why: Stop,
 }
 
-impl From<Silent> for Stop {
+impl From<outside::Unwritten> for Stop {
     ghost from_gives = { λ _ s. s ≡ Unwritten };
 
-    fn from(_said: Silent) -> Stop {
+    fn from(_said: outside::Unwritten) -> Stop {
         Stop::Unwritten
     }
 }
@@ -70,25 +62,13 @@ impl From<Refused> for Stop {
     }
 }
 
-// Says what failed, and why.
-fn fail(rt: &HostRuntime, what: &[u8], why: io::Error) {
-    outside::complain(rt, b"replay: ");
-    outside::fail(rt, what, why);
-}
-
 // Writes to standard output; where it could not, says so.
-fn print(rt: &HostRuntime, text: &[u8]) -> Result<(), Silent> {
-    match rt.stdout().write_all(text) {
-        Ok(()) => Ok(()),
-        Err(why) => {
-            fail(rt, b"standard output", why);
-            Err(Silent)
-        },
-    }
+fn print(rt: &HostRuntime, text: &[u8]) -> Result<(), outside::Unwritten> {
+    outside::print(rt, &NAME, text)
 }
 
 // Writes the line of an event, unless there is nothing to tell.
-fn tell(rt: &HostRuntime, event: Event) -> Result<(), Silent> {
+fn tell(rt: &HostRuntime, event: Event) -> Result<(), outside::Unwritten> {
     if event.kind == kind::NOTHING {
         return Ok(());
     }
@@ -146,7 +126,7 @@ fn last_line(log: &[u8]) -> u32
 }
 
 // Tells why a log is refused, on which line.
-fn tell_refused(rt: &HostRuntime, no: Refused, line: u32) -> u8 {
+fn tell_refused(rt: &HostRuntime, no: Refused, line: u32) -> Status {
     let mut room = [0u8; ROOM];
     let mut text = Text {
         room: &mut room,
@@ -155,11 +135,11 @@ fn tell_refused(rt: &HostRuntime, no: Refused, line: u32) -> u8 {
     storytext::put_refused(&mut text, no.number(), line);
     let n = text.at;
     let _ = print(rt, &room[..n]);
-    WRONG
+    Status::Wrong
 }
 
 // Tells how a log ended, and answers the status.
-fn tell_end(rt: &HostRuntime, story: Story) -> u8 {
+fn tell_end(rt: &HostRuntime, story: Story) -> Status {
     let mut room = [0u8; ROOM];
     let mut text = Text {
         room: &mut room,
@@ -168,21 +148,21 @@ fn tell_end(rt: &HostRuntime, story: Story) -> u8 {
     storytext::put_end(&mut text, story);
     let n = text.at;
     match print(rt, &room[..n]) {
-        Ok(()) if storytext::in_data_mode(story) => DATA_MODE,
-        Ok(()) => OTHER,
-        Err(Silent) => WRONG,
+        Ok(()) if storytext::in_data_mode(story) => Status::Good,
+        Ok(()) => Status::Bad,
+        Err(outside::Unwritten) => Status::Wrong,
     }
 }
 
 // Tells what was read. One octet more than a log may have shows that it is too long.
-fn tell_all(rt: &HostRuntime, log: &[u8], begun: Event) -> u8
+fn tell_all(rt: &HostRuntime, log: &[u8], begun: Event) -> Status
     requires { length log.now ≤ most_octets + 1 }
 {
     if MOST < log.len() {
         return tell_refused(rt, Refused::Length, last_line(log));
     }
     if tell(rt, begun).is_err() {
-        return WRONG;
+        return Status::Wrong;
     }
     let mut story = begun.story;
     match replay(rt, log, &mut story) {
@@ -193,33 +173,18 @@ fn tell_all(rt: &HostRuntime, log: &[u8], begun: Event) -> u8
                 why: Stop::Refused(no),
             },
         ) => tell_refused(rt, no, line),
-        Err(_) => WRONG,
+        Err(_) => Status::Wrong,
     }
 }
 
-// Reads up to 1,048,577 octets of standard input, and answers how many came.
-fn fill<R: Read>(input: &mut R, octets: &mut [u8]) -> io::Result<usize>
-    requires { length octets.old ≡ most_octets + 1 }
-    ensures { IfOk result (λ n. n ≤ most_octets + 1) }
-{
-    outside::read_full(input, octets)
-}
-
-// Room for a log and one octet more. The proofs of its callers know its length alone, and never count it out.
-fn room() -> [u8; READ]
-    ensures { most_octets + 1 ≡ length result }
-{
-    [0; READ]
-}
-
 // Tells the log on standard input.
-fn tell_input(rt: &HostRuntime, begun: Event) -> u8 {
-    let mut log = room();
-    match fill(&mut rt.stdin(), &mut log) {
+fn tell_input(rt: &HostRuntime, begun: Event) -> Status {
+    let mut log: [u8; READ] = outside::room();
+    match outside::fill(&mut rt.stdin(), &mut log) {
         Ok(n) => tell_all(rt, &log[..n], begun),
         Err(why) => {
-            fail(rt, b"standard input", why);
-            WRONG
+            outside::fail(rt, &NAME, b"standard input", why);
+            Status::Wrong
         },
     }
 }
@@ -275,21 +240,21 @@ impl Asked {
     }
 
     // One argument more, which is this option.
-    fn with(self, option: u32, at: usize) -> Asked {
-        if self.ended || option == options::WORD {
+    fn with(self, option: Argument, at: usize) -> Asked {
+        if self.ended || option == Argument::Word {
             return self.word(at);
         }
         match option {
-            options::STATUS => Asked {
+            Argument::Status => Asked {
                 status: true,
                 ..self
             },
-            options::END => Asked {
+            Argument::End => Asked {
                 ended: true,
                 ..self
             },
-            options::HELP => self.asks(Task::Help),
-            options::VERSION => self.asks(Task::Version),
+            Argument::Help => self.asks(Task::Help),
+            Argument::Version => self.asks(Task::Version),
             _ => self.asks(Task::Refuse(at)),
         }
     }
@@ -297,8 +262,8 @@ impl Asked {
 
 // The end of this name.
 fn end_named(word: &[u8]) -> u32 {
-    let end = options::number(word, b"ntu", Supervisor::NTU, NO_END);
-    options::number(word, b"ltu", Supervisor::LTU, end)
+    let end = options::named(word, b"ntu", Supervisor::NTU, NO_END);
+    options::named(word, b"ltu", Supervisor::LTU, end)
 }
 
 // The silence that a text gives.
@@ -309,13 +274,12 @@ fn silence_of(word: &[u8]) -> u32 {
     }
 }
 
-// What argument i says, read so. One that is too long to be an option is a word.
+// What argument i says, read so.
 fn said_at<F: Fn(&[u8]) -> u32>(rt: &HostRuntime, i: usize, read: F) -> u32
     requires { F.IsAlwaysCallable read }
 {
-    let mut word = outside::buffer();
-    let n = outside::word(rt, i, &mut word);
-    read(&word[..n])
+    let mut buf: [u8; outside::PATH] = outside::room();
+    read(outside::said(rt, i, &mut buf))
 }
 
 // What all arguments ask for.
@@ -328,28 +292,25 @@ fn arguments(rt: &HostRuntime) -> Asked {
         ended: false,
     };
     for i in 1..outside::arg_count(rt) {
-        asked = asked.with(said_at(rt, i, options::read), i);
+        asked = asked.with(outside::option(rt, i), i);
     }
     asked
 }
 
 // Says how the replayer is called, behind what is wrong.
-fn usage(rt: &HostRuntime) -> u8 {
+fn usage(rt: &HostRuntime) -> Status {
     outside::complain(rt, b"\nusage: replay [--status] ltu|ntu [SILENCE] < LOG\n");
-    WRONG
+    Status::Wrong
 }
 
 // Says that argument i is wrong.
-fn refuse(rt: &HostRuntime, i: usize) -> u8 {
-    let mut word = outside::buffer();
-    let n = outside::word(rt, i, &mut word);
-    outside::complain(rt, b"replay: wrong argument: ");
-    outside::complain(rt, &word[..n]);
+fn refuse(rt: &HostRuntime, i: usize) -> Status {
+    outside::refuse(rt, b"replay: wrong argument: ", i, b"");
     usage(rt)
 }
 
 // Says why no card starts so.
-fn refuse_start(rt: &HostRuntime, why: Refused) -> u8 {
+fn refuse_start(rt: &HostRuntime, why: Refused) -> Status {
     match why {
         Refused::Unknown => outside::complain(rt, b"replay: the end is ltu or ntu"),
         _ => outside::complain(rt, b"replay: the silence is 2000 to 60000 ticks"),
@@ -358,7 +319,7 @@ fn refuse_start(rt: &HostRuntime, why: Refused) -> u8 {
 }
 
 // Tells the log of a card with this end and silence.
-fn tell_card(rt: &HostRuntime, end: u32, silence: u32) -> u8 {
+fn tell_card(rt: &HostRuntime, end: u32, silence: u32) -> Status {
     match Story::start(end, silence) {
         Ok(begun) => tell_input(rt, begun),
         Err(why) => refuse_start(rt, why),
@@ -366,15 +327,15 @@ fn tell_card(rt: &HostRuntime, end: u32, silence: u32) -> u8 {
 }
 
 // The status of what had to be written and nothing else.
-fn done(written: Result<(), Silent>) -> u8 {
+fn done(written: Result<(), outside::Unwritten>) -> Status {
     match written {
-        Ok(()) => DATA_MODE,
-        Err(Silent) => WRONG,
+        Ok(()) => Status::Good,
+        Err(outside::Unwritten) => Status::Wrong,
     }
 }
 
 // How the replayer is called.
-fn help(rt: &HostRuntime) -> u8 {
+fn help(rt: &HostRuntime) -> Status {
     done(print(
         rt,
         b"usage: replay [--status] ltu|ntu [SILENCE] < LOG\n\
@@ -387,18 +348,11 @@ fn help(rt: &HostRuntime) -> u8 {
     ))
 }
 
-// The version.
-fn print_version(rt: &HostRuntime) -> Result<(), Silent> {
-    print(rt, b"sdsl-replay ")?;
-    print(rt, &options::RELEASE)?;
-    print(rt, b"\n")
-}
-
 // Does what is asked, and answers the status.
-fn run(rt: &HostRuntime, asked: Asked) -> u8 {
+fn run(rt: &HostRuntime, asked: Asked) -> Status {
     match asked.task {
         Task::Help => help(rt),
-        Task::Version => done(print_version(rt)),
+        Task::Version => done(outside::print_version(rt, &NAME)),
         Task::Refuse(at) => refuse(rt, at),
         Task::Tell => {
             let end = match asked.end {
@@ -419,6 +373,6 @@ fn main(rt: HostRuntime) {
     let asked = arguments(&rt);
     let status = run(&rt, asked);
     if asked.status {
-        outside::tell_status(status);
+        outside::tell_status(status.digit());
     }
 }

@@ -4,8 +4,10 @@
 
 ghost use Rattle.std.specs.Prelude.{◌≤◌, ◌<◌, ◌≡◌, length, IfOk};
 
+use options::Argument;
+use outside::{Status, Unwritten};
 use std::io;
-use std::io::{IsTerminal, Read};
+use std::io::IsTerminal;
 
 // The most cards of one run.
 const MOST: usize = 65536;
@@ -13,34 +15,35 @@ const MOST: usize = 65536;
 const SHORT: usize = 20;
 // One more than a frame's octets, so that more than 529 show.
 const READ: usize = verdict::MOST_OCTETS;
-// The status where the sorter is called wrongly, the reference does not serve, or standard output cannot be written. Else it is that of totals.
-const WRONG: u32 = totals::NOT_READ;
-
-// What the arguments ask for: to sort, or one of the others, the first of which counts.
-const SORT: u32 = 0;
-
-const HELP: u32 = 1;
-
-const VERSION: u32 = 2;
-// An option that the sorter does not have.
-const UNKNOWN: u32 = 3;
-// --like with no FILE behind it.
-const NO_FILE: u32 = 4;
-// --like a second time.
-const TWICE: u32 = 5;
-
-const TOO_MANY: u32 = 6;
-
-const NO_CARDS: u32 = 7;
+// Room for every text: the totals (totals' theorem totals-fit), a line whose name has at most 4,096 octets (theorem line-fits), and the same
+// comma-separated (cardline's theorem csv-fits).
+const ROOM: usize = 16384;
+// The name that its words on standard error begin with.
+const NAME: [u8; 6] = *b"sorter";
 
 // What the arguments ask for.
 #[derive(Clone, Copy)]
+enum Task {
+    Sort,
+    Help,
+    Version,
+    // The argument at this place is an option that the sorter does not have.
+    Unknown(usize),
+    // --like with no FILE behind it.
+    NoFile,
+    // --like a second time.
+    Twice,
+    TooMany,
+    NoCards,
+}
+
+// What the arguments so far ask for.
+#[derive(Clone, Copy)]
 struct Asked {
-    what: u32,
-    // The place of the argument that is wrong.
-    at: usize,
-    // The place of the reference's name; 0 where there is none.
-    like: usize,
+    // To sort, or the first of the others.
+    task: Task,
+    // The place of the reference's name.
+    like: Option<usize>,
     // Whether that is what comes next.
     waits: bool,
     cards: usize,
@@ -48,206 +51,157 @@ struct Asked {
     status: bool,
     // Whether -- has come.
     ended: bool,
+    ghost few: { cards ≤ 65536 },
 }
 
-// The same, asking for this, where it is the first such argument.
-fn asks(mut asked: Asked, what: u32, at: usize) -> Asked
-    ensures { result.cards ≡ asked.cards }
-{
-    if asked.what == SORT {
-        asked.what = what;
-        asked.at = at;
-    }
-    asked
-}
-
-// With --like.
-fn with_like(mut asked: Asked, at: usize) -> Asked
-    ensures { result.cards ≡ asked.cards }
-{
-    if asked.like != 0 {
-        return asks(asked, TWICE, at);
-    }
-    asked.waits = true;
-    asked
-}
-
-// With one option more.
-fn with_option(mut asked: Asked, option: u32, at: usize) -> Asked
-    ensures { result.cards ≡ asked.cards }
-{
-    if option == options::STATUS {
-        asked.status = true;
-        return asked;
-    }
-    if option == options::CSV {
-        asked.csv = true;
-        return asked;
-    }
-    if option == options::END {
-        asked.ended = true;
-        return asked;
-    }
-    if option == options::LIKE {
-        return with_like(asked, at);
-    }
-    if option == options::HELP {
-        return asks(asked, HELP, at);
-    }
-    if option == options::VERSION {
-        return asks(asked, VERSION, at);
-    }
-    asks(asked, UNKNOWN, at)
-}
-
-// With one card more, whose file the argument at this place names.
-fn with_card(mut asked: Asked, at: usize, files: &mut [usize]) -> Asked
-    requires { (length files.old ≡ 65536) × (asked.cards ≤ 65536) }
-    ensures { result.cards ≤ 65536 }
-{
-    let n = asked.cards;
-    if n < MOST {
-        files[n] = at;
-        asked.cards = n + 1;
-        return asked;
-    }
-    asks(asked, TOO_MANY, at)
-}
-
-// With one argument more, which is this option or a word.
-fn with(mut asked: Asked, option: u32, at: usize, files: &mut [usize]) -> Asked
-    requires { (length files.old ≡ 65536) × (asked.cards ≤ 65536) }
-    ensures { result.cards ≤ 65536 }
-{
-    let is_word = option == options::WORD || asked.ended;
-    if !asked.waits {
-        if is_word {
-            return with_card(asked, at, files);
+impl Asked {
+    // The same, asking for this, where it is the first such argument.
+    fn asks(mut self, task: Task) -> Asked {
+        if let Task::Sort = self.task {
+            self.task = task;
         }
-        return with_option(asked, option, at);
+        self
     }
-    asked.waits = false;
-    if is_word {
-        asked.like = at;
-        return asked;
-    }
-    with_option(asks(asked, NO_FILE, at), option, at)
-}
 
-// Which option argument i is. One that is too long to be one is a word.
-fn option_at(rt: &HostRuntime, i: usize) -> u32 {
-    let mut word = outside::buffer();
-    let n = outside::word(rt, i, &mut word);
-    options::read(&word[..n])
+    // With --like.
+    fn with_like(mut self) -> Asked {
+        if self.like.is_some() {
+            return self.asks(Task::Twice);
+        }
+        self.waits = true;
+        self
+    }
+
+    // With one option more, which stands at this place.
+    fn with_option(mut self, option: Argument, at: usize) -> Asked {
+        match option {
+            Argument::Status => {
+                self.status = true;
+                self
+            },
+            Argument::Csv => {
+                self.csv = true;
+                self
+            },
+            Argument::End => {
+                self.ended = true;
+                self
+            },
+            Argument::Like => self.with_like(),
+            Argument::Help => self.asks(Task::Help),
+            Argument::Version => self.asks(Task::Version),
+            _ => self.asks(Task::Unknown(at)),
+        }
+    }
+
+    // With one card more, whose file the argument at this place names.
+    fn with_card(mut self, at: usize, files: &mut [usize]) -> Asked
+        requires { length files.old ≡ 65536 }
+    {
+        let n = self.cards;
+        if n < MOST {
+            files[n] = at;
+            self.cards = n + 1;
+            return self;
+        }
+        self.asks(Task::TooMany)
+    }
+
+    // With one argument more, which is this option or a word.
+    fn with(mut self, argument: Argument, at: usize, files: &mut [usize]) -> Asked
+        requires { length files.old ≡ 65536 }
+    {
+        let is_word = self.ended || argument == Argument::Word;
+        if !self.waits {
+            if is_word {
+                return self.with_card(at, files);
+            }
+            return self.with_option(argument, at);
+        }
+        self.waits = false;
+        if is_word {
+            self.like = Some(at);
+            return self;
+        }
+        self.asks(Task::NoFile).with_option(argument, at)
+    }
+
+    // What is asked for once all arguments are read.
+    fn task(self) -> Task {
+        match self.task {
+            Task::Sort if self.waits => Task::NoFile,
+            Task::Sort if self.cards == 0 => Task::NoCards,
+            task => task,
+        }
+    }
 }
 
 // What all arguments ask for; the places of the cards' names are put into files.
-fn arguments(rt: &HostRuntime, count: usize, files: &mut [usize]) -> Asked
+fn arguments(rt: &HostRuntime, files: &mut [usize]) -> Asked
     requires { length files.old ≡ 65536 }
-    ensures { result.cards ≤ 65536 }
 {
     let mut asked = Asked {
-        what: SORT,
-        at: 0,
-        like: 0,
+        task: Task::Sort,
+        like: None,
         waits: false,
         cards: 0,
         csv: false,
         status: false,
         ended: false,
     };
-    let mut i = 1;
-    while i < count {
-        asked = with(asked, option_at(rt, i), i, files);
-        i += 1;
+    for i in 1..outside::arg_count(rt) {
+        asked = asked.with(outside::option(rt, i), i, files);
     }
     asked
 }
 
-// Room for every text: the totals (totals' theorem totals-fit), a line whose name has at most 4,096 octets (theorem line-fits), and the same
-// comma-separated (cardline's theorem csv-fits). Its callers know its length alone, and never count it out; so with the others below.
-fn room() -> [u8; 16384]
-    ensures { 16384 ≡ length result }
-{
-    [0; 16384]
-}
-
-// A place for each card's name.
-fn no_places() -> [usize; MOST]
+// A number for each card. The proofs of its callers know its length alone, and never count it out.
+fn for_each_card<T: Copy>(number: T) -> [T; MOST]
     ensures { 65536 ≡ length result }
 {
-    [0; MOST]
-}
-
-// A verdict for each card.
-fn no_ranks() -> [u32; MOST]
-    ensures { 65536 ≡ length result }
-{
-    [0; MOST]
-}
-
-// Room for what is read of a file.
-fn no_octets() -> [u8; READ]
-    ensures { 530 ≡ length result }
-{
-    [0; READ]
+    [number; MOST]
 }
 
 // Writes text to standard output, or says that it cannot.
-fn say(rt: &HostRuntime, text: &[u8]) -> bool {
-    match rt.stdout().write_all(text) {
-        Ok(()) => true,
-        Err(why) => {
-            outside::fail(rt, b"sorter: standard output", why);
-            false
-        },
-    }
+fn say(rt: &HostRuntime, text: &[u8]) -> Result<(), Unwritten> {
+    outside::print(rt, &NAME, text)
 }
 
 // Writes a line of cells to standard output, in comma-separated form where that is asked for.
-fn say_cells(rt: &HostRuntime, line: &[u8], csv: bool) -> bool {
+fn say_cells(rt: &HostRuntime, line: &[u8], csv: bool) -> Result<(), Unwritten> {
     if !csv {
         return say(rt, line);
     }
-    let mut room = room();
+    let mut room: [u8; ROOM] = outside::room();
     let n = cardline::csv(line, &mut room);
     say(rt, &room[..n])
 }
 
 // Writes the line above the cards' lines.
-fn head(rt: &HostRuntime, given: bool, csv: bool) -> bool {
-    let mut room = room();
+fn head(rt: &HostRuntime, given: bool, csv: bool) -> Result<(), Unwritten> {
+    let mut room: [u8; ROOM] = outside::room();
     let n = cardline::header(given, &mut room);
     say_cells(rt, &room[..n], csv)
 }
 
 // Writes a card's line.
-fn tell(rt: &HostRuntime, name: &[u8], v: card::Verdict, csv: bool) -> bool {
-    let mut room = room();
+fn tell(rt: &HostRuntime, name: &[u8], v: card::Verdict, csv: bool) -> Result<(), Unwritten> {
+    let mut room: [u8; ROOM] = outside::room();
     let n = cardline::line(name, v, &mut room);
     say_cells(rt, &room[..n], csv)
 }
 
-// Reads up to 530 octets of what is open, and answers how many came.
-fn fill<R: Read>(input: &mut R, octets: &mut [u8]) -> io::Result<usize>
-    requires { length octets.old ≡ 530 }
-    ensures { IfOk result (λ n. n ≤ 530) }
-{
-    outside::read_full(input, octets)
-}
-
 // Reads up to 530 octets of the file of this name, and answers how many came.
-fn read_file(rt: &HostRuntime, name: &[u8], octets: &mut [u8]) -> io::Result<usize>
-    requires { length octets.old ≡ 530 }
+fn read_file(rt: &HostRuntime, name: &[u8], octets: &mut [u8; READ]) -> io::Result<usize>
     ensures { IfOk result (λ n. n ≤ 530) }
 {
     let mut file = outside::open(rt, name)?;
-    fill(&mut file, octets)
+    outside::fill(&mut file, octets)
 }
 
 // What the card whose frame stands in the file of this name is found to be.
 fn look(rt: &HostRuntime, name: &[u8], customer: verdict::Customer) -> card::Verdict {
-    let mut octets = no_octets();
+    let mut octets: [u8; READ] = outside::room();
     match read_file(rt, name, &mut octets) {
         Ok(n) => verdict::judge(&octets[..n], customer),
         Err(_) => verdict::unread(customer),
@@ -275,31 +229,31 @@ fn clear(rt: &HostRuntime, shown: bool) {
 
 // Whether a list of so many cards shows how far it has come: a long one does, where standard error is a terminal.
 fn is_shown(rt: &HostRuntime, cards: usize) -> bool {
-    if cards <= SHORT {
-        return false;
-    }
-    rt.stderr().is_terminal()
+    SHORT < cards && rt.stderr().is_terminal()
 }
 
-// A card's verdict, and whether its line is written.
-#[derive(Drop)]
-struct Line {
-    rank: u32,
-    written: bool,
-}
-
-// Writes the line of a card that is found to be this.
-fn done(rt: &HostRuntime, name: &[u8], v: card::Verdict, shown: bool, csv: bool) -> Line {
+// Writes the line of a card that is found to be this, and gives its verdict's rank.
+fn done(
+    rt: &HostRuntime,
+    name: &[u8],
+    v: card::Verdict,
+    shown: bool,
+    csv: bool,
+) -> Result<u32, Unwritten> {
     clear(rt, shown);
-    Line {
-        rank: v.rank,
-        written: tell(rt, name, v, csv),
-    }
+    tell(rt, name, v, csv)?;
+    Ok(v.rank)
 }
 
 // Looks at the card whose file argument i names, and writes its line. A name that is too long for a path is cut, and its file unread.
-fn card(rt: &HostRuntime, i: usize, shown: bool, csv: bool, customer: verdict::Customer) -> Line {
-    let mut path = outside::buffer();
+fn card(
+    rt: &HostRuntime,
+    i: usize,
+    shown: bool,
+    csv: bool,
+    customer: verdict::Customer,
+) -> Result<u32, Unwritten> {
+    let mut path: [u8; outside::PATH] = outside::room();
     match outside::arg(rt, i, &mut path) {
         Ok(n) => {
             let v = look(rt, &path[..n], customer);
@@ -318,120 +272,129 @@ fn number(rt: &HostRuntime, shown: bool, k: usize, cards: usize)
     }
 }
 
-// Looks at the cards whose names stand at these places, and puts their verdicts into ranks. Answers whether all lines are written.
+// Looks at the cards whose names stand at these places one by one, and puts their verdicts into ranks.
+fn look_at_each(
+    rt: &HostRuntime,
+    files: &[usize],
+    shown: bool,
+    csv: bool,
+    customer: verdict::Customer,
+    ranks: &mut [u32],
+) -> Result<(), Unwritten>
+    requires { (length files.now ≤ 65536) × (length ranks.old ≡ length files.now) }
+{
+    for k in 0..files.len() {
+        number(rt, shown, k, files.len());
+        ranks[k] = card(rt, files[k], shown, csv, customer)?;
+    }
+    Ok(())
+}
+
+// The same, showing how far it has come where the list is long.
 fn look_at(
     rt: &HostRuntime,
     files: &[usize],
     csv: bool,
     customer: verdict::Customer,
     ranks: &mut [u32],
-) -> bool
+) -> Result<(), Unwritten>
     requires { (length files.now ≤ 65536) × (length ranks.old ≡ length files.now) }
 {
     let shown = is_shown(rt, files.len());
-    let mut k = 0;
-    while k < files.len() {
-        number(rt, shown, k, files.len());
-        let found = card(rt, files[k], shown, csv, customer);
-        if !found.written {
-            hide(rt, shown);
-            return false;
-        }
-        ranks[k] = found.rank;
-        k += 1;
-    }
+    let looked = look_at_each(rt, files, shown, csv, customer, ranks);
     hide(rt, shown);
-    true
+    looked
 }
 
 // Writes the totals. With comma-separated cards they go to standard error.
-fn total(rt: &HostRuntime, given: bool, csv: bool, ranks: &[u32]) -> bool {
-    let mut room = room();
+fn total(rt: &HostRuntime, given: bool, csv: bool, ranks: &[u32]) -> Result<(), Unwritten> {
+    let mut room: [u8; ROOM] = outside::room();
     let n = totals::totals(given, ranks, &mut room);
     if !csv {
         return say(rt, &room[..n]);
     }
     outside::complain(rt, &room[..n]);
-    true
+    Ok(())
+}
+
+// How the run ends, by the status of its totals.
+fn ended(status: u32) -> Status {
+    match status {
+        totals::FINE => Status::Good,
+        totals::NOT_FINE => Status::Bad,
+        _ => Status::Wrong,
+    }
 }
 
 // Sorts the cards whose names stand at these places, and answers the status.
-fn sort(rt: &HostRuntime, files: &[usize], csv: bool, customer: verdict::Customer) -> u32
+fn sort(
+    rt: &HostRuntime,
+    files: &[usize],
+    csv: bool,
+    customer: verdict::Customer,
+) -> Result<Status, Unwritten>
     requires { length files.now ≤ 65536 }
 {
-    let mut room = no_ranks();
+    let mut room = for_each_card(0u32);
     let ranks = &mut room[..files.len()];
-    if !head(rt, customer.given, csv) {
-        return WRONG;
-    }
-    if !look_at(rt, files, csv, customer, ranks) {
-        return WRONG;
-    }
-    if !total(rt, customer.given, csv, ranks) {
-        return WRONG;
-    }
-    totals::status(customer.given, ranks)
+    head(rt, customer.given, csv)?;
+    look_at(rt, files, csv, customer, ranks)?;
+    total(rt, customer.given, csv, ranks)?;
+    Ok(ended(totals::status(customer.given, ranks)))
 }
 
 // Says what a reference that does not serve is found to be.
-fn refer(rt: &HostRuntime, name: &[u8], v: card::Verdict) -> u32 {
-    let mut room = room();
+fn refer(rt: &HostRuntime, name: &[u8], v: card::Verdict) -> Status {
+    let mut room: [u8; ROOM] = outside::room();
     let n = cardline::reference(name, v, &mut room);
     outside::complain(rt, &room[..n]);
-    WRONG
+    Status::Wrong
 }
 
 // Sorts beside the customer whose reference frame argument i names.
-fn sort_like(rt: &HostRuntime, i: usize, files: &[usize], csv: bool) -> u32
+fn sort_like(rt: &HostRuntime, i: usize, files: &[usize], csv: bool) -> Result<Status, Unwritten>
     requires { length files.now ≤ 65536 }
 {
-    let mut path = outside::buffer();
-    let n = outside::word(rt, i, &mut path);
-    let v = look(rt, &path[..n], verdict::nobody());
+    let mut path: [u8; outside::PATH] = outside::room();
+    let name = outside::said(rt, i, &mut path);
+    let v = look(rt, name, verdict::nobody());
     let customer = verdict::reference(v);
     if !customer.given {
-        return refer(rt, &path[..n], v);
+        return Ok(refer(rt, name, v));
     }
     sort(rt, files, csv, customer)
 }
 
 // Says how the sorter is called.
-fn usage(rt: &HostRuntime) -> u32 {
+fn usage(rt: &HostRuntime) -> Status {
     outside::complain(
         rt,
         b"\nusage: sorter [--like FILE] [--csv] [--status] [--] FILE...\n",
     );
-    WRONG
+    Status::Wrong
 }
 
 // Says why it is called wrongly.
-fn refuse(rt: &HostRuntime, why: &[u8]) -> u32 {
+fn refuse(rt: &HostRuntime, why: &[u8]) -> Status {
     outside::complain(rt, b"sorter: ");
     outside::complain(rt, why);
     usage(rt)
 }
 
 // Says that argument i is no option of the sorter.
-fn refuse_option(rt: &HostRuntime, i: usize) -> u32 {
-    let mut word = outside::buffer();
-    let n = outside::word(rt, i, &mut word);
-    outside::complain(rt, b"sorter: ");
-    outside::complain(rt, &word[..n]);
-    outside::complain(
+fn refuse_option(rt: &HostRuntime, i: usize) -> Status {
+    outside::refuse(
         rt,
+        b"sorter: ",
+        i,
         b": no such option; a file of that name is given as ./NAME",
     );
     usage(rt)
 }
 
-// The status of what is written to standard output alone.
-fn printed(rt: &HostRuntime, text: &[u8]) -> u32 {
-    if say(rt, text) { totals::FINE } else { WRONG }
-}
-
 // How the sorter is called.
-fn help(rt: &HostRuntime) -> u32 {
-    printed(
+fn help(rt: &HostRuntime) -> Result<(), Unwritten> {
+    say(
         rt,
         b"usage: sorter [--like FILE] [--csv] [--status] [--] FILE...\n\
           Sorts SDSL line cards: each FILE holds a card's captured activation frame, 529 octets.\n\
@@ -445,84 +408,34 @@ fn help(rt: &HostRuntime) -> u32 {
     )
 }
 
-// The version.
-fn version(rt: &HostRuntime) -> u32 {
-    if !say(rt, b"sdsl-sorter ") {
-        return WRONG;
-    }
-    if !say(rt, &options::RELEASE) {
-        return WRONG;
-    }
-    printed(rt, b"\n")
-}
-
-// Says what is wrong with the arguments.
-fn refuse_use(rt: &HostRuntime, what: u32) -> u32 {
-    match what {
-        NO_FILE => refuse(rt, b"--like: the reference's FILE is missing"),
-        TWICE => refuse(rt, b"--like stands twice"),
-        TOO_MANY => refuse(rt, b"more than 65536 cards"),
-        _ => refuse(rt, b"no cards"),
-    }
-}
-
-// Does what is asked other than to sort.
-fn tell_use(rt: &HostRuntime, what: u32, at: usize) -> u32 {
-    match what {
-        HELP => help(rt),
-        VERSION => version(rt),
-        UNKNOWN => refuse_option(rt, at),
-        _ => refuse_use(rt, what),
-    }
-}
-
 // Does what is asked with the cards at these places, and answers the status.
-fn run(rt: &HostRuntime, what: u32, at: usize, like: usize, csv: bool, files: &[usize]) -> u32
+fn run(rt: &HostRuntime, asked: Asked, files: &[usize]) -> Result<Status, Unwritten>
     requires { length files.now ≤ 65536 }
 {
-    if what != SORT {
-        return tell_use(rt, what, at);
+    match asked.task() {
+        Task::Sort => {
+            return match asked.like {
+                Some(i) => sort_like(rt, i, files, asked.csv),
+                None => sort(rt, files, asked.csv, verdict::nobody()),
+            };
+        },
+        Task::Help => help(rt)?,
+        Task::Version => outside::print_version(rt, &NAME)?,
+        Task::Unknown(at) => return Ok(refuse_option(rt, at)),
+        Task::NoFile => return Ok(refuse(rt, b"--like: the reference's FILE is missing")),
+        Task::Twice => return Ok(refuse(rt, b"--like stands twice")),
+        Task::TooMany => return Ok(refuse(rt, b"more than 65536 cards")),
+        Task::NoCards => return Ok(refuse(rt, b"no cards")),
     }
-    if like == 0 {
-        return sort(rt, files, csv, verdict::nobody());
-    }
-    sort_like(rt, like, files, csv)
-}
-
-// A status as its digit.
-fn digit(status: u32) -> u8 {
-    match status {
-        totals::FINE => b'0',
-        totals::NOT_FINE => b'1',
-        _ => b'2',
-    }
-}
-
-// What is asked for once all arguments are read.
-fn asked_for(asked: Asked) -> u32 {
-    if asked.what != SORT {
-        return asked.what;
-    }
-    if asked.waits {
-        return NO_FILE;
-    }
-    if asked.cards == 0 { NO_CARDS } else { SORT }
+    Ok(Status::Good)
 }
 
 // Does as the arguments say.
 fn main(rt: HostRuntime) {
-    let mut places = no_places();
-    let asked = arguments(&rt, outside::arg_count(&rt), &mut places);
-    let cards = asked.cards;
-    let status = run(
-        &rt,
-        asked_for(asked),
-        asked.at,
-        asked.like,
-        asked.csv,
-        &places[..cards],
-    );
+    let mut places = for_each_card(0usize);
+    let asked = arguments(&rt, &mut places);
+    let status = run(&rt, asked, &places[..asked.cards]).unwrap_or(Status::Wrong);
     if asked.status {
-        outside::tell_status(digit(status));
+        outside::tell_status(status.digit());
     }
 }

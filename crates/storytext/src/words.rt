@@ -1,4 +1,5 @@
 // The phrases of a story's text, a row each, counted from 0 (crate phrases): # is the phrase's number, @ the same in seconds, $ ends a line.
+// Stays: rows are numbers, since most are found by adding a code's, kind's or phase's number to the first of their rows (`KINDS + kind`).
 
 // No phrase, in either table.
 pub const NONE: u32 = 0;

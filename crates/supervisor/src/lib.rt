@@ -136,7 +136,8 @@ impl Supervisor {
 
     // Whether a number is outside its range.
     fn outside(self) -> bool
-        ensures { result ≡ (ltb most_attempt self.attempt || ltb most_ticks self.ticks || ltb self.silence shortest_silence || ltb longest_silence self.silence) }
+        ensures { result ≡ (ltb most_attempt self.attempt || ltb most_ticks self.ticks
+            || ltb self.silence shortest_silence || ltb longest_silence self.silence) }
     {
         Self::ATTEMPT <= self.attempt
             || Self::MOST_TICKS < self.ticks

@@ -71,7 +71,8 @@ impl Legal {
     // A tick in an attempt: the 15,000th ends it, even where it would have ended the phase. The phase is over where its reports are heard and it has lasted.
     fn tried(self, heard: bool, lasts: u32, next: u32) -> Supervisor
         ensures { result ≡ cond (leb attempt_ticks (self.state.attempt + 1)) (entered self.state Exception 0)
-            (cond (heard && leb lasts (self.state.ticks + 1)) (entered self.state next (self.state.attempt + 1)) (counted self.state (self.state.attempt + 1))) }
+            (cond (heard && leb lasts (self.state.ticks + 1)) (entered self.state next (self.state.attempt + 1))
+            (counted self.state (self.state.attempt + 1))) }
     {
         let attempt = self.state.attempt + 1;
         let over = heard && (lasts <= self.state.ticks + 1);
@@ -86,7 +87,8 @@ impl Legal {
 
     // A report that a phase of an attempt awaits: with it the phase is over, or goes on with these marks.
     fn told(self, over: bool, next: u32, converged: u32, seen: u32) -> Supervisor
-        ensures { result ≡ cond over (entered self.state next self.state.attempt) (changed self.state self.state.phase self.state.ticks self.state.attempt converged seen) }
+        ensures { result ≡ cond over (entered self.state next self.state.attempt)
+            (changed self.state self.state.phase self.state.ticks self.state.attempt converged seen) }
     {
         if over {
             self.entered(next, self.state.attempt)

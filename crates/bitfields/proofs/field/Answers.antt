@@ -21,6 +21,3 @@ overflow_cast-result c =
     let m : min a.w 32 ≤ 32 = omega arith in
     let l = part-lt a.s.now a.at (min a.w 32) in
     record { fits = subst (λ (x : ℕ). x < 2 ^ 32) (sym (read c)) (omega (arith, pow_mono m)) }
-
-pub returns : goal.returns
-returns c = read c

@@ -3,7 +3,6 @@ use mathlib.Core.Path.{◌≡◌, sym, ap, ◌∙◌}
 use Prim.Native.Nat.{ℕ, ◌+◌, ◌*◌, ◌/◌, ◌%◌, ◌^◌, ◌≤◌}
 use native.Mathlib.Nat.{div-one}
 use native.Mathlib.Omega.{arith}
-use lib.Pow.{pow_pos}
 use Rattle.octets.specs.Bits.{bits_of}
 use Rattle.octets.proofs.Laws.{bits-bits}
 use Rattle.octets.proofs.Words.{size_is, bits_in}
@@ -12,9 +11,6 @@ use Rattle.bitfields.proofs.opened.Goals as goal
 -- the size of the bits before the place
 size : (c : goal.After-word) → 1 * 2 ^ (c.args.at % 8) % 2 ^ 64 ≡ 2 ^ (c.args.at % 8)
 size c = let r = c.args.at % 8 in let h : r ≤ 63 = omega arith in size_is r h
-
-pub nonzero_rem-result : goal.nonzero_rem-result
-nonzero_rem-result c = omega (arith, size c, pow_pos (c.args.at % 8))
 
 pub returns : goal.returns
 returns c =

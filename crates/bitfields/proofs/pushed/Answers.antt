@@ -4,17 +4,11 @@ use mathlib.Core.Logic.{inl, inr}
 use Prim.Native.Nat.{ℕ, ◌+◌, ◌-◌, ◌*◌, ◌/◌, ◌%◌, ◌^◌, ◌≤◌}
 use native.Mathlib.Omega.{arith}
 use lib.Bits.{bit_or}
-use lib.Pow.{pow_pos}
 use Rattle.octets.specs.Bits.{digits_of, laid}
 use Rattle.octets.proofs.Digits.{digits-mod-pow}
 use Rattle.octets.proofs.Words.{size_is}
 use Rattle.bitfields.proofs.Holding.{low-is, stays, high_is}
 use Rattle.bitfields.proofs.pushed.Goals as goal
-
-pub nonzero_rem-field : goal.nonzero_rem-field
-nonzero_rem-field c =
-    let h : c.args.w ≤ 63 = omega arith in
-    omega (arith, size_is c.args.w h, pow_pos c.args.w)
 
 pub returns-then-count-w-lt64 : goal.returns-then-count-w-lt64
 returns-then-count-w-lt64 c =

@@ -4,7 +4,7 @@ use Prim.Native.Nat.{ℕ, ◌≤◌}
 use lib.ListN.{length, take}
 use Rattle.octets.proofs.Turn.{turn_of}
 use Rattle.fcs.specs.Sequence.{register}
-use Rattle.fcs.proofs.Laws.{two-there, in-word}
+use Rattle.fcs.proofs.Laws.{two-there}
 use Rattle.fcs.proofs.behind_ones.Goals as goal
 
 pub bare-requires : goal.bare-requires
@@ -18,6 +18,3 @@ returns-then-few-n c =
     let a = c.args in
     let s = a.s.now in
     c.bare.ensures ∙ ap (λ (k : ℕ). turn_of 16 (register (take k s))) (sym (two-there (length s) a.n c.if-few-n.true).1)
-
-pub short-requires : goal.short-requires
-short-requires c = let a = c.args in in-word (length a.s.now) a.n c.if-few-n-2.false

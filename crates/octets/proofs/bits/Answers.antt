@@ -2,21 +2,14 @@
 use mathlib.Core.Path.{◌≡◌, ap, ap₂, ◌∙◌}
 use Prim.Native.Nat.{ℕ, ◌+◌, ◌*◌, ◌/◌, ◌%◌, ◌^◌, ◌≤◌}
 use native.Mathlib.Omega.{arith}
-use lib.Pow.{pow_pos}
 use Rattle.octets.specs.Bits.{value_of, bits_of, part}
 use Rattle.octets.proofs.Laws.{bits-bits}
 use Rattle.octets.proofs.Words.{size_is, bits_in}
 use Rattle.octets.proofs.bits.Goals as goal
 
-pub overflow_shr-x : goal.overflow_shr-x
-overflow_shr-x c = omega arith
-
 -- the size that the length gives
 size : (c : goal.After-word) → 1 * 2 ^ c.min-m.result % 2 ^ 64 ≡ 2 ^ c.min-m.result
 size c = size_is c.min-m.result (omega (arith, c.min-m.ensures))
-
-pub nonzero_rem-result : goal.nonzero_rem-result
-nonzero_rem-result c = omega (arith, size c, pow_pos c.min-m.result)
 
 pub returns : goal.returns
 returns c =

@@ -3,11 +3,6 @@ use native.Mathlib.Omega.{arith}
 use Rattle.octets.proofs.Whole.{copied_all}
 use Rattle.octets.proofs.copy.Goals as goal
 
-pub copy_octets-requires : goal.copy_octets-requires
-copy_octets-requires c =
-    let e = c.in_octets.ensures c.if-in_octets.true in
-    (e.3, e.4)
-
 pub returns-then-in_octets : goal.returns-then-in_octets
 returns-then-in_octets c =
     let a = c.args in

@@ -4,7 +4,7 @@ use Prim.Native.Nat.{ℕ, ◌+◌, ◌-◌, ◌*◌, ◌≤◌, ◌<◌, min}
 use native.Mathlib.Omega.{arith}
 use lib.ListN.{length}
 use Rattle.octets.specs.Bits.{bits_of, part, laid}
-use Rattle.octets.proofs.Laws.{laid_none, laid-length, part-clipped}
+use Rattle.octets.proofs.Laws.{laid_none, part-clipped}
 use Rattle.octets.proofs.Words.{part-laid}
 use Rattle.octets.proofs.copy_bits.Goals as goal
 
@@ -13,22 +13,9 @@ loop-k-init c =
     let a = c.args in
     (omega arith, laid_none a.s.now a.at (λ i. omega (arith, c.slice_known-1.given i)))
 
-pub overflow_sub-all : goal.overflow_sub-all
-overflow_sub-all c = omega arith
-
-pub put_at-requires : goal.put_at-requires
-put_at-requires c = c.step-m.ensures.2
-
-pub overflow_add-k : goal.overflow_add-k
-overflow_add-k c = omega (arith, c.step-m.ensures)
-
 -- a step goes on
 on : (all k m : ℕ) → k < all → min (all - k) 1 ≤ m → all - (k + m) < all - k
 on all k m h l = omega arith
-
-pub loop-k-smaller : goal.loop-k-smaller
-loop-k-smaller c =
-    on c.there-all.result c.loop-k.k c.step-m.result c.loop-k-test.true c.step-m.ensures.1
 
 pub loop-k-preserved : goal.loop-k-preserved
 loop-k-preserved c =
@@ -41,9 +28,6 @@ loop-k-preserved c =
       part-laid a.s.now a.at a.source.now a.from l.k m (omega (arith, c.step-m.ensures)) (omega (arith, c.step-m.ensures, all.ensures))
           l.invariant.1 word.ensures c.put_at.ensures,
     )
-
-pub shape_of-s : goal.shape_of-s
-shape_of-s c = ap length c.loop-k.invariant.1 ∙ simp laid-length
 
 pub returns : goal.returns
 returns c =

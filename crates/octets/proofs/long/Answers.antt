@@ -6,15 +6,6 @@ use lib.Bits.{bit_or}
 use Rattle.octets.proofs.Words.{long-is}
 use Rattle.octets.proofs.long.Goals as goal
 
-pub overflow_sub-result : goal.overflow_sub-result
-overflow_sub-result c = omega arith
-
-pub overflow_shl-result : goal.overflow_shl-result
-overflow_shl-result c = omega arith
-
-pub overflow_shr-result : goal.overflow_shr-result
-overflow_shr-result c = omega arith
-
 pub returns : goal.returns
 returns c =
     let a = c.args in

@@ -16,9 +16,6 @@ loop-k-init c =
     let z : 0 ≡ 8 * (a.i - a.i) = omega arith in
     (omega arith, omega arith, ap (λ (n : ℕ). min (value_of (part (8 * a.i) n (bits_of a.s.now))) 1) z)
 
-pub bounds-s-k : goal.bounds-s-k
-bounds-s-k c = omega (arith, c.min-last.ensures)
-
 pub loop-k-preserved : goal.loop-k-preserved
 loop-k-preserved c =
     let l = c.loop-k in

@@ -5,9 +5,6 @@ use native.Mathlib.Omega.{arith}
 use Rattle.octets.specs.Bits.{digits_of, laid}
 use Rattle.octets.proofs.put_front.Goals as goal
 
-pub put_part-requires : goal.put_part-requires
-put_part-requires c = omega (arith, c.min.ensures)
-
 pub returns : goal.returns
 returns c =
     let a = c.args in

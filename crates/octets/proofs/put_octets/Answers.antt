@@ -5,10 +5,9 @@ use Prim.Native.Nat.{ℕ, ◌+◌, ◌-◌, ◌*◌, ◌/◌, ◌^◌, ◌≤◌
 use native.Mathlib.Nat.{div-one}
 use native.Mathlib.Decide.{dec_le}
 use native.Mathlib.Omega.{arith}
-use lib.Bits.{mask_lt}
 use lib.ListN.{length}
 use lib.Pow.{shr-shr}
-use lib.Seq.{sets, length-sets}
+use lib.Seq.{sets}
 use Rattle.octets.specs.Bits.{digits_of, octets_of}
 use Rattle.octets.proofs.Words.{octets-more, sets-rest}
 use Rattle.octets.proofs.put_octets.Goals as goal
@@ -24,16 +23,6 @@ loop-k-init c =
       ap (λ (n : ℕ). sets a.s.now a.i (octets_of n (digits_of (8 * n) a.v))) z,
     )
 
-pub overflow_cast-s : goal.overflow_cast-s
-overflow_cast-s c = record { fits = mask_lt c.loop-k.rest 8 }
-
--- as many octets as before
-size : (c : goal.In-loop-k) → length c.loop-k.s ≡ length c.args.s.now
-size c = ap length c.loop-k.invariant.3 ∙ simp length-sets
-
-pub bounds-s-k : goal.bounds-s-k
-bounds-s-k c = omega (arith, size c, c.requires)
-
 pub loop-k-preserved : goal.loop-k-preserved
 loop-k-preserved c =
     let a = c.args in
@@ -46,9 +35,6 @@ loop-k-preserved c =
       ap (λ (x : ℕ). x / 2 ^ 8) l.invariant.2 ∙ shr-shr a.v (8 * m) 8 ∙ ap (λ (n : ℕ). a.v / 2 ^ n) e,
       octets-more a.s.now a.i m a.v l.k (omega arith) l.invariant.2 l.invariant.3 ∙ ap (λ (n : ℕ). sets a.s.now a.i (octets_of n (digits_of (8 * n) a.v))) f,
     )
-
-pub shape_of-s : goal.shape_of-s
-shape_of-s c = ap length c.loop-k.invariant.3 ∙ simp length-sets
 
 -- the eight octets are put, or as many as there are
 all : (s : List ℕ) (i end k v : ℕ) → end ≡ min (i + 8) (length s) → i ≤ k → end ≤ k → k ≤ max i end

@@ -3,16 +3,9 @@ use mathlib.Core.Path.{ap₂, ◌∙◌}
 use Prim.Native.Nat.{ℕ, ◌+◌, ◌*◌, ◌/◌, ◌%◌, ◌^◌, ◌≤◌}
 use native.Mathlib.Omega.{arith}
 use lib.Bits.{bit_or}
-use lib.Pow.{pow_pos}
 use Rattle.octets.specs.Bits.{digits_of}
 use Rattle.octets.proofs.Words.{size_is, replaced-is}
 use Rattle.octets.proofs.replaced.Goals as goal
-
-pub nonzero_rem-before : goal.nonzero_rem-before
-nonzero_rem-before c = let h : c.args.r ≤ 63 = omega arith in omega (arith, size_is c.args.r h, pow_pos c.args.r)
-
-pub nonzero_rem-field : goal.nonzero_rem-field
-nonzero_rem-field c = omega (arith, size_is c.args.n (omega arith), pow_pos c.args.n)
 
 pub returns : goal.returns
 returns c =

@@ -1,7 +1,6 @@
 -- `precoder::product` meets its contract: the four products of the parts, put together, are the product. Assumes nothing.
-use mathlib.Core.Path.{◌≡◌, refl, sym, ap₂, ◌∙◌}
+use mathlib.Core.Path.{◌≡◌, sym, ap₂, ◌∙◌}
 use Prim.Native.Nat.{◌^◌}
-use lib.Dec.{lit<, lit≤}
 use lib.IntN.{ℤ, ◌*ℤ◌}
 use mir.Syntax.{w16, w32}
 use mir.Val.{SFits, of_z, to_z}
@@ -14,36 +13,10 @@ part-is : (r a b : ℤ) → SFits w32 r → r ≡ to_z w16 (of_z w16 a) *ℤ to_
     → to_z w16 (of_z w16 a) ≡ a → to_z w16 (of_z w16 b) ≡ b → to_z w32 (of_z w32 r) ≡ a *ℤ b
 part-is r a b f e p q = to_z-of_z f ∙ e ∙ ap₂ (λ (x y : ℤ). x *ℤ y) p q
 
-pub split-c-requires : goal.split-c-requires
-split-c-requires c =
-    record {
-      size = 1024;
-      raise_is = refl;
-      lowest_is = refl;
-      some = lit< tt;
-      sized = lit< tt;
-      weight_fits = lit≤ tt;
-      size_fits = lit≤ tt;
-      range = rw (to_z-of_z c.ranges.coefficient) c.requires.0;
-    }
-
-pub split-w-requires : goal.split-w-requires
-split-w-requires c =
-    record {
-      size = 256;
-      raise_is = refl;
-      lowest_is = refl;
-      some = lit< tt;
-      sized = lit< tt;
-      weight_fits = lit≤ tt;
-      size_fits = lit≤ tt;
-      range = rw (to_z-of_z c.ranges.y) c.requires.1;
-    }
-
 pub returns : goal.returns
 returns c =
-    let a = c.split-c in
-    let b = c.split-w in
+    let a = c.coefficient_halves-c in
+    let b = c.output_halves-w in
     let h = a.result.high in
     let l = a.result.low in
     let j = b.result.high in

@@ -12,9 +12,6 @@ use Rattle.remainder.specs.Register.{register_of}
 use Rattle.remainder.proofs.Period.{six-degree, six-round, brought-lt, brought-is}
 use Rattle.remainder.proofs.brought_round.Goals as goal
 
-pub nonzero_rem-result : goal.nonzero_rem-result
-nonzero_rem-result c = omega (arith, size_is c.args.n (omega arith), pow_pos c.args.n)
-
 pub returns : goal.returns
 returns c =
     let a = c.args in

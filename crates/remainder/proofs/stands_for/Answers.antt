@@ -30,12 +30,6 @@ brought_round-x-requires c =
     let m = c.min-m.result in
     (omega arith, omega arith, l.invariant.1, subst (λ (v : ℕ). v < 2 ^ m) (sym (c.bits-v.ensures ∙ ap (λ (j : ℕ). value_of (part (a.at + l.seen) j (bits_of a.s.now))) (sym c.min-m.ensures))) (part-lt a.s.now (a.at + l.seen) m))
 
-pub overflow_add-seen : goal.overflow_add-seen
-overflow_add-seen c = omega arith
-
-pub loop-seen-smaller : goal.loop-seen-smaller
-loop-seen-smaller c = omega arith
-
 pub loop-seen-preserved : goal.loop-seen-preserved
 loop-seen-preserved c =
     let a = c.args in

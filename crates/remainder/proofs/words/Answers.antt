@@ -25,12 +25,6 @@ loop-k-init c =
           ∙ ap (λ (y : ℕ). register_of 16 generator 0 (digits_of 64 (bit_xor w.result y))) (sym (c.from-2.ensures ∙ c.turned.ensures ∙ ap (turn_of 16) c.from.ensures)),
     )
 
-pub overflow_mul-k : goal.overflow_mul-k
-overflow_mul-k c = omega arith
-
-pub overflow_add-i : goal.overflow_add-i
-overflow_add-i c = omega arith
-
 pub loop-k-preserved : goal.loop-k-preserved
 loop-k-preserved c =
     let w = c.word-w in
