@@ -1,6 +1,6 @@
--- `sender::put_training` meets its contract.
+-- `sender::Fields::put_training` meets its contract.
 use Rattle.sender.proofs.Laws.{training-put}
-use Rattle.sender.proofs.put_training.Goals as goal
+use Rattle.sender.proofs.Fields.put_training.Goals as goal
 
 pub returns : goal.returns
 returns c =
@@ -9,5 +9,5 @@ returns c =
     let s₁ = c.put_field in
     let s₂ = c.put_coefficients in
     let t = c.finish in
-    training-put a.frame.now a.vendor.now p.0 s₁.new.s s₂.new.frame t.new.frame a.count a.coefficients.now a.a a.b p.2 p.1
+    training-put a.frame.now a.self.vendor.now p.0 s₁.new.s s₂.new.frame t.new.frame a.self.count a.self.coefficients.now a.self.a a.self.b p.1 a.self.all
     s₁.ensures s₂.ensures t.ensures
