@@ -188,6 +188,7 @@ fn copy_bits(s: &mut [u8], at: usize, source: &[u8], from: usize, n: u32)
 {
     let all = there(source, from, n);
     let mut k: u32 = 0;
+    // Stays: `step` says how far each turn goes, so there is nothing to count.
     while k < all {
         let m = step(at, k, all - k);
         put_at(s, at, k, m, long(source, from, k));

@@ -126,6 +126,7 @@ fn gathered(tap: u32, u: u64) -> u64
     let two = tap + tap;
     let mut line = (once ^ (once << two)) ^ (once << 46);
     let mut k = two + two;
+    // Stays: k doubles, and no range does that.
     while k < WORD {
         line ^= line << k;
         k += k;
