@@ -33,7 +33,7 @@ import tempfile
 ROOT = pathlib.Path(__file__).resolve().parents[2]
 LOGS = ROOT / "build" / "must-fail"
 SECONDS = 1800  # for one check
-ERROR = re.compile(r"^(?:\./)?((?:proofs|specs|src)/\S+?):\d+:\d+: error(?:\[[\w-]+\])?: (.*)", re.M)
+ERROR = re.compile(r"^(?:\./)?((?:proofs|specs|src)/\S+?):\d+:\d+: error(?:\[[\w-]+\])?: (.*(?:\n  .*)*)", re.M)  # and the lines that go on with it
 # what the prover says of a name that it does not find: then no fact was looked at
 NAMELESS = re.compile(r"no module|can be named from here|has no field|is not in scope|is no name|has no `|exports no `")
 # and of what rests on another declaration that was refused
@@ -64,9 +64,15 @@ def files(function):
     return [f"{folder}/{name}.antt" for folder in folders for name in ("Answers", "Invariants", "Proof")]
 
 
+def errors(log):
+    """The log's errors, as (file, text); where rt puts the nearest name on a line before the one that is missing, in its usual order."""
+    for path, text in ERROR.findall(log):
+        yield path, re.sub(r" (\(nearest: [^)]*\))\n  (has no field `\S+`)", r" \2 \1", text)
+
+
 def refused(log, crate, function):
     """Whether the log has a fact that fails in this function's own proof, or in this module of proofs/."""
-    own = [text for path, text in ERROR.findall(log) if path in files(function)]
+    own = [text for path, text in errors(log) if path in files(function)]
     if any(not NAMELESS.search(text) and not ELSEWHERE.search(text) for text in own):
         return function.startswith("proofs/") or bool(re.search(rf"^fn {crate}::{function}: (not proved|no proof)", log, re.M))
     return not own and bool(re.search(rf"^fn {crate}::{function}: (not proved|no proof).*`search` did not prove", log, re.M))
@@ -74,7 +80,7 @@ def refused(log, crate, function):
 
 def unread(log, crate, functions):
     """What the log has that shows no wrong fact: an error in specs/ or src/, or a name that is not found."""
-    for path, text in ERROR.findall(log):
+    for path, text in errors(log):
         if not path.startswith("proofs/"):
             return f"an error in {path}: {text}"
         made = re.search(r"(?:module|record) `Rattle\.\w+\.proofs\.\S+\.(?:Goals|Lts)\b\S*` has no ", text)
@@ -93,7 +99,7 @@ def false(log, crate, function):
 def renamed(log, function):
     """The names that rt made of the right code in this function's proof and that the wrong code has not, each with the one that it has."""
     found = {}
-    for path, text in ERROR.findall(log):
+    for path, text in errors(log):
         if path not in files(function):
             continue
         for m in re.finditer(r"has no field `if-(\S+)` \(nearest: \.if-([^\s,)]+)|has no `(?:then|else)-(\S+)` .*?begin alike: `(?:then|else)-([^`]+)`", text):
@@ -173,7 +179,7 @@ def judge(copy, edit):
     log = tried(copy, edit, edit.stem, changes, functions)
     why = unread(log, crate, functions)
     if not programs:
-        facts = [path for path, text in ERROR.findall(log) if not ELSEWHERE.search(text)]
+        facts = [path for path, text in errors(log) if not ELSEWHERE.search(text)]
         facts += [f"fn {f}" for f in re.findall(r"^fn (\S+): (?:not proved|no proof).*`search` did not prove", log, re.M)]
         right = facts and not why
         yield f"{'pass' if right else 'FAIL'}: {crate}/{edit.stem}, {facts[0] if facts else 'no error in a proof'}{f' ({why})' if why else ''}"

@@ -38,7 +38,7 @@ for page in pages:
     for m in [] if page.name == "PROMISES.md" else re.finditer(rf"(?<![\w./~-])((?:docs|tests|crates|examples|bench|include|man|tools)/[\w./-]*\w|(?:{crates})/(?:src|specs|proofs|must-fail)/[\w./-]*\w)(?![\w*/.-]*\*)", text(page)):
         if "NAME" not in m[1] and ".." not in m[1] and not there(m[1]) and not there("crates/" + m[1]):
             paths.append(f"{name}: {m[1]}")
-    names += [f"{name}: {m[0]}" for m in re.finditer(r"\b[A-Z]{3,}\.md\b", text(page)) if not any((d / m[0]).exists() for d in (ROOT, ROOT / "docs", page.parent))]
+    names += [f"{name}: {m[0]}" for m in re.finditer(r"\b[A-Z]{3,}(?:-[A-Z]+)*\.md\b", text(page)) if not any((d / m[0]).exists() for d in (ROOT, ROOT / "docs", page.parent))]
     cites += [f"{name}: READINGS {m[1]}" for m in re.finditer(r"READINGS(?:\.md)?,? (\d+\.\d+)", text(page)) if m[1] not in readings]
 
 sections = [f"{f.relative_to(ROOT)}: SCOPE, \"{m[1]}\"" for f in files if f.suffix in (".rt", ".antt", ".md", ".py", ".c", ".h")

@@ -107,6 +107,7 @@ fn is_zero(octets: &[u8]) -> bool
 }
 
 // How many octets of a field are text: printable ones at its front, where only zeros follow; else 0.
+// Stays: 0 and not an Option, since an empty text is told as none is.
 pub fn text_length(octets: &[u8]) -> usize
     ensures { TextLength octets.now result }
 {

@@ -15,9 +15,6 @@ ghost use Rattle.datacrc.specs.Promises.{RoomChecked, SixesGiven, CrcGiven};
 use answer::Refused;
 use dataframe::{Form, Room};
 
-// The generator's degree: so many check bits.
-const DEGREE: u32 = 6;
-
 // The six that stand in a frame, and the six that the next frame has to carry. crc1 weighs 32.
 #[derive(Clone, Copy)]
 pub struct Sixes {
@@ -63,7 +60,7 @@ fn carried(room: Room<'_>) -> u32
     let first = room.piece(m + 20, 2);
     let second = room.piece(2 * m + 30, 2);
     let third = room.piece(3 * m + 40, 2);
-    bitfields::turned(DEGREE, first + 4 * (second + 4 * third))
+    bitfields::turned(remainder::SIX_DEGREE, first + 4 * (second + 4 * third))
 }
 
 // Whether so many octets are the room of a form; of an unknown form, of either.

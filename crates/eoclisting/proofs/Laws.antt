@@ -1,5 +1,5 @@
 -- Laws of the texts of messages. Assumes nothing.
-use mathlib.Core.Path.{◌≡◌, refl, sym, ap, ◌∙◌}
+use mathlib.Core.Path.{◌≡◌, refl, ap, ◌∙◌}
 use mathlib.Core.Bool.{Bool, true, false, cond, ◌&&◌}
 use mathlib.Core.List.{List, [], ◌∷◌, ◌++◌}
 use Prim.Native.Nat.{ℕ, zero, suc, ◌+◌, ◌-◌, ◌≤◌, ◌<◌}
@@ -14,7 +14,7 @@ use Rattle.ascii.specs.Plain.{text_length}
 use Rattle.forms.specs.Forms.{formed}
 use Rattle.eoclisting.specs.Contents.{hex_part, margin_text, string_length, string_by, string_text}
 use Rattle.eoclisting.specs.Contents.{short_part, margins_text, status_part, inventory_text, inventory_part, contents_text}
-use Rattle.eoclisting.specs.Totals.{left_text, count_text}
+use Rattle.eoclisting.specs.Totals.{count_text}
 
 -- ---- a margin
 
@@ -144,25 +144,6 @@ module _ (f : List ℕ) (n : ℕ) (e : n ≡ string_length f) where
       by = simp (eq-eqb (text_length (take n f)) n h)
 
 -- ---- totals
-
-pub left-none : (a b : ℕ) → a ≡ 0 → b ≡ 0 → [] ≡ left_text a b
-unfolding left_text
-left-none a b e f = simp (eq-eqb a 0 e, eq-eqb b 0 f)
-
-abbrev left : ℕ → ℕ → List ℕ
-left a b = formed (text "left out: octets before the first flag: #, behind the last: #\n") (a ∷ b ∷ [])
-
-pub left-before : (a b : ℕ) → (a ≡ 0 → ⊥) → left a b ≡ left_text a b
-unfolding left_text
-left-before a b h = simp (ne_eqb a 0 h)
-
-pub left-behind : (a b : ℕ) → (b ≡ 0 → ⊥) → left a b ≡ left_text a b
-unfolding left_text
-left-behind a b h = go (eqb a 0) ∙ ap (λ (t : Bool). cond (eqb a 0 && t) [] (left a b)) (sym (ne_eqb b 0 h))
-  where
-    go : (t : Bool) → left a b ≡ cond (t && false) [] (left a b)
-    go true = refl
-    go false = refl
 
 module _ (n good refused : ℕ) (e : refused ≡ n - good) where
   pub count-one : n ≡ 1 → formed (text "# message: # good, # refused") (n ∷ good ∷ refused ∷ []) ≡ count_text n good

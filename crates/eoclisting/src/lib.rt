@@ -42,6 +42,9 @@ const STATUS: u32 = 139;
 
 const INVENTORY_OCTETS: usize = 67;
 
+// The octet that ends a string before its field's end.
+const END: u8 = 0;
+
 // A margin that is not available.
 const NO_MARGIN: u8 = 127;
 
@@ -207,7 +210,7 @@ fn string_length(field: &[u8]) -> usize
 {
     let mut last = 0;
     for (k, &octet) in field.iter().enumerate() {
-        if octet == 0 {
+        if octet == END {
             return last;
         }
         if octet != b' ' {

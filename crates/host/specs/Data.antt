@@ -26,7 +26,8 @@ written_of (suc n) form k bits = record { answer = suc n; crc = 0 }
 
 -- sdsl_data_write: what is returned, and the frame written, or as it was; the six are what is left of the division of what was written
 pub record DataFrameWritten (form k word : ℕ) (o : DataOverhead) (octets frame : List ℕ) (r : DataSent) (exit : List ℕ) : Type 0 where
-  pub given : r ≡ written_of (answer (write_refusals form k word (overhead_of o) octets frame)) form k (bits_of (data_octets form k word (overhead_of o) octets))
+  pub given : r ≡ written_of (answer (write_refusals form k word (overhead_of o) octets frame)) form k
+      (bits_of (data_octets form k word (overhead_of o) octets))
   pub left : exit ≡ held (answer (write_refusals form k word (overhead_of o) octets frame)) frame (data_octets form k word (overhead_of o) octets)
   pub due_right : r.answer ≡ 0 → Due form k (bits_of exit) r.crc
 

@@ -1,11 +1,11 @@
 // The receiver for C: a state of three numbers goes in and comes back by value; the line room beside it is the caller's.
 ghost use Rattle.std.specs.Prelude.{◌≡◌};
 ghost use Rattle.receiver.specs.Promises.{given_of, place_of_given};
-ghost use Rattle.host.specs.Receiving.{got_in, ReceiverStarted, LumpReceived};
+ghost use Rattle.host.specs.Receiving.{receiver_in, got_in, ReceiverStarted, LumpReceived};
 
 // A receiver's state, as C keeps it.
 #[repr(C)]
-#[derive(Drop)]
+#[derive(Clone, Copy)]
 pub struct Receiver {
     pub end: u32,
     pub heard: u32,
@@ -22,6 +22,32 @@ pub struct Received {
     pub state: Receiver,
 }
 
+// A state as it comes from C.
+impl From<Receiver> for receiver::Receiver {
+    ghost from_gives = { λ s r. r ≡ receiver_in s };
+
+    fn from(s: Receiver) -> receiver::Receiver {
+        receiver::Receiver {
+            end: s.end,
+            heard: s.heard,
+            from: s.from,
+        }
+    }
+}
+
+// A state as it goes to C.
+impl From<receiver::Receiver> for Receiver {
+    ghost from_gives = { λ s r. receiver_in r ≡ s };
+
+    fn from(s: receiver::Receiver) -> Receiver {
+        Receiver {
+            end: s.end,
+            heard: s.heard,
+            from: s.from,
+        }
+    }
+}
+
 // What a start or a call gave, as it goes to C: the flag and the place of a place that may be given.
 fn received_out(answer: u32, place: Option<u32>, next: receiver::Receiver) -> Received
     ensures { got_in result ≡ record { answer = answer; given = given_of place; place = place_of_given place; next = next } }
@@ -30,11 +56,7 @@ fn received_out(answer: u32, place: Option<u32>, next: receiver::Receiver) -> Re
         answer,
         given: u32::from(place.is_some()),
         place: place.unwrap_or(0),
-        state: Receiver {
-            end: next.end,
-            heard: next.heard,
-            from: next.from,
-        },
+        state: Receiver::from(next),
     }
 }
 
@@ -66,11 +88,7 @@ pub fn sdsl_receive(
 ) -> Received
     ensures { LumpReceived state line.old lump.now bits frame.old result line.new frame.new }
 {
-    let x = receiver::Receiver {
-        end: state.end,
-        heard: state.heard,
-        from: state.from,
-    };
+    let x = receiver::Receiver::from(state);
     match x.receive(line, lump, bits, frame) {
         Ok(got) => received_out(answer::DONE, got.place, got.next),
         Err(no) => received_out(no.number(), None, x),

@@ -60,6 +60,7 @@ pub const TRAINING_SYNC: u32 = 0x359f;
 pub const FINAL_SYNC: u32 = 0x3e6b;
 
 // The two kinds.
+// Stays: numbers, since sender::send takes any and answers 2 for one that is neither (`send_refusals`); what reading gives is checker::Kind.
 pub const TRAINING: u32 = 0;
 
 pub const FINAL: u32 = 1;

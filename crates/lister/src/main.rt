@@ -12,13 +12,23 @@ const READ: usize = 530;
 // The name that its words on standard error begin with.
 const NAME: [u8; 6] = *b"lister";
 
+// What is to be done.
+#[derive(Clone, Copy)]
+enum Task {
+    // To list a frame: that in the file whose name stands at this place, or on standard input.
+    List(Option<usize>),
+    // To print how the lister is called, or its version.
+    Help,
+    Version,
+    // The argument at this place is wrong.
+    Refuse(usize),
+}
+
 // What the arguments ask for.
 #[derive(Clone, Copy)]
 struct Asked {
-    // Word to list a frame, Help or Version, or Unknown for an argument that is wrong: the first of them counts.
-    what: Argument,
-    // The place of the file's name, or of the wrong argument; 0 where there is none.
-    at: usize,
+    // The first of them that asks for something else than to list a frame counts.
+    task: Task,
     // Whether the status is asked for.
     status: bool,
     // Whether -- has come.
@@ -27,40 +37,39 @@ struct Asked {
 
 impl Asked {
     // The same, asking for this.
-    fn asks(mut self, what: Argument, at: usize) -> Asked {
-        if self.what == Argument::Word {
-            self.what = what;
-            self.at = at;
+    fn asks(self, task: Task) -> Asked {
+        match self.task {
+            Task::List(_) => Asked { task, ..self },
+            _ => self,
         }
-        self
     }
 
     // One word more: the file's name, of which there is one.
     fn word(self, at: usize) -> Asked {
-        if self.at == 0 {
-            self.asks(Argument::Word, at)
-        } else {
-            self.asks(Argument::Unknown, at)
+        match self.task {
+            Task::List(None) => self.asks(Task::List(Some(at))),
+            _ => self.asks(Task::Refuse(at)),
         }
     }
 
     // One argument more, which is this option or a word.
-    fn with(mut self, argument: Argument, at: usize) -> Asked {
+    fn with(self, argument: Argument, at: usize) -> Asked {
         if self.ended {
             return self.word(at);
         }
         match argument {
             Argument::Word => self.word(at),
-            Argument::Status => {
-                self.status = true;
-                self
+            Argument::Status => Asked {
+                status: true,
+                ..self
             },
-            Argument::End => {
-                self.ended = true;
-                self
+            Argument::End => Asked {
+                ended: true,
+                ..self
             },
-            Argument::Help | Argument::Version => self.asks(argument, 0),
-            _ => self.asks(Argument::Unknown, at),
+            Argument::Help => self.asks(Task::Help),
+            Argument::Version => self.asks(Task::Version),
+            _ => self.asks(Task::Refuse(at)),
         }
     }
 }
@@ -68,8 +77,7 @@ impl Asked {
 // What all arguments ask for.
 fn arguments(rt: &HostRuntime) -> Asked {
     let mut asked = Asked {
-        what: Argument::Word,
-        at: 0,
+        task: Task::List(None),
         status: false,
         ended: false,
     };
@@ -168,18 +176,14 @@ fn help(rt: &HostRuntime) -> Result<(), Unwritten> {
     )
 }
 
-// Does what is asked, and answers the status.
-fn run(rt: &HostRuntime, asked: Asked) -> Result<Status, Unwritten> {
-    match asked.what {
-        Argument::Help => help(rt)?,
-        Argument::Version => outside::print_version(rt, &NAME)?,
-        Argument::Unknown => return Ok(refuse(rt, asked.at)),
-        _ => {
-            if asked.at == 0 {
-                return list_open(rt, &mut rt.stdin(), b"standard input");
-            }
-            return list_file(rt, asked.at);
-        },
+// Does what is to be done, and answers the status.
+fn run(rt: &HostRuntime, task: Task) -> Result<Status, Unwritten> {
+    match task {
+        Task::List(Some(i)) => return list_file(rt, i),
+        Task::List(None) => return list_open(rt, &mut rt.stdin(), b"standard input"),
+        Task::Refuse(i) => return Ok(refuse(rt, i)),
+        Task::Help => help(rt)?,
+        Task::Version => outside::print_version(rt, &NAME)?,
     }
     Ok(Status::Good)
 }
@@ -187,7 +191,7 @@ fn run(rt: &HostRuntime, asked: Asked) -> Result<Status, Unwritten> {
 // Does as the arguments say.
 fn main(rt: HostRuntime) {
     let asked = arguments(&rt);
-    let status = run(&rt, asked).unwrap_or(Status::Wrong);
+    let status = run(&rt, asked.task).unwrap_or(Status::Wrong);
     if asked.status {
         outside::tell_status(status.digit());
     }

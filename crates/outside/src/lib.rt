@@ -146,6 +146,7 @@ pub fn complain(rt: &HostRuntime, text: &[u8]) {
 }
 
 // A text that is put together.
+// Stays: a room with a count beside it, since there is no heap for a String; ascii's Text lends its room, and this one has to own it.
 #[derive(Drop)]
 struct Words {
     text: [u8; 256],

@@ -1,6 +1,7 @@
 -- What the receiver's functions promise. A call is an equation over state, line, lump, count and frame room; theorem `any-cut` says what calls one
 -- after the other give.
-use Rattle.std.specs.Prelude.{◌≡◌, Bool, cond, ◌&&◌, List, [], ◌∷◌, ◌++◌, ℕ, zero, suc, ◌+◌, ◌-◌, ◌*◌, leb, ltb, length, drop, Option, None, Some, Result, Ok, Err}
+use Rattle.std.specs.Prelude.{◌≡◌, Bool, cond, ◌&&◌, List, [], ◌∷◌, ◌++◌, ℕ, zero, suc, ◌+◌, ◌-◌, ◌*◌, leb, ltb, length, drop}
+use Rattle.std.specs.Prelude.{Option, None, Some, Result, Ok, Err}
 use Rattle.answer.specs.Answer.{Refusal, refuse, wrong_length, answer, held}
 use Rattle.answer.specs.Given.{number_of}
 use Rattle.answer.specs.declared.Refused.{Refused}

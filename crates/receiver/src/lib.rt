@@ -110,47 +110,62 @@ fn next_sync(s: &[u8], p: usize, stop: usize) -> usize
     stop
 }
 
-// The frame at a place, descrambled with the 23 bits before it as state. Nothing of it is refused.
-fn descrambled(end: u32, s: &[u8], at: usize, plain: &mut [u8])
-    requires { (end ≤ 1) × (23 ≤ at) × (at + 4227 ≤ 8 * length s.now) × (length plain.old ≡ 529) }
-    ensures { plain.new ≡ frame_at end (bits_of s.now) at }
-{
-    let mut heard = [0u8; layout::FRAME_OCTETS];
-    octets::copy(&mut heard, 0, s, at, FRAME_BITS as u32);
-    let before = bitfields::field(s, at - REACH, recurrence::REACH);
-    let state = bitfields::turned(recurrence::REACH, before);
-    let _ = Scrambler { end, state }.descramble_frame(&heard, plain);
+// What is searched: the end whose bits were heard, and the bits kept with those of a lump behind them.
+#[derive(Clone, Copy)]
+struct Heard<'a> {
+    end: u32,
+    octets: &'a [u8],
+    ghost known: { end ≤ 1 },
 }
 
-// Whether the frame at a place reads with answer 0; then it goes to the frame room.
-fn taken(end: u32, s: &[u8], at: usize, frame: &mut [u8]) -> bool
-    requires { (end ≤ 1) × (23 ≤ at) × (at + 4227 ≤ 8 * length s.now) × (length frame.old ≡ 529) }
-    ensures { (result ≡ reads end (bits_of s.now) at)
-        × (frame.new ≡ cond result (frame_at end (bits_of s.now) at) frame.old) }
-{
-    let mut plain = [0u8; layout::FRAME_OCTETS];
-    descrambled(end, s, at, &mut plain);
-    if checker::check(&plain).is_err() {
-        return false;
+impl<'a> Heard<'a> {
+    // The frame at a place, descrambled with the 23 bits before it as state. Nothing of it is refused.
+    fn descrambled(self, at: usize, plain: &mut [u8])
+        requires { (23 ≤ at) × (at + 4227 ≤ 8 * length self.octets.now) × (length plain.old ≡ 529) }
+        ensures { plain.new ≡ frame_at self.entry.end (bits_of self.entry.octets.now) at }
+    {
+        let mut heard = [0u8; layout::FRAME_OCTETS];
+        octets::copy(&mut heard, 0, self.octets, at, FRAME_BITS as u32);
+        let before = bitfields::field(self.octets, at - REACH, recurrence::REACH);
+        let state = bitfields::turned(recurrence::REACH, before);
+        let scrambler = Scrambler {
+            end: self.end,
+            state,
+        };
+        let _ = scrambler.descramble_frame(&heard, plain);
     }
-    octets::copy(frame, 0, &plain, 0, 8 * layout::FRAME_OCTETS as u32);
-    true
-}
 
-// The first place from `start` on to before `stop` where a frame lies, which goes to the frame room; or `stop`.
-fn first(end: u32, s: &[u8], start: usize, stop: usize, frame: &mut [u8]) -> usize
-    requires { (end ≤ 1) × (23 ≤ start) × (start ≤ stop) × (stop + 4226 ≤ 8 * length s.now) × (length frame.old ≡ 529) }
-    ensures { (result ≡ first_that (lies_at end (bits_of s.now)) start (stop - start))
-        × (frame.new ≡ cond (ltb result stop) (frame_at end (bits_of s.now) result) frame.old) }
-{
-    let mut at = next_sync(s, start, stop);
-    while at < stop {
-        if taken(end, s, at, frame) {
-            return at;
+    // Whether the frame at a place reads with answer 0; then it goes to the frame room.
+    fn taken(self, at: usize, frame: &mut [u8]) -> bool
+        requires { (23 ≤ at) × (at + 4227 ≤ 8 * length self.octets.now) × (length frame.old ≡ 529) }
+        ensures { (result ≡ reads self.entry.end (bits_of self.entry.octets.now) at)
+            × (frame.new ≡ cond result (frame_at self.entry.end (bits_of self.entry.octets.now) at) frame.old) }
+    {
+        let mut plain = [0u8; layout::FRAME_OCTETS];
+        self.descrambled(at, &mut plain);
+        if checker::check(&plain).is_err() {
+            return false;
         }
-        at = next_sync(s, at + 1, stop);
+        octets::copy(frame, 0, &plain, 0, 8 * layout::FRAME_OCTETS as u32);
+        true
     }
-    stop
+
+    // The first place from `start` on to before `stop` where a frame lies, which goes to the frame room; or `stop`.
+    fn first(self, start: usize, stop: usize, frame: &mut [u8]) -> usize
+        requires { (23 ≤ start) × (start ≤ stop) × (stop + 4226 ≤ 8 * length self.octets.now) × (length frame.old ≡ 529) }
+        ensures { (result ≡ first_that (lies_at self.entry.end (bits_of self.entry.octets.now)) start (stop - start))
+            × (frame.new ≡ cond (ltb result stop) (frame_at self.entry.end (bits_of self.entry.octets.now) result) frame.old) }
+    {
+        let mut at = next_sync(self.octets, start, stop);
+        // Stays: a search gives where to go on, so there is nothing to count.
+        while at < stop {
+            if self.taken(at, frame) {
+                return at;
+            }
+            at = next_sync(self.octets, at + 1, stop);
+        }
+        stop
+    }
 }
 
 // The bits kept, and behind them the lump's.
@@ -252,7 +267,11 @@ impl Receiver {
         join(&mut room, line, lump, bits);
         let stop = AHEAD + bits;
         let start = begin(self.heard, self.from, stop);
-        let at = first(self.end, &room, start, stop, frame);
+        let heard = Heard {
+            end: self.end,
+            octets: &room,
+        };
+        let at = heard.first(start, stop, frame);
         octets::copy(line, 0, &room, bits, KEPT as u32);
         Ok(self.received(at, bits))
     }

@@ -7,12 +7,12 @@ use native.Mathlib.Omega.{arith}
 use lib.Dec.{lit<}
 use lib.IntN.{ℤ, pos, negsuc, neg_ℤ, nat_abs, ◌+ℤ◌, ◌-ℤ◌, ◌*ℤ◌}
 use Rattle.std.specs.Int.{int_div_euclid, int_rem_euclid}
-use lib.Signed.{shr_z, le_z, lt_z}
+use lib.Signed.{shr_z, lt_z}
 use mir.Syntax.{w32, w64}
 use mir.Val.{SFits}
 use Rattle.samples.specs.Samples.{one, is_signal, Rounds, Folds}
 use Rattle.samples.proofs.Linear.{P, N, P_pos, N-pos, P-negsuc, N-negsuc, le-to, lt-to, le_of, lt_of, eq_of, add-bal, sub_is, neg-P, neg-N}
-use Rattle.samples.proofs.Linear.{mul-P, mul-N, abs_is, P-mag, N-mag, mag_of, division, floor, le-true, lt-true, lt-false}
+use Rattle.samples.proofs.Linear.{mul-P, mul-N, abs_is, P-mag, N-mag, mag_of, division, floor, lt-true, lt-false}
 use Rattle.ranges.proofs.Laws.{range-mag, mag-range}
 
 -- rounding and folding, computed. The rounded number is the floor of s/131,072 + 1/2; the library's `shr_z z n` is the floor of z/n
@@ -35,32 +35,6 @@ signal-of z p q = mag-range 131071 z (le_of_suc-le-suc (mag_of z 131072 (omega a
 -- a number below 2^63 in size fits
 pub abs-fits : (z : ℤ) → nat_abs z < 9223372036854775808 → SFits w64 z
 abs-fits z h = record { sfits = mag_of z 9223372036854775808 (omega (arith, abs_is z)) (omega (arith, abs_is z)) }
-
--- with half a step or more left over, the number after the floor is nearest
-module _ (s : ℤ) where
-  abbrev floor_of : ℤ
-  floor_of = int_div_euclid s (pos 131072)
-
-  abbrev rest : ℤ
-  rest = int_rem_euclid s (pos 131072)
-
-  pub rounds-up : le_z (pos 65536) rest ≡ true → Rounds s (floor_of +ℤ pos 1)
-  rounds-up e =
-      let d = division 131072 (lit< tt) s in
-      let h = le-true (pos 65536) rest e in
-      let v = floor_of +ℤ pos 1 in
-      record {
-        low = le_of _ _ (omega (arith, d, h, add-bal floor_of (pos 1), P_pos 1, N-pos 1, P_pos 65536, N-pos 65536, sub_is (pos 131072 *ℤ v) (pos 65536), mul-P 131072 v, mul-N 131072 v));
-        high = lt_of _ _ (omega (arith, d, h, add-bal floor_of (pos 1), P_pos 1, N-pos 1, P_pos 65536, N-pos 65536, add-bal (pos 131072 *ℤ v) (pos 65536), mul-P 131072 v, mul-N 131072 v));
-      }
-
-  pub next-fits : SFits w64 s → SFits w64 (floor_of +ℤ pos 1)
-  next-fits f =
-      let d = division 131072 (lit< tt) s in
-      record {
-        sfits = mag_of (floor_of +ℤ pos 1) 9223372036854775808
-            (omega (arith, d, add-bal floor_of (pos 1), P_pos 1, N-pos 1, f.sfits, P-mag s, N-mag s)) (omega (arith, d, add-bal floor_of (pos 1), P_pos 1, N-pos 1, f.sfits, P-mag s, N-mag s));
-      }
 
 -- one number lies within half a step
 pub rounds-unique : (s v w : ℤ) → Rounds s v → Rounds s w → v ≡ w

@@ -21,7 +21,7 @@ use Rattle.recurrence.specs.Promises as OnLine
 use Rattle.recurrence.proofs.Answers.{run-complete, run-given}
 use Rattle.recurrence.proofs.Laws.{run_length, run-bits}
 use Rattle.scrambler.specs.Ends.{tap_of}
-use Rattle.scrambler.specs.Promises.{step_refusals, run_refusals, frame_refusals, clocked, frame_out, ClockedPromise, FramePromise}
+use Rattle.scrambler.specs.Promises.{run_refusals, frame_refusals, clocked, frame_out, ClockedPromise, FramePromise}
 use Rattle.scrambler.specs.declared.Scrambler.{Scrambler}
 
 pub tap-range : (end : ℕ) → (1 ≤ tap_of end) × (tap_of end ≤ 23)
@@ -40,16 +40,6 @@ room-short l bits h = lt-ltb (8 * l) bits (omega arith)
 pub room-enough : (l bits : ℕ) → bits / 8 + (bits % 8 + 7) / 8 ≤ l → ltb (8 * l) bits ≡ false
 room-enough l bits h = le-ltb (8 * l) bits (omega arith)
 
--- ---- a step
-
--- the taps of the ends are on the line
-pub on-the-line : (x : Scrambler) (bit : ℕ) → answer (OnLine.step_refusals (tap_of x.end) x.state bit) ≡ answer (drop 1 (step_refusals x bit))
-on-the-line x bit = pick (eqb x.end 0)
-  where
-    pick : (t : Bool) → answer (OnLine.step_refusals (cond t 5 18) x.state bit) ≡ answer (drop 1 (step_refusals x bit))
-    pick true = refl
-    pick false = refl
-
 -- ---- a run
 
 module _ (x : Scrambler) (input : List ℕ) (bits : ℕ) (output : List ℕ) where
@@ -61,17 +51,6 @@ module _ (x : Scrambler) (input : List ℕ) (bits : ℕ) (output : List ℕ) whe
       let two = none 1 (ltb 1 x.end) (drop 3 R) same.1 in
       let four = none 3 _ (drop 4 R) two.1 in
       (ltb-false _ _ one.0, leb-false _ _ four.0)
-
-  -- a run on the line, from the first bit on
-  pub run-taken : (way : Way) (tap : ℕ) (r : Result ℕ Refused) (s : List ℕ) → tap ≡ tap_of x.end → OnLine.RunPromise way tap x.state input 0 bits output r s
-      → answer (run_refusals x input bits output) ≡ 0
-      → (r ≡ Ok (after_of way (tap_of x.end) x.state (part 0 bits (bits_of input))))
-      × (s ≡ laid output 0 (run_of way (tap_of x.end) x.state (part 0 bits (bits_of input))))
-  run-taken way tap r s e p z =
-      let w = run_sound z in
-      let q = subst (λ (n : ℕ). OnLine.RunPromise way n x.state input 0 bits output r s) e p in
-      let c = run-complete (tap_of x.end) x.state input 0 bits (tap-range x.end).0 (tap-range x.end).1 w.1 (omega (arith, w.0)) in
-      run-given (tap_of x.end) x.state input 0 bits way output s c r q
 
 -- a result gives one value
 ok-one : (m n : ℕ) (r : Result ℕ Refused) → r ≡ Ok m → r ≡ Ok n → m ≡ n

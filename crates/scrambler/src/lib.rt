@@ -42,6 +42,7 @@ pub fn tap(end: u32) -> u32
 
 impl Scrambler {
     // The two ends, and the tap and the starting state of each.
+    // Stays: numbers, constants of the type as SCOPE names the form; an end that is neither is answered 2 (`unknown_end`).
     pub const LTU: u32 = 0;
 
     pub const LTU_TAP: u32 = 5;

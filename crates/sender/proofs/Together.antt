@@ -2,9 +2,9 @@
 use mathlib.Core.Path.{◌≡◌, refl, sym, ap, ◌∙◌}
 use mathlib.Core.Bool.{Bool, true, false, cond, not, ◌&&◌, ◌||◌}
 use mathlib.Core.List.{[], ◌∷◌}
-use Prim.Native.Nat.{ℕ, zero, suc, ◌≤◌, ◌<◌}
+use Prim.Native.Nat.{ℕ, zero, suc}
 use native.Mathlib.Omega.{arith}
-use borrow.Author.Tests.{lt-ltb, le-ltb}
+use borrow.Author.Tests.{le-ltb}
 use lib.Dec.{eqb, ltb, leb}
 use lib.ListN.{length, take}
 use Rattle.answer.specs.Answer.{refuse, answer}
@@ -22,21 +22,6 @@ pub least-one : (n : ℕ) → 1 ≡ least_of 1 n
 least-one zero = refl
 least-one (suc zero) = refl
 least-one (suc (suc n)) = sym (ap (λ (t : Bool). cond t (suc (suc n)) 1) (le-ltb (suc (suc n)) 1 (omega arith)))
-
--- the least of two that are not 0
-pub least_first : (m n : ℕ) → (m ≡ 0 → ⊥) → n ≡ 0 → m ≡ least_of m n
-least_first zero n h e = absurd (h refl)
-least_first (suc m) n h e = ap (least_of (suc m)) (sym e)
-
-pub least-less : (m n : ℕ) → (m ≡ 0 → ⊥) → (n ≡ 0 → ⊥) → n < m → n ≡ least_of m n
-least-less zero n h k l = absurd (h refl)
-least-less (suc m) zero h k l = absurd (k refl)
-least-less (suc m) (suc n) h k l = sym (ap (λ (t : Bool). cond t (suc n) (suc m)) (lt-ltb (suc n) (suc m) l))
-
-pub least_more : (m n : ℕ) → (m ≡ 0 → ⊥) → (n ≡ 0 → ⊥) → m ≤ n → m ≡ least_of m n
-least_more zero n h k l = absurd (h refl)
-least_more (suc m) zero h k l = absurd (k refl)
-least_more (suc m) (suc n) h k l = sym (ap (λ (t : Bool). cond t (suc n) (suc m)) (le-ltb (suc n) (suc m) l))
 
 -- the checks of each: a b c the lengths (c of the room), d the kind, e the end, f the count, g h the fields' ranges, i the state, p the pad
 abbrev sending : Bool → Bool → Bool → Bool → Bool → Bool → Bool → Bool → Bool → ℕ

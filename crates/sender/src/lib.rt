@@ -18,24 +18,16 @@ use answer::Refused;
 use recurrence::Way;
 use scrambler::Scrambler;
 
-// All coefficients' fields, behind sync: those behind the first `count` are zero.
-fn put_coefficients(frame: &mut [u8], coefficients: &[i32], count: usize)
-    requires { (length coefficients.now ≡ coefficient_count) × (count ≤ coefficient_count) }
-    ensures { frame.new ≡ laid frame.old (place_of coefficients_field) (coefficient_bits (used count coefficients.now)) }
-{
-    bitfields::put_signed_fields(
-        frame,
-        layout::COEFFICIENTS_AT,
-        layout::COEFFICIENT_BITS,
-        &coefficients[0..count],
-        count as u32,
-    );
-    let bits = layout::COEFFICIENT_STEP * count;
-    octets::clear(
-        frame,
-        layout::COEFFICIENTS_AT + bits,
-        layout::ALL_COEFFICIENT_BITS - bits as u32,
-    );
+// What a frame carries; its coefficients and vendor data are as many as there have to be.
+#[derive(Clone, Copy)]
+struct Fields<'a> {
+    count: u32,
+    coefficients: &'a [i32],
+    a: u32,
+    b: u32,
+    vendor: &'a [u8],
+    ghost all: { length coefficients.now ≡ coefficient_count },
+    ghost whole: { length vendor.now ≡ vendor_length },
 }
 
 // A or B: its first bit, a0 or b0, stands first and weighs least.
@@ -45,54 +37,90 @@ fn put_word(frame: &mut [u8], at: usize, word: u32)
     bitfields::put_field(frame, at, layout::WORD_BITS, word);
 }
 
-// Behind sync and coefficients, which stand already: A, B, vendor data, reserved, check bits, pad.
-fn finish(frame: &mut [u8], a: u32, b: u32, vendor: &[u8])
-    requires { (length frame.old ≡ frame_length) × (length vendor.now ≡ vendor_length) }
-    ensures { frame.new ≡ octets_of frame_length
-        (frame_bits (field_of sync_field (bits_of frame.old))
-        (field_of coefficients_field (bits_of frame.old) ++ behind a b vendor.now (replicate reserved_width 0))) }
-{
-    put_word(frame, layout::A_AT, a);
-    put_word(frame, layout::B_AT, b);
-    octets::copy(frame, layout::VENDOR_AT, vendor, 0, layout::VENDOR_BITS);
-    octets::clear(frame, layout::RESERVED_AT, layout::RESERVED_BITS);
-    let r = remainder::check_bits(frame, layout::COEFFICIENTS_AT, layout::MESSAGE_BITS);
-    let c = bitfields::turned(layout::CHECK_BITS, r);
-    bitfields::put_field(frame, layout::CHECK_AT, layout::CHECK_BITS, c);
-    octets::clear(frame, layout::PAD_AT, layout::PAD_BITS);
-}
+impl<'a> Fields<'a> {
+    // All coefficients' fields, behind sync: those behind the first `count` are zero.
+    fn put_coefficients(self, frame: &mut [u8])
+        requires { self.count ≤ coefficient_count }
+        ensures { frame.new ≡ laid frame.old (place_of coefficients_field) (coefficient_bits (used self.entry.count self.entry.coefficients.now)) }
+    {
+        let count = self.count as usize;
+        bitfields::put_signed_fields(
+            frame,
+            layout::COEFFICIENTS_AT,
+            layout::COEFFICIENT_BITS,
+            &self.coefficients[0..count],
+            self.count,
+        );
+        let bits = layout::COEFFICIENT_STEP * count;
+        octets::clear(
+            frame,
+            layout::COEFFICIENTS_AT + bits,
+            layout::ALL_COEFFICIENT_BITS - bits as u32,
+        );
+    }
 
-// A training frame.
-fn put_training(frame: &mut [u8], coefficients: &[i32], count: usize, a: u32, b: u32, vendor: &[u8])
-    requires { (length frame.old ≡ frame_length) × (length coefficients.now ≡ coefficient_count) × (count ≤ coefficient_count)
-        × (length vendor.now ≡ vendor_length) }
-    ensures { frame.new ≡ octets_of frame_length (training_bits count coefficients.now a b vendor.now) }
-{
-    bitfields::put_field(frame, 0, layout::SYNC_BITS, layout::TRAINING_SYNC);
-    put_coefficients(frame, coefficients, count);
-    finish(frame, a, b, vendor);
-}
+    // Behind sync and coefficients, which stand already: A, B, vendor data, reserved, check bits, pad.
+    fn finish(self, frame: &mut [u8])
+        requires { length frame.old ≡ frame_length }
+        ensures { frame.new ≡ octets_of frame_length
+            (frame_bits (field_of sync_field (bits_of frame.old))
+            (field_of coefficients_field (bits_of frame.old)
+            ++ behind self.entry.a self.entry.b self.entry.vendor.now (replicate reserved_width 0))) }
+    {
+        put_word(frame, layout::A_AT, self.a);
+        put_word(frame, layout::B_AT, self.b);
+        octets::copy(
+            frame,
+            layout::VENDOR_AT,
+            self.vendor,
+            0,
+            layout::VENDOR_BITS,
+        );
+        octets::clear(frame, layout::RESERVED_AT, layout::RESERVED_BITS);
+        let r = remainder::check_bits(frame, layout::COEFFICIENTS_AT, layout::MESSAGE_BITS);
+        let c = bitfields::turned(layout::CHECK_BITS, r);
+        bitfields::put_field(frame, layout::CHECK_AT, layout::CHECK_BITS, c);
+        octets::clear(frame, layout::PAD_AT, layout::PAD_BITS);
+    }
 
-// A final frame: zeros where a training frame has its coefficients.
-fn put_final(frame: &mut [u8], vendor: &[u8])
-    requires { (length frame.old ≡ frame_length) × (length vendor.now ≡ vendor_length) }
-    ensures { frame.new ≡ octets_of frame_length (final_bits vendor.now) }
-{
-    bitfields::put_field(frame, 0, layout::SYNC_BITS, layout::FINAL_SYNC);
-    octets::clear(frame, layout::COEFFICIENTS_AT, layout::ALL_COEFFICIENT_BITS);
-    finish(frame, 0, 0, vendor);
-}
+    // A training frame.
+    fn put_training(self, frame: &mut [u8])
+        requires { (length frame.old ≡ frame_length) × (self.count ≤ coefficient_count) }
+        ensures { frame.new ≡ octets_of frame_length
+            (training_bits self.entry.count self.entry.coefficients.now self.entry.a self.entry.b self.entry.vendor.now) }
+    {
+        bitfields::put_field(frame, 0, layout::SYNC_BITS, layout::TRAINING_SYNC);
+        self.put_coefficients(frame);
+        self.finish(frame);
+    }
 
-// The frame of these fields, of a kind that is known. A final one looks at vendor data only.
-fn put(plain: &mut [u8], kind: u32, count: u32, coefficients: &[i32], a: u32, b: u32, vendor: &[u8])
-    requires { (length plain.old ≡ frame_length) × (length coefficients.now ≡ coefficient_count) × (kind ≡ 0 → count ≤ coefficient_count)
-        × (length vendor.now ≡ vendor_length) }
-    ensures { plain.new ≡ frame_octets kind count coefficients.now a b vendor.now }
-{
-    if kind == layout::TRAINING {
-        put_training(plain, coefficients, count as usize, a, b, vendor);
-    } else {
-        put_final(plain, vendor);
+    // A final frame: zeros where a training frame has its coefficients, A and B.
+    fn put_final(self, frame: &mut [u8])
+        requires { length frame.old ≡ frame_length }
+        ensures { frame.new ≡ octets_of frame_length (final_bits self.entry.vendor.now) }
+    {
+        bitfields::put_field(frame, 0, layout::SYNC_BITS, layout::FINAL_SYNC);
+        octets::clear(frame, layout::COEFFICIENTS_AT, layout::ALL_COEFFICIENT_BITS);
+        let none = Fields {
+            count: 0,
+            coefficients: self.coefficients,
+            a: 0,
+            b: 0,
+            vendor: self.vendor,
+        };
+        none.finish(frame);
+    }
+
+    // The frame of these fields, of a kind that is known. A final one looks at vendor data only.
+    fn put(self, plain: &mut [u8], kind: u32)
+        requires { (length plain.old ≡ frame_length) × (kind ≡ 0 → self.count ≤ coefficient_count) }
+        ensures { plain.new ≡ frame_octets kind self.entry.count self.entry.coefficients.now self.entry.a self.entry.b self.entry.vendor.now }
+    {
+        if kind == layout::TRAINING {
+            self.put_training(plain);
+        } else {
+            self.put_final(plain);
+        }
     }
 }
 
@@ -143,32 +171,36 @@ fn state_allowed(x: Scrambler) -> Result<(), Refused>
     Ok(())
 }
 
-// Why a frame's numbers are refused: the count, from the fewest on, the coefficients in use, A and B.
-fn fields_allowed(
-    fewest: u32,
-    count: u32,
-    coefficients: &[i32],
-    a: u32,
-    b: u32,
-) -> Result<(), Refused>
-    requires { length coefficients.now ≡ coefficient_count }
-    ensures { answer_of result ≡ answer (field_refusals fewest count coefficients.now a b) }
-{
-    let n = count as usize;
-    if count < fewest || layout::COEFFICIENTS < n {
-        return Err(Refused::Count);
+impl<'a> Fields<'a> {
+    // Why a frame's numbers are refused: the count, from the fewest on, the coefficients in use, A and B.
+    fn fields_allowed(self, fewest: u32) -> Result<(), Refused>
+        ensures { answer_of result ≡ answer (field_refusals fewest self.entry.count self.entry.coefficients.now self.entry.a self.entry.b) }
+    {
+        let n = self.count as usize;
+        if self.count < fewest || layout::COEFFICIENTS < n {
+            return Err(Refused::Count);
+        }
+        if !ranges::all_in_range(
+            &self.coefficients[..n],
+            ranges::LOWEST_COEFFICIENT,
+            ranges::HIGHEST_COEFFICIENT,
+        ) {
+            return Err(Refused::Range);
+        }
+        if ranges::HIGHEST_WORD < self.a || ranges::HIGHEST_WORD < self.b {
+            return Err(Refused::Range);
+        }
+        Ok(())
     }
-    if !ranges::all_in_range(
-        &coefficients[..n],
-        ranges::LOWEST_COEFFICIENT,
-        ranges::HIGHEST_COEFFICIENT,
-    ) {
-        return Err(Refused::Range);
+
+    // Why the numbers are refused, in number order.
+    fn numbers_allowed(self, x: Scrambler, fewest: u32) -> Result<(), Refused>
+        ensures { answer_of result ≡ answer (number_refusals x fewest self.entry.count self.entry.coefficients.now self.entry.a self.entry.b) }
+    {
+        end_allowed(x)?;
+        self.fields_allowed(fewest)?;
+        state_allowed(x)
     }
-    if ranges::HIGHEST_WORD < a || ranges::HIGHEST_WORD < b {
-        return Err(Refused::Range);
-    }
-    Ok(())
 }
 
 // Whether what is lent has the right lengths.
@@ -179,23 +211,6 @@ fn whole(coefficients: &[i32], vendor: &[u8], frame: &[u8]) -> bool
     coefficients.len() == layout::COEFFICIENTS
         && vendor.len() == layout::VENDOR_OCTETS
         && frame.len() == layout::FRAME_OCTETS
-}
-
-// Why the numbers are refused, in number order.
-fn numbers_allowed(
-    x: Scrambler,
-    fewest: u32,
-    count: u32,
-    coefficients: &[i32],
-    a: u32,
-    b: u32,
-) -> Result<(), Refused>
-    requires { length coefficients.now ≡ coefficient_count }
-    ensures { answer_of result ≡ answer (number_refusals x fewest count coefficients.now a b) }
-{
-    end_allowed(x)?;
-    fields_allowed(fewest, count, coefficients, a, b)?;
-    state_allowed(x)
 }
 
 // Why sending is refused: what writing refuses and what scrambling refuses, in number order. Of a final frame no coefficient is in use, and A and B
@@ -215,9 +230,23 @@ fn allowed(
     if !whole(coefficients, vendor, frame) {
         return Err(Refused::Length);
     }
+    let fields = Fields {
+        count,
+        coefficients,
+        a,
+        b,
+        vendor,
+    };
+    let none = Fields {
+        count: 0,
+        coefficients,
+        a: 0,
+        b: 0,
+        vendor,
+    };
     match kind {
-        layout::TRAINING => numbers_allowed(x, layout::FEWEST, count, coefficients, a, b),
-        layout::FINAL => numbers_allowed(x, 0, 0, coefficients, 0, 0),
+        layout::TRAINING => fields.numbers_allowed(x, layout::FEWEST),
+        layout::FINAL => none.numbers_allowed(x, 0),
         _ => Err(Refused::Unknown),
     }
 }
@@ -237,6 +266,13 @@ pub fn send(
 {
     allowed(x, kind, count, coefficients, a, b, vendor, frame)?;
     let mut plain = [0u8; layout::FRAME_OCTETS];
-    put(&mut plain, kind, count, coefficients, a, b, vendor);
+    let fields = Fields {
+        count,
+        coefficients,
+        a,
+        b,
+        vendor,
+    };
+    fields.put(&mut plain, kind);
     scrambled(x, &plain, frame)
 }

@@ -53,6 +53,7 @@ struct Legal {
 
 impl Supervisor {
     // The end at the exchange.
+    // Stays: numbers, constants of the type as SCOPE names the form; an end that is neither is answered 2 (`start_refusals`).
     pub const LTU: u32 = 0;
     // The end at the customer.
     pub const NTU: u32 = 1;

@@ -10,10 +10,10 @@ use Rattle.eoclisting.proofs.string_length.Goals.{then-octet-ne32, else-octet-ne
 pub loop-k-init : goal.loop-k-init
 loop-k-init c = length-first _
 
-pub returns-then-octet-eq0 : goal.returns-then-octet-eq0
-returns-then-octet-eq0 c =
+pub returns-then-octet-eq-END : goal.returns-then-octet-eq-END
+returns-then-octet-eq-END c =
     let l = c.loop-k in
-    sym (length-stop c.args.field.now l.last l.k c.loop-k-test.true c.if-octet-eq0.true) ∙ l.invariant
+    sym (length-stop c.args.field.now l.last l.k c.loop-k-test.true c.if-octet-eq-END.true) ∙ l.invariant
 
 pub loop-k-preserved : goal.loop-k-preserved
 loop-k-preserved c =
@@ -22,9 +22,9 @@ loop-k-preserved c =
     let from = λ (n : ℕ). length_from n (l.k + 1) (string_length (drop (l.k + 1) s)) ≡ string_length s in
     elim c.if-octet-ne32.branch [
       | then-octet-ne32 w ↦
-          subst from (sym w.last-is) (length_over s l.last l.k c.loop-k-test.true c.if-octet-eq0.false w.if-octet-ne32.true ∙ l.invariant)
+          subst from (sym w.last-is) (length_over s l.last l.k c.loop-k-test.true c.if-octet-eq-END.false w.if-octet-ne32.true ∙ l.invariant)
       | else-octet-ne32 w ↦
-          subst from (sym w.last-is) (length-blank s l.last l.k c.loop-k-test.true c.if-octet-eq0.false w.if-octet-ne32.false ∙ l.invariant)
+          subst from (sym w.last-is) (length-blank s l.last l.k c.loop-k-test.true c.if-octet-eq-END.false w.if-octet-ne32.false ∙ l.invariant)
     ]
 
 pub returns : goal.returns

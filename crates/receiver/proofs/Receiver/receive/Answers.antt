@@ -28,7 +28,6 @@ first-at-requires c =
     let none = sym c.allowed.ensures ∙ ap answer_of c.in_ok-allowed.was in
     let w = call-sound a.self a.line.now a.lump.now a.bits a.frame.now none in
     let e = c.begin-start.ensures in (
-      w.3,
       omega (arith, e),
       omega (arith, e),
       omega (arith, w.4, room-length a.self a.line.now a.lump.now a.bits a.frame.now c.join.new.room none c.join.ensures),

@@ -1,6 +1,6 @@
--- `sender::finish` meets its contract: six stores, each behind the one before.
+-- `sender::Fields::finish` meets its contract: six stores, each behind the one before.
 use Rattle.sender.proofs.Laws.{four, finished}
-use Rattle.sender.proofs.finish.Goals as goal
+use Rattle.sender.proofs.Fields.finish.Goals as goal
 
 pub returns : goal.returns
 returns c =
@@ -14,7 +14,7 @@ returns c =
     let t = c.turned-c in
     let s₅ = c.put_field in
     let s₆ = c.clear-2 in
-    finished a.frame.now a.vendor.now a.a a.b p.0 p.1 s₄.new.s s₅.new.s s₆.new.s r.result t.result
-    (four a.frame.now a.vendor.now a.a a.b p.0 p.1 s₁.new.frame s₂.new.frame s₃.new.s s₄.new.s
+    finished a.frame.now a.self.vendor.now a.self.a a.self.b p a.self.whole s₄.new.s s₅.new.s s₆.new.s r.result t.result
+    (four a.frame.now a.self.vendor.now a.self.a a.self.b p a.self.whole s₁.new.frame s₂.new.frame s₃.new.s s₄.new.s
     s₁.ensures s₂.ensures s₃.ensures s₄.ensures)
     r.ensures t.ensures s₅.ensures s₆.ensures

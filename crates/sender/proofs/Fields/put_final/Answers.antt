@@ -1,6 +1,6 @@
--- `sender::put_final` meets its contract.
+-- `sender::Fields::put_final` meets its contract.
 use Rattle.sender.proofs.Laws.{final-put}
-use Rattle.sender.proofs.put_final.Goals as goal
+use Rattle.sender.proofs.Fields.put_final.Goals as goal
 
 pub returns : goal.returns
 returns c =
@@ -8,6 +8,6 @@ returns c =
     let s₁ = c.put_field in
     let s₂ = c.clear in
     let t = c.finish in
-    final-put a.frame.now a.vendor.now
-    c.requires.0 s₁.new.s
+    final-put a.frame.now a.self.vendor.now
+    c.requires s₁.new.s
     s₂.new.s t.new.frame s₁.ensures s₂.ensures t.ensures
