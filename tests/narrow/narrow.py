@@ -103,7 +103,7 @@ def without_contracts(text):
 
 def source(folder):
     for file in sorted(pathlib.Path(folder).rglob("*.rt")):
-        for part in re.split(r"^(?=(?:pub )?fn )", without_contracts(file.read_text()), flags=re.M):
+        for part in re.split(r"^ *(?=(?:pub )?fn )", without_contracts(file.read_text()), flags=re.M):
             function = re.match(r"(?:pub )?fn (\w+)", part)
             for line in part.split("\n"):
                 for _ in re.findall(r"\*|\b\w*mul\w*\(", line):

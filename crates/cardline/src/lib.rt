@@ -121,6 +121,7 @@ fn put_final(text: &mut Text<'_>, vendor: &[u8])
 fn put_cells(text: &mut Text<'_>, v: Verdict)
     ensures { Puts text.old (cells v.answer v) text.new }
 {
+    // Stays: the answer and the kind as numbers, since `line` and `cells` take a verdict with any, and a kind other than 0 is told as a final frame.
     if v.answer != 0 {
         text.word(b"\t-\t-\t-\t-\t-\t-");
     } else if v.kind == layout::TRAINING {

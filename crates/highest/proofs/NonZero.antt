@@ -2,11 +2,12 @@
 use mathlib.Core.Path.{◌≡◌, refl, sym, ap, ◌∙◌}
 use mathlib.Core.Bool.{Bool, true, false, cond, ◌&&◌, true≢false}
 use mathlib.Core.List.{List, [], ◌∷◌}
-use Prim.Native.Nat.{ℕ, zero, suc, ◌≤◌}
+use Prim.Native.Nat.{ℕ, zero, suc, ◌+◌, ◌-◌, ◌≤◌, ◌<◌}
 use native.Mathlib.Omega.{arith}
 use lib.IntN.{ℤ, pos, negsuc}
-use lib.ListN.{get_or}
+use lib.ListN.{length, get_or}
 use Rattle.highest.specs.Highest.{is_zero, all_zero, highest}
+use Rattle.highest.proofs.Laws.{highest-within}
 use Rattle.ranges.proofs.Laws.{both}
 
 is-zero : (c : ℤ) → is_zero c ≡ true → c ≡ pos 0
@@ -57,3 +58,22 @@ highest-not (c ∷ cs) n h z = pick (all_zero (c ∷ cs)) refl n h z (highest-no
     pick true e n h z rest = omega arith
     pick false e zero h z rest = true≢false (sym (zero-first c cs z (none-all cs (omega arith))) ∙ e)
     pick false e (suc n) h z rest = rest n (omega arith) z
+
+-- none is above where all from that place on are zero
+below-all : (cs : List ℤ) (n : ℕ) → ((k : ℕ) → n ≤ k → k < length cs → get_or cs k (pos 0) ≡ pos 0) → highest cs ≤ n
+below-all cs n zeros =
+    let no : (n + 1 ≤ highest cs → ⊥) = λ h.
+    let w = highest-within cs in
+    highest-not cs (highest cs - 1) (omega arith) (zeros (highest cs - 1) (omega arith) (omega arith)) in
+    omega (arith, no)
+
+-- one that is not zero, with none but zeros above, is the highest
+pub highest-at : (cs : List ℤ) (i : ℕ) → (get_or cs i (pos 0) ≡ pos 0 → ⊥) → ((k : ℕ) → i + 1 ≤ k → k < length cs → get_or cs k (pos 0) ≡ pos 0) → i + 1 ≡ highest cs
+highest-at cs i here zeros =
+    let no : (highest cs ≤ i → ⊥) = λ h. here (above_zero cs i h) in
+    let below = below-all cs (i + 1) zeros in
+    omega (arith, no, below)
+
+-- where all are zero there is none
+pub highest-none : (cs : List ℤ) → ((k : ℕ) → k < length cs → get_or cs k (pos 0) ≡ pos 0) → 0 ≡ highest cs
+highest-none cs zeros = let below = below-all cs 0 (λ k h l. zeros k l) in omega (arith, below)

@@ -7,13 +7,8 @@ ghost use Rattle.highest.specs.Promises.{Highest};
 pub fn highest(cs: &[i32]) -> usize
     ensures { Highest cs.now result }
 {
-    let mut n = cs.len();
-    while 0 < n {
-        let i = n - 1;
-        if cs[i] != 0 {
-            return n;
-        }
-        n -= 1;
+    match cs.iter().rposition(|&c| c != 0) {
+        Some(i) => i + 1,
+        None => 0,
     }
-    0
 }

@@ -128,7 +128,7 @@ fn list(rt: &HostRuntime, octets: &[u8]) -> Result<Status, Unwritten> {
 // Lists what is open.
 fn list_open<R: Read>(rt: &HostRuntime, input: &mut R, name: &[u8]) -> Result<Status, Unwritten> {
     let mut octets = [0u8; READ];
-    match outside::fill(input, &mut octets) {
+    match outside::read_full(input, &mut octets) {
         Ok(n) => list(rt, &octets[..n]),
         Err(why) => Ok(unread(rt, name, why)),
     }

@@ -3,12 +3,9 @@ use mathlib.Core.Path.{◌≡◌, refl, sym, ap, ap₂, ◌∙◌}
 use mathlib.Core.Bool.{Bool, true, false, cond}
 use mathlib.Core.List.{List, [], ◌∷◌, ◌++◌, append-nil, append_assoc, reverse}
 use Prim.Native.Nat.{ℕ, zero, suc, ◌+◌, ◌<◌, ◌≤◌}
-use native.Mathlib.Nat.{add-zero}
 use native.Mathlib.Numerals.{add-one}
 use native.Mathlib.Omega.{arith}
-use lib.IntN.{ℤ, pos}
-use lib.ListN.{length, get_or, take}
-use lib.Seq.{take-suc, length-take-le}
+use lib.IntN.{ℤ}
 use Rattle.octets.specs.Bits.{digits_of, value_of, bits_of}
 use Rattle.octets.proofs.Digits.{turned_lt}
 use Rattle.remainder.specs.Division.{polynomial}
@@ -29,27 +26,20 @@ use Rattle.ascii.specs.Text.{text, decimal}
 use Rattle.forms.specs.Forms.{first_of, formed_by, formed}
 use Rattle.listing.specs.Listing.{number_line, coefficient_line, coefficient_lines, vendor_line, check_line, training_lines, training_text, final_text, listed, listing}
 
--- ---- coefficient lines, one more
+-- ---- coefficient lines, behind those that are written
 
-lines-append : (k : ℕ) (cs : List ℤ) (c : ℤ) → coefficient_lines k (cs ++ (c ∷ [])) ≡ coefficient_lines k cs ++ coefficient_line (k + length cs) c
-unfolding coefficient_lines coefficient_line
-lines-append k [] c = append-nil (coefficient_line k c) ∙ ap (λ (n : ℕ). coefficient_line n c) (sym (add-zero k))
-lines-append k (d ∷ cs) c =
-    ap (λ (l : List ℕ). coefficient_line k d ++ l) (lines-append (suc k) cs c)
-    ∙ sym (append_assoc (coefficient_line k d) (coefficient_lines (suc k) cs) (coefficient_line (suc k + length cs) c))
-    ∙ ap (λ (n : ℕ). coefficient_line k d ++ coefficient_lines (suc k) cs ++ coefficient_line n c) (omega arith)
-
-pub lines_none : [] ≡ coefficient_lines 1 []
+pub lines-next : (xs all : List ℕ) (c : ℤ) (k m n : ℕ) (cs ds : List ℤ) → k ≡ n → m ≡ k + 1 → ds ≡ c ∷ cs
+    → xs ++ coefficient_lines n ds ≡ all → (xs ++ coefficient_line k c) ++ coefficient_lines m cs ≡ all
 unfolding coefficient_lines
-lines_none = refl
+lines-next xs all c k m n cs ds e f g h =
+    append_assoc xs (coefficient_line k c) (coefficient_lines m cs)
+    ∙ ap (λ (i : ℕ). xs ++ (coefficient_line k c ++ coefficient_lines i cs)) (f ∙ add-one k)
+    ∙ ap₂ (λ (i : ℕ) (l : List ℤ). xs ++ coefficient_lines i l) e (sym g) ∙ h
 
-pub lines_next : (cs : List ℤ) (k : ℕ) → k < length cs
-    → coefficient_lines 1 (take k cs) ++ coefficient_line (k + 1) (get_or cs k (pos 0)) ≡ coefficient_lines 1 (take (k + 1) cs)
-lines_next cs k h =
-    let e : k + 1 ≡ 1 + length (take k cs) = omega (arith, length-take-le k cs (omega arith)) in
-    ap (λ (n : ℕ). coefficient_lines 1 (take k cs) ++ coefficient_line n (get_or cs k (pos 0))) e
-    ∙ sym (lines-append 1 (take k cs) (get_or cs k (pos 0)))
-    ∙ ap (coefficient_lines 1) (sym (take-suc cs k (pos 0) h) ∙ ap (λ (n : ℕ). take n cs) (sym (add-one k)))
+-- none is left
+pub lines-last : (xs : List ℕ) (n : ℕ) (cs : List ℤ) → cs ≡ [] → xs ≡ xs ++ coefficient_lines n cs
+unfolding coefficient_lines
+lines-last xs n cs e = sym (append-nil xs) ∙ ap (λ l. xs ++ coefficient_lines n l) (sym e)
 
 -- ---- lines by their forms
 

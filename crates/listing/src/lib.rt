@@ -31,8 +31,8 @@ fn put_coefficient_lines(text: &mut Text<'_>, cs: &[i32])
     requires { length cs.now ≤ 180 }
     ensures { Puts text.old (coefficient_lines 1 cs.now) text.new }
 {
-    for k in 0..cs.len() {
-        put_coefficient_line(text, k as u32 + 1, cs[k]);
+    for (k, &c) in (1..).zip(cs) {
+        put_coefficient_line(text, k, c);
     }
 }
 

@@ -119,10 +119,11 @@ pub fn open(rt: &HostRuntime, name: &[u8]) -> Result<File> {
 }
 
 // Reads until the octets are full or the input ends, and answers how many came.
-fn read_full<R: Read>(input: &mut R, octets: &mut [u8]) -> Result<usize>
+pub fn read_full<R: Read>(input: &mut R, octets: &mut [u8]) -> Result<usize>
     ensures { IfOk result (λ n. n ≤ length octets.new) }
 {
     let mut n: usize = 0;
+    // Stays: a count, since a read fills as much of the rest as it likes; read_exact doesn't say how much came, and read_to_end needs a heap.
     while n < octets.len() {
         let m = input.read(&mut octets[n..])?;
         if m == 0 {

@@ -1,2 +1,3 @@
 pub mod Precoder
+pub mod Directions
 pub mod Runs

@@ -7,6 +7,7 @@ ghost use Rattle.numbers.specs.Promises.{number_length, numbers_of};
 ghost use Rattle.ranges.specs.Ranges.{coefficient_count, between, is_coefficient, every};
 ghost use Rattle.samples.specs.Samples.{is_signal, past_after};
 ghost use Rattle.precoder.specs.Precoder.{Splits, exact_sum, Sends, Receives, Turns, line_of};
+ghost use Rattle.precoder.specs.Directions.{is_back};
 ghost use Rattle.precoder.specs.Runs.{Turned, lengths_right, ranges_right, RunPromise, PrecodesRun, DecodesRun};
 
 use answer::Refused;
@@ -27,6 +28,13 @@ const LOWEST_OUTPUT: i32 = samples::LOWEST;
 const COEFFICIENT_RAISE: i16 = 1_024;
 
 const OUTPUT_RAISE: i16 = 256;
+
+// The two directions: forward an x goes out as a y, back a y comes in and its x is got back.
+#[derive(Clone, Copy)]
+enum Direction {
+    Precode,
+    Decode,
+}
 
 // A number in two halves. The high one has the number's sign, the low one has none.
 #[derive(Drop)]
@@ -115,61 +123,84 @@ fn joined(parts: Parts) -> i64
     scaled(parts.hh, 20) + scaled(parts.hl, 11) + scaled(parts.lh, 9) + (parts.ll as i64)
 }
 
-// The exact sum of C(k) times y(m-k). Four columns add up in 32 bits, each at most 180 * 2,047 * 511 = 188,283,060 in size, and are put
-// together once, at the end.
-fn sum(coefficients: &[i32; TAPS], history: &[i32; TAPS]) -> i64
-    requires { (every is_coefficient coefficients.now ≡ true) × (every is_signal history.now ≡ true) }
-    ensures { result ≡ exact_sum coefficient_count coefficients.now history.now }
-{
-    let mut hh: i32 = 0;
-    let mut hl: i32 = 0;
-    let mut lh: i32 = 0;
-    let mut ll: i32 = 0;
-    for tap in 0..TAPS {
-        let p = product(coefficients[tap], history[tap]);
-        hh += p.hh;
-        hl += p.hl;
-        lh += p.lh;
-        ll += p.ll;
+// A precoder at either end: its taps and its past outputs, each in its range.
+#[derive(Drop)]
+struct Precoder<'a> {
+    taps: &'a [i32; TAPS],
+    past: [i32; TAPS],
+    ghost coefficients: { every is_coefficient taps.now ≡ true },
+    ghost outputs: { every is_signal past ≡ true },
+}
+
+impl<'a> Precoder<'a> {
+    // The exact sum of C(k) times y(m-k). Four columns add up in 32 bits, each at most 180 * 2,047 * 511 = 188,283,060 in size, and are put
+    // together once, at the end.
+    fn sum(&self) -> i64
+        ensures { result ≡ exact_sum coefficient_count self.now.taps.now self.now.past }
+    {
+        let taps = self.taps;
+        let mut hh: i32 = 0;
+        let mut hl: i32 = 0;
+        let mut lh: i32 = 0;
+        let mut ll: i32 = 0;
+        for (&coefficient, &y) in taps.iter().zip(&self.past) {
+            let p = product(coefficient, y);
+            hh += p.hh;
+            hl += p.hl;
+            lh += p.lh;
+            ll += p.ll;
+        }
+        joined(Parts { hh, hl, lh, ll })
     }
-    joined(Parts { hh, hl, lh, ll })
-}
 
-// One symbol in range: u = x - v, folded to y, which joins the past.
-fn send(x: i32, coefficients: &[i32; TAPS], history: &mut [i32; TAPS]) -> i32
-    requires { (every is_coefficient coefficients.now ≡ true) × (every is_signal history.old ≡ true) }
-    ensures { Sends coefficients.now history.old x result
-        × (history.new ≡ past_after history.old result) }
-{
-    let v = samples::rounded(sum(coefficients, history));
-    let sent = samples::folded((x as i64) - v);
-    samples::shift(history, sent);
-    sent
-}
-
-// One symbol in range, backward: the x that goes out as y, which joins the past.
-fn receive(y: i32, coefficients: &[i32; TAPS], history: &mut [i32; TAPS]) -> i32
-    requires { (is_signal y ≡ true) × (every is_coefficient coefficients.now ≡ true) × (every is_signal history.old ≡ true) }
-    ensures { Receives coefficients.now history.old y result
-        × (history.new ≡ past_after history.old y) }
-{
-    let v = samples::rounded(sum(coefficients, history));
-    let x = samples::folded((y as i64) + v);
-    samples::shift(history, y);
-    x
-}
-
-// One symbol in range in either direction.
-// Stays: a bool, as Turns and line_of have it; a type or a const parameter for each direction would say the same at each call.
-fn turn(back: bool, z: i32, coefficients: &[i32; TAPS], history: &mut [i32; TAPS]) -> i32
-    requires { (is_signal z ≡ true) × (every is_coefficient coefficients.now ≡ true) × (every is_signal history.old ≡ true) }
-    ensures { Turns back coefficients.now history.old z result
-        × (history.new ≡ past_after history.old (line_of back z result)) }
-{
-    if back {
-        return receive(z, coefficients, history);
+    // One symbol: u = x - v, folded to y, which joins the past.
+    fn send(&mut self, x: i32) -> i32
+        ensures { Sends self.old.taps.now self.old.past x result
+            × (self.new.taps ≡ self.old.taps) × (self.new.past ≡ past_after self.old.past result) }
+    {
+        let v = samples::rounded(self.sum());
+        let sent = samples::folded((x as i64) - v);
+        samples::shift(&mut self.past, sent);
+        sent
     }
-    send(z, coefficients, history)
+
+    // One symbol in range, backward: the x that goes out as y, which joins the past.
+    fn receive(&mut self, y: i32) -> i32
+        requires { is_signal y ≡ true }
+        ensures { Receives self.old.taps.now self.old.past y result
+            × (self.new.taps ≡ self.old.taps) × (self.new.past ≡ past_after self.old.past y) }
+    {
+        let v = samples::rounded(self.sum());
+        let x = samples::folded((y as i64) + v);
+        samples::shift(&mut self.past, y);
+        x
+    }
+
+    // One symbol in range in either direction.
+    fn turn(&mut self, direction: Direction, z: i32) -> i32
+        requires { is_signal z ≡ true }
+        ensures { Turns (is_back direction) self.old.taps.now self.old.past z result
+            × (self.new.taps ≡ self.old.taps)
+            × (self.new.past ≡ past_after self.old.past (line_of (is_back direction) z result)) }
+    {
+        match direction {
+            Direction::Precode => self.send(z),
+            Direction::Decode => self.receive(z),
+        }
+    }
+
+    // Symbols in range, one after the other, in either direction.
+    fn turn_all(&mut self, direction: Direction, symbols: &[u8], room: &mut [u8])
+        requires { (every is_signal (numbers_of symbols.now) ≡ true)
+            × (length symbols.now % number_length ≡ 0) × (length room.old ≡ length symbols.now) }
+        ensures { Turned (is_back direction) self.old.taps.now self.old.past (numbers_of symbols.now)
+            self.new.past room.new }
+    {
+        for i in 0..symbols.len() / numbers::NUMBER_OCTETS {
+            let w = self.turn(direction, numbers::number(symbols, i));
+            numbers::put_number(room, i, w);
+        }
+    }
 }
 
 // Whether every number of a run of octets is in the range of x and y.
@@ -177,16 +208,11 @@ fn numbers_in_range(octets: &[u8]) -> bool
     requires { length octets.now % number_length ≡ 0 }
     ensures { result ≡ every is_signal (numbers_of octets.now) }
 {
-    for i in 0..octets.len() / numbers::NUMBER_OCTETS {
-        if !ranges::in_range(
-            numbers::number(octets, i),
-            samples::LOWEST,
-            samples::HIGHEST,
-        ) {
-            return false;
-        }
-    }
-    true
+    (0..octets.len() / numbers::NUMBER_OCTETS).all(|i| ranges::in_range(
+        numbers::number(octets, i),
+        samples::LOWEST,
+        samples::HIGHEST,
+    ))
 }
 
 // Whether the four buffers of a run have their lengths.
@@ -212,46 +238,29 @@ fn ranges_right(coefficients: &[i32; TAPS], history: &[i32; TAPS], symbols: &[u8
         && numbers_in_range(symbols)
 }
 
-// Symbols in range, one after the other, in either direction.
-fn turn_all(
-    back: bool,
-    coefficients: &[i32; TAPS],
-    history: &mut [i32; TAPS],
-    symbols: &[u8],
-    room: &mut [u8],
-)
-    requires { (ranges_right coefficients.now history.old (numbers_of symbols.now) ≡ true)
-        × (length symbols.now % number_length ≡ 0) × (length room.old ≡ length symbols.now) }
-    ensures { Turned back coefficients.now history.old (numbers_of symbols.now)
-        history.new room.new }
-{
-    for i in 0..symbols.len() / numbers::NUMBER_OCTETS {
-        let w = turn(back, numbers::number(symbols, i), coefficients, history);
-        numbers::put_number(room, i, w);
-    }
-}
-
 // A run in either direction. Coefficients and history are decoded once; everything is checked before anything is written.
 fn run(
-    back: bool,
+    direction: Direction,
     coefficients: &[u8],
     history: &mut [u8],
     symbols: &[u8],
     room: &mut [u8],
 ) -> Result<(), Refused>
-    ensures { RunPromise back coefficients.now history.old symbols.now room.old
+    ensures { RunPromise (is_back direction) coefficients.now history.old symbols.now room.old
         (answer_of result) history.new room.new }
 {
     if !lengths_right(coefficients, history, symbols, room) {
         return Err(Refused::Length);
     }
     let taps = numbers::numbers(coefficients);
-    let mut past = numbers::numbers(history);
+    let past = numbers::numbers(history);
     if !ranges_right(&taps, &past, symbols) {
         return Err(Refused::Range);
     }
-    turn_all(back, &taps, &mut past, symbols, room);
-    numbers::put_numbers(history, &past);
+    // Stays: a reference beside an array, as two arrays by value would take 3,480 octets of stack, over the header's 3,072.
+    let mut precoder = Precoder { taps: &taps, past };
+    precoder.turn_all(direction, symbols, room);
+    numbers::put_numbers(history, &precoder.past);
     Ok(())
 }
 
@@ -265,7 +274,7 @@ pub fn precode_run(
     ensures { PrecodesRun coefficients.now history.old xs.now ys.old
         (answer_of result) history.new ys.new }
 {
-    run(false, coefficients, history, xs, ys)
+    run(Direction::Precode, coefficients, history, xs, ys)
 }
 
 // The receiving end of such a run.
@@ -278,5 +287,5 @@ pub fn decode_run(
     ensures { DecodesRun coefficients.now history.old ys.now xs.old
         (answer_of result) history.new xs.new }
 {
-    run(true, coefficients, history, ys, xs)
+    run(Direction::Decode, coefficients, history, ys, xs)
 }

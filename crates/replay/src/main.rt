@@ -102,6 +102,7 @@ fn replay(rt: &HostRuntime, log: &[u8], story: &mut Story) -> Result<(), Stopped
 {
     let mut line: u32 = 1;
     let mut at = 0;
+    // Stays: places, which the must-fail edit line_begins_one_late changes; and `split` gives an empty line behind a last newline, lines_of none.
     while at < log.len() {
         let end = startlog::line_end(log, at);
         let said = &log[at..end];

@@ -8,6 +8,7 @@ use options::Argument;
 use outside::{Status, Unwritten};
 use std::io;
 use std::io::IsTerminal;
+use totals::Sorted;
 
 // The most cards of one run.
 const MOST: usize = 65536;
@@ -317,12 +318,12 @@ fn total(rt: &HostRuntime, given: bool, csv: bool, ranks: &[u32]) -> Result<(), 
     Ok(())
 }
 
-// How the run ends, by the status of its totals.
-fn ended(status: u32) -> Status {
-    match status {
-        totals::FINE => Status::Good,
-        totals::NOT_FINE => Status::Bad,
-        _ => Status::Wrong,
+// How the run ends, by how the sorting went.
+fn ended(sorted: Sorted) -> Status {
+    match sorted {
+        Sorted::Fine => Status::Good,
+        Sorted::NotFine => Status::Bad,
+        Sorted::NotRead => Status::Wrong,
     }
 }
 

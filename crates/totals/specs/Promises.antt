@@ -1,12 +1,13 @@
 -- What telling the totals promises.
 use Rattle.std.specs.Prelude.{◌≡◌, Bool, List, ℕ}
 use Rattle.ascii.specs.Promises.{Told}
-use Rattle.totals.specs.Totals.{totals_text, status_of}
+use Rattle.totals.specs.declared.Sorted.{Sorted}
+use Rattle.totals.specs.Totals.{totals_text, status_of, number_of}
 
 -- totals
 abbrev pub Totalled : Bool → List ℕ → List ℕ → ℕ → List ℕ → Type 0
 Totalled given ranks room r exit = Told (totals_text given ranks) room r exit
 
 -- status
-abbrev pub IsStatus : Bool → List ℕ → ℕ → Type 0
-IsStatus given ranks r = r ≡ status_of given ranks
+abbrev pub IsStatus : Bool → List ℕ → Sorted → Type 0
+IsStatus given ranks r = number_of r ≡ status_of given ranks

@@ -5,6 +5,8 @@ use Rattle.ascii.specs.Text.{text}
 use Rattle.forms.specs.Forms.{formed}
 use Rattle.card.specs.Ranks.{cannot_be_read, matching, good, verdicts}
 use Rattle.card.specs.Words.{row_of_rank, refused_row, name_of, todo}
+use Rattle.totals.specs.declared.Sorted.{Sorted}
+use Rattle.totals.specs.declared.Sorted.TheVariants.{Fine, NotFine, NotRead}
 
 -- how many verdicts of a list are x
 unfoldable pub how_many : ℕ → List ℕ → ℕ
@@ -68,3 +70,9 @@ totals_text given ranks = first_line given ranks ++ verdict_lines verdicts ranks
 -- the digit that says how it went: 0 every card is fine, 1 not, 2 where a file cannot be read
 unfoldable pub status_of : Bool → List ℕ → ℕ
 status_of given ranks = cond (ltb 0 (how_many cannot_be_read ranks)) 2 (cond (all_fine given ranks) 0 1)
+
+-- how a sorting went, as that digit
+abbrev pub number_of : Sorted → ℕ
+number_of Fine = 0
+number_of NotFine = 1
+number_of NotRead = 2

@@ -15,12 +15,16 @@ const MOST_WRITTEN: usize = 4294967295;
 // How many verdicts there are.
 const VERDICTS: u32 = card::GOOD + 1;
 
-// How a sorting went: every card is fine; not; a file cannot be read.
-pub const FINE: u32 = 0;
-
-pub const NOT_FINE: u32 = 1;
-
-pub const NOT_READ: u32 = 2;
+// How a sorting went.
+#[derive(Clone, Copy, PartialEq, Eq)]
+pub enum Sorted {
+    // Every card is fine.
+    Fine,
+    // Not every card is.
+    NotFine,
+    // A file cannot be read.
+    NotRead,
+}
 
 // How many entries of a list are x.
 fn how_many(xs: &[u32], x: u32) -> usize
@@ -143,15 +147,15 @@ pub fn totals(given: bool, ranks: &[u32], room: &mut [u8]) -> usize
 }
 
 // How a sorting of cards with these verdicts went.
-pub fn status(given: bool, ranks: &[u32]) -> u32
+pub fn status(given: bool, ranks: &[u32]) -> Sorted
     ensures { IsStatus given ranks.now result }
 {
     if 0 < how_many(ranks, card::CANNOT_BE_READ) {
-        return NOT_READ;
+        return Sorted::NotRead;
     }
     if all_fine(given, ranks) {
-        FINE
+        Sorted::Fine
     } else {
-        NOT_FINE
+        Sorted::NotFine
     }
 }

@@ -10,6 +10,7 @@ use card::Verdict;
 use reader::Found;
 
 // The customer's words A and B, where a reference frame is given.
+// Stays: a flag beside the words, since judge and unread answer for one that is not given with any words too (Judged, Unread; match_is, within).
 #[derive(Clone, Copy)]
 pub struct Customer {
     pub given: bool,

@@ -4,9 +4,9 @@ use mathlib.Core.List.{[]}
 use Prim.Native.Nat.{ℕ, ◌/◌}
 use native.Mathlib.Omega.{arith}
 use lib.ListN.{length}
-use Rattle.numbers.specs.Promises.{number_octets}
+use Rattle.numbers.specs.Promises.{numbers_of, number_octets}
 use Rattle.numbers.proofs.Laws.{numbers-many, numbers-whole, put_whole}
-use Rattle.precoder.proofs.Turns.{lengths-are, past-length}
+use Rattle.precoder.proofs.Turns.{lengths-are, ranges-are, past-length}
 use Rattle.precoder.proofs.run.Goals as goal
 
 pub returns-then-not-lengths_right : goal.returns-then-not-lengths_right
@@ -39,11 +39,17 @@ returns-then-not-ranges_right c =
       past = refl;
     }
 
+pub invariant_of-precoder : goal.invariant_of-precoder
+invariant_of-precoder c =
+    let r = ranges-are c.numbers-taps.result c.numbers-past.result (numbers_of c.args.symbols.now) (sym c.ranges_right.ensures ∙ c.if-not-ranges_right.false) in
+    record { coefficients = r.0; outputs = r.1 }
+
 pub turn_all-requires : goal.turn_all-requires
 turn_all-requires c =
     let right = sym c.lengths_right.ensures ∙ c.if-not-lengths_right.false in
     let l = lengths-are c.args.coefficients.now c.args.history.now c.args.symbols.now c.args.room.now right in
-    (sym c.ranges_right.ensures ∙ c.if-not-ranges_right.false, l.2, l.3)
+    let r = ranges-are c.numbers-taps.result c.numbers-past.result (numbers_of c.args.symbols.now) (sym c.ranges_right.ensures ∙ c.if-not-ranges_right.false) in
+    (r.2, l.2, l.3)
 
 pub returns : goal.returns
 returns c =

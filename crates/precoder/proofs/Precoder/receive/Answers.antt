@@ -1,5 +1,5 @@
--- `precoder::receive` meets its contract. Each step's number is read back from its bits. Assumes nothing.
-use mathlib.Core.Path.{◌≡◌}
+-- `precoder::Precoder::receive` meets its contract. Each step's number is read back from its bits. Assumes nothing.
+use mathlib.Core.Path.{◌≡◌, refl}
 use mathlib.Core.Bool.{true}
 use mathlib.Core.List.{List}
 use lib.IntN.{ℤ, ◌+ℤ◌}
@@ -7,11 +7,11 @@ use mir.Syntax.{w32, w64}
 use mir.Val.{SFits, to_z, of_z}
 use mir.Facts.{to_z-of_z}
 use Rattle.ranges.specs.Ranges.{is_coefficient, every}
-use Rattle.samples.specs.Samples.{is_signal, Rounds}
+use Rattle.samples.specs.Samples.{is_signal, Rounds, past_after}
 use Rattle.precoder.specs.Precoder.{exact_sum}
 use Rattle.precoder.proofs.Products.{sum-abs, wide_fits}
-use Rattle.precoder.proofs.Signals.{plus-v-fits, fold-back}
-use Rattle.precoder.proofs.receive.Goals as goal
+use Rattle.precoder.proofs.Signals.{plus-v-fits, fold-back, past-in}
+use Rattle.precoder.proofs.Precoder.receive.Goals as goal
 
 -- v is the sum rounded, and y + v fits
 found : (coefficients past : List ℤ) (s v y : ℤ) → every is_coefficient coefficients ≡ true → every is_signal past ≡ true
@@ -28,7 +28,7 @@ pub overflow_add-y : goal.overflow_add-y
 overflow_add-y c =
     let a = c.args in
     let v = c.rounded-v in
-    let is = found a.coefficients.now a.history.now c.sum.result v.result a.y c.requires.1 c.requires.2 c.sum.ensures (record { sfits = c.sum.type_inv })
+    let is = found a.self.now.taps.now a.self.now.past c.sum.result v.result a.y a.self.now.coefficients a.self.now.outputs c.sum.ensures (record { sfits = c.sum.type_inv })
     v.ensures c.ranges.y in
     rw (to_z-of_z c.ranges.y, to_z-of_z (wide_fits _ c.ranges.y), to_z-of_z {w = w64} {z = v.result} (record { sfits = v.type_inv })) is.1
 
@@ -37,7 +37,7 @@ returns c =
     let a = c.args in
     let v = c.rounded-v in
     let f = c.folded-x in
-    let is = found a.coefficients.now a.history.now c.sum.result v.result a.y c.requires.1 c.requires.2 c.sum.ensures (record { sfits = c.sum.type_inv })
+    let is = found a.self.now.taps.now a.self.now.past c.sum.result v.result a.y a.self.now.coefficients a.self.now.outputs c.sum.ensures (record { sfits = c.sum.type_inv })
     v.ensures c.ranges.y in
     let g =
     rw (
@@ -48,6 +48,13 @@ returns c =
     )
     at f.ensures in
     rw (to_z-of_z {w = w32} {z = f.result} (record { sfits = f.type_inv })) (
-      record { signal = g.signal; sends = record { v = v.result; rounds = is.0; folds = fold-back a.y v.result f.result g c.requires.0 } },
+      record { signal = g.signal; sends = record { v = v.result; rounds = is.0; folds = fold-back a.y v.result f.result g c.requires } },
+      refl,
       rw (to_z-of_z c.ranges.y) at c.shift.ensures,
     )
+
+pub invariant_of-self : goal.invariant_of-self
+invariant_of-self c =
+    let a = c.args in
+    let is : c.shift.new.history ≡ past_after a.self.now.past a.y = rw (to_z-of_z c.ranges.y) at c.shift.ensures in
+    record { coefficients = a.self.now.coefficients; outputs = rw is (past-in a.self.now.past a.y a.self.now.outputs c.requires) }
