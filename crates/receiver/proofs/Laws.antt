@@ -24,7 +24,6 @@ use Rattle.octets.proofs.Fields.{part-part}
 use Rattle.octets.proofs.Words.{digits-drop, drop-take, field-digits, octets-octets, octets-zeros}
 use Rattle.octets.proofs.Whole.{drop_all, laid-octets}
 use Rattle.layout.specs.Frame.{training_sync, final_sync}
-use Rattle.layout.specs.Refusals.{check_refusals}
 use Rattle.recurrence.specs.Run.{run_of}
 use Rattle.recurrence.specs.declared.Way.TheVariants.{Descramble as descramble}
 use Rattle.recurrence.proofs.Laws.{run-bits}
@@ -254,13 +253,6 @@ module _ (end : ℕ) (s : List ℕ) (at : ℕ) (known : end ≤ 1) (h : 23 ≤ a
       ∙ passed 4 (drop 4 R) (lt-leb (2 ^ 23) state st) ∙ passed 6 [] (ap not (eq-eqb _ _ pad)) in
       p.left ∙ given (answer_of r) plain (frame_out descramble (record { end = end; state = state }) heard) (p.answered ∙ zero)
       ∙ ap₂ (λ (k : ℕ) (t : List ℕ). frame_out descramble (record { end = end; state = k }) t) (state-is before state f g) hd
-
--- what is read of a frame that was descrambled
-pub is_read : (end : ℕ) (B : List ℕ) (at : ℕ) {n : ℕ} {plain : List ℕ} → plain ≡ frame_at end B at → n ≡ answer (check_refusals plain) → n ≡ 0 → true ≡ reads end B at
-is_read end B at e f z = sym (eq-eqb _ _ (ap (λ (t : List ℕ). answer (check_refusals t)) (sym e) ∙ sym f ∙ z))
-
-pub not-read : (end : ℕ) (B : List ℕ) (at : ℕ) {n : ℕ} {plain : List ℕ} → plain ≡ frame_at end B at → n ≡ answer (check_refusals plain) → (n ≡ 0 → ⊥) → false ≡ reads end B at
-not-read end B at e f z = sym (ne_eqb _ _ (λ k. z (f ∙ ap (λ (t : List ℕ). answer (check_refusals t)) e ∙ k)))
 
 -- checking refuses where it gives an error, and only there
 pub is-refused : {A : Type 0} (r : Result A Refused) → is_err r ≡ true → answer_of r ≡ 0 → ⊥
