@@ -99,6 +99,7 @@ fn next_sync(s: &[u8], p: usize, stop: usize) -> usize
     ensures { result ≡ first_that (synced (bits_of s.now)) p (stop - p) }
 {
     let mut at = p;
+    // Stays: as many places go next as are left, 43 at most, so there is nothing to count.
     while at < stop {
         let n = (stop - at).min(IN_WORD);
         let j = first_in(octets::bits(s, at, 0, WORD), n);

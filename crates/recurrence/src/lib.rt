@@ -197,6 +197,7 @@ impl Line {
     {
         let mut window = start;
         let mut k = from;
+        // Stays: as many bits go next as are left, 56 at most, so there is nothing to count.
         while k < bits {
             let n = (bits - k).min(PART) as u32;
             let f = octets::bits(input, k, at, n);

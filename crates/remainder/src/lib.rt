@@ -188,6 +188,7 @@ fn stands_for(start: u32, s: &[u8], at: usize, n: u32) -> u64
 {
     let mut x = u64::from(bitfields::turned(SIX_DEGREE, start));
     let mut seen: u32 = 0;
+    // Stays: as many bits go next as are left, 56 at most, so there is nothing to count.
     while seen < n {
         let v = octets::bits(s, at, seen, n - seen);
         let m = (n - seen).min(READ);

@@ -215,14 +215,14 @@ fn whole(coefficients: &[i32], vendor: &[u8], frame: &[u8]) -> bool
 
 // Why sending is refused: what writing refuses and what scrambling refuses, in number order. Of a final frame no coefficient is in use, and A and B
 // are zero.
-fn allowed(
+fn allowed<'a>(
     x: Scrambler,
     kind: u32,
     count: u32,
-    coefficients: &[i32],
+    coefficients: &'a [i32],
     a: u32,
     b: u32,
-    vendor: &[u8],
+    vendor: &'a [u8],
     frame: &[u8],
 ) -> Result<(), Refused>
     ensures { answer_of result ≡ answer (send_refusals x kind count coefficients.now a b vendor.now frame.now) }
