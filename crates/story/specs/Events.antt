@@ -76,8 +76,8 @@ abbrev pub since_opening : Supervisor → ℕ → ℕ
 since_opening s c = cond (in_attempt s.phase) (s.attempt + one (eqb c 0)) 0
 
 -- the number of the attempt, the last that opened, where the code came in it or opened it, else 0
-abbrev pub number_of : ℕ → ℕ → ℕ → ℕ
-number_of p event attempts = cond (in_attempt p || eqb event 1) attempts 0
+abbrev pub attempt_number : ℕ → ℕ → ℕ → ℕ
+attempt_number p event attempts = cond (in_attempt p || eqb event 1) attempts 0
 
 -- the clock when the phase was entered: the present one, n, where another was entered
 abbrev pub entered_at : Story → Supervisor → ℕ → ℕ
@@ -102,7 +102,7 @@ told s t c = record {
   answer = 0;
   kind = kind_of s.state t c;
   code = c;
-  attempt = number_of s.state.phase (attempt_event s.state.phase t.phase) (onward s t c).attempts;
+  attempt = attempt_number s.state.phase (attempt_event s.state.phase t.phase) (onward s t c).attempts;
   ticks = since_opening s.state c;
   story = onward s t c;
 }

@@ -4,7 +4,7 @@
 ghost use Rattle.std.specs.Prelude.{◌≡◌, cond, ◌≤◌, ◌<◌, eqb, ltb};
 ghost use Rattle.supervisor.specs.Step.{none};
 ghost use Rattle.startup.specs.Run.{outcome_number};
-ghost use Rattle.story.specs.Events.{most, outcome, beginning, kind_of, since_opening, number_of, told};
+ghost use Rattle.story.specs.Events.{most, outcome, beginning, kind_of, since_opening, attempt_number, told};
 ghost use Rattle.story.specs.Events.{numbers, numbered, start_of, event_of};
 
 use answer::Refused;
@@ -125,7 +125,7 @@ impl Story {
         Event {
             kind: kind_of(state, next, code),
             code,
-            attempt: number_of(state.phase, event, attempts),
+            attempt: attempt_number(state.phase, event, attempts),
             ticks,
             story,
         }
@@ -171,8 +171,8 @@ fn kind_of(before: Supervisor, after: Supervisor, code: u32) -> u32
 }
 
 // The attempt's number where the code came in it or opened it, else 0.
-fn number_of(phase: u32, event: Option<Became>, attempts: u32) -> u32
-    ensures { result ≡ number_of phase (outcome_number event) attempts }
+fn attempt_number(phase: u32, event: Option<Became>, attempts: u32) -> u32
+    ensures { result ≡ attempt_number phase (outcome_number event) attempts }
 {
     if supervisor::in_attempt(phase) || matches!(event, Some(Became::Open)) {
         attempts

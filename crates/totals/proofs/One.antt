@@ -7,7 +7,7 @@ use native.Mathlib.Omega.{arith}
 use Rattle.ascii.proofs.One.{told-one}
 use Rattle.totals.specs.declared.Sorted.{Sorted}
 use Rattle.totals.specs.declared.Sorted.TheVariants.{Fine, NotFine, NotRead}
-use Rattle.totals.specs.Totals.{totals_text, number_of}
+use Rattle.totals.specs.Totals.{totals_text, sorted_number}
 use Rattle.totals.specs.Promises.{Totalled, IsStatus}
 
 pub totals-one : (given : Bool) (ranks room : List ℕ) (r r' : ℕ) (t t' : List ℕ) → Totalled given ranks room r t → Totalled given ranks room r' t'
@@ -15,7 +15,7 @@ pub totals-one : (given : Bool) (ranks room : List ℕ) (r r' : ℕ) (t t' : Lis
 totals-one given ranks = told-one (totals_text given ranks)
 
 -- a number is one case's
-number-one : (r r' : Sorted) → number_of r ≡ number_of r' → r ≡ r'
+number-one : (r r' : Sorted) → sorted_number r ≡ sorted_number r' → r ≡ r'
 number-one Fine Fine e = refl
 number-one Fine NotFine e = absurd (omega arith)
 number-one Fine NotRead e = absurd (omega arith)

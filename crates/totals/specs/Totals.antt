@@ -72,7 +72,7 @@ unfoldable pub status_of : Bool → List ℕ → ℕ
 status_of given ranks = cond (ltb 0 (how_many cannot_be_read ranks)) 2 (cond (all_fine given ranks) 0 1)
 
 -- how a sorting went, as that digit
-abbrev pub number_of : Sorted → ℕ
-number_of Fine = 0
-number_of NotFine = 1
-number_of NotRead = 2
+abbrev pub sorted_number : Sorted → ℕ
+sorted_number Fine = 0
+sorted_number NotFine = 1
+sorted_number NotRead = 2
