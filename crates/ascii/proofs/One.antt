@@ -7,7 +7,7 @@ use Rattle.ascii.specs.declared.Text.{Text}
 use Rattle.ascii.specs.Promises.{Put, Puts, Told}
 use Rattle.ascii.specs.Plain.{TextLength}
 
--- put, put_word, put_decimal, put_signed and put_hexes: each promises `Put` of a text that its arguments give
+-- any text that is put from a place on
 pub put_one : (room : List ℕ) (at : ℕ) (text : List ℕ) (r r' : ℕ) (t t' : List ℕ) → Put room at text r t → Put room at text r' t' → (r ≡ r') × (t ≡ t')
 put_one room at text r r' t t' p q = (p.behind ∙ sym q.behind, p.laid ∙ sym q.laid)
 

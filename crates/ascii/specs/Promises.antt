@@ -4,8 +4,7 @@ use Rattle.std.specs.Prelude.{◌≡◌, List, ◌++◌, ℕ, ◌+◌, ◌-◌, 
 use Rattle.std.proofs.lemmas.List.Edits.{sets}
 use Rattle.ascii.specs.declared.Text.{Text}
 
--- put_word, put_decimal and the others, each with its own text, from a place on: what would lie past the room's end is left out, and the
--- next place comes back
+-- a text put into a room from a place on: what would lie past the room's end is left out, and the next place is that behind what is put
 pub record Put (room : List ℕ) (at : ℕ) (text : List ℕ) (next : ℕ) (exit : List ℕ) : Type 0 where
   pub behind : next ≡ at + min (length text) (length room - at)
   pub laid : exit ≡ sets room at text

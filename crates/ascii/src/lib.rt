@@ -1,5 +1,5 @@
 // Text in ASCII, put into a lent room from a place on: words, numbers in decimal, octets in hex. Every function takes every input: what
-// would lie past the room's end is left out, and the place behind the text comes back.
+// would lie past the room's end is left out, and the text's place is then behind it.
 #![tactic(auto)]
 
 ghost use Rattle.std.specs.Prelude.{◌≡◌, ◌∷◌, [], ◌<◌, drop};

@@ -1,5 +1,5 @@
 // Text by forms and tables, put into a lent room (crate ascii): a form has a # for each number, a table is rows of words. What would lie
-// past the room's end is left out, and the place behind the text comes back.
+// past the room's end is left out, and the text's place is then behind it.
 #![tactic(auto)]
 
 ghost use Rattle.std.specs.Prelude.{◌≡◌};

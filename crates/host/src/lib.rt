@@ -1,4 +1,5 @@
 // What C calls, over the proved crates: only numbers and octet slices cross. Crate host_c exports each function here under its name.
+// Stays: structs with an answer number, and states of the crates below once more, as C has them (include/sdsl.h).
 #![tactic(auto)]
 
 ghost use Rattle.std.specs.Prelude.{◌≡◌};

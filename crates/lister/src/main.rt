@@ -25,6 +25,7 @@ enum Task {
 }
 
 // What the arguments ask for.
+// Stays: each program has its own, since each has other fields and rules for a word; what they do alike is crate outside's.
 #[derive(Clone, Copy)]
 struct Asked {
     // The first of them that asks for something else than to list a frame counts.

@@ -17,6 +17,7 @@ const READ: usize = 1048577;
 // Room for every line (eoclisting's theorems on what fits).
 const ROOM: usize = 4096;
 // An address that no unit has: every message is listed.
+// Stays: a number, since eoclisting::totals takes any as a unit's own address, and one over 15 is no unit's (Totalled).
 const NO_UNIT: u32 = 16;
 // The name that its words on standard error begin with.
 const NAME: [u8; 8] = *b"messages";
@@ -176,6 +177,7 @@ enum Task {
 }
 
 // What the arguments ask for.
+// Stays: each program has its own, since each has other fields and rules for a word; what they do alike is crate outside's.
 #[derive(Clone, Copy)]
 struct Asked {
     // What is to be done: the first argument that says so counts.
@@ -282,17 +284,9 @@ fn refuse(rt: &HostRuntime, i: usize) -> Status {
     Status::Wrong
 }
 
-// The status of what had to be written and nothing else.
-fn done(written: Result<(), Unwritten>) -> Status {
-    match written {
-        Ok(()) => Status::Good,
-        Err(Unwritten) => Status::Wrong,
-    }
-}
-
 // How the program is called.
-fn help(rt: &HostRuntime) -> Status {
-    done(print(
+fn help(rt: &HostRuntime) -> Result<(), Unwritten> {
+    print(
         rt,
         b"usage: messages [--status] [--for UNIT] < OCTETS\n\
               Lists the messages of an SDSL operations channel (eoc), octets with their flags as they came.\n\
@@ -301,7 +295,7 @@ fn help(rt: &HostRuntime) -> Status {
               \x20            there are none, 2 wrong use, or octets that cannot be read or told\n\
               \x20 --version  prints the version\n\
               \x20 --help     prints this\n",
-    ))
+    )
 }
 
 // Lists the messages of the channel, all of them or those for the unit that an argument names.
@@ -316,19 +310,20 @@ fn list(rt: &HostRuntime, unit: Option<usize>) -> Status {
 }
 
 // Does what is asked, and answers the status.
-fn run(rt: &HostRuntime, asked: Asked) -> Status {
+fn run(rt: &HostRuntime, asked: Asked) -> Result<Status, Unwritten> {
     match asked.task {
-        Task::List => list(rt, asked.unit),
-        Task::Help => help(rt),
-        Task::Version => done(outside::print_version(rt, &NAME)),
-        Task::Refuse(i) => refuse(rt, i),
+        Task::List => return Ok(list(rt, asked.unit)),
+        Task::Refuse(i) => return Ok(refuse(rt, i)),
+        Task::Help => help(rt)?,
+        Task::Version => outside::print_version(rt, &NAME)?,
     }
+    Ok(Status::Good)
 }
 
 // Does as the arguments say.
 fn main(rt: HostRuntime) {
     let asked = arguments(&rt);
-    let status = run(&rt, asked);
+    let status = run(&rt, asked).unwrap_or(Status::Wrong);
     if asked.status {
         outside::tell_status(status.digit());
     }

@@ -1,5 +1,5 @@
 // Text by phrases, put into a lent room (crate ascii): a phrase is a row of a table (crate forms), with a number for the marks in it. What
-// would lie past the room's end is left out, and the place behind the text comes back.
+// would lie past the room's end is left out, and the text's place is then behind it.
 #![tactic(auto)]
 
 ghost use Rattle.ascii.specs.Promises.{Puts};

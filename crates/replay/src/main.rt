@@ -24,6 +24,7 @@ const READ: usize = 1048577;
 // Room for every line (storytext's theorems on what fits).
 const ROOM: usize = 320;
 // What no end and no silence is.
+// Stays: numbers, since Story::start takes any end and silence and says what it refuses (start_of), so nothing is checked twice.
 const NO_END: u32 = 2;
 
 const NO_SILENCE: u32 = 1;
@@ -102,7 +103,7 @@ fn replay(rt: &HostRuntime, log: &[u8], story: &mut Story) -> Result<(), Stopped
 {
     let mut line: u32 = 1;
     let mut at = 0;
-    // Stays: places, which the must-fail edit line_begins_one_late changes; and `split` gives an empty line behind a last newline, lines_of none.
+    // Stays: places, since `split` gives an empty line behind a last newline, and lines_of none.
     while at < log.len() {
         let end = startlog::line_end(log, at);
         let said = &log[at..end];
@@ -203,6 +204,7 @@ enum Task {
 }
 
 // What the arguments ask for.
+// Stays: each program has its own, since each has other fields and rules for a word; what they do alike is crate outside's.
 #[derive(Clone, Copy)]
 struct Asked {
     // The first of them that asks for something else than to tell a log counts.
@@ -327,17 +329,9 @@ fn tell_card(rt: &HostRuntime, end: u32, silence: u32) -> Status {
     }
 }
 
-// The status of what had to be written and nothing else.
-fn done(written: Result<(), outside::Unwritten>) -> Status {
-    match written {
-        Ok(()) => Status::Good,
-        Err(outside::Unwritten) => Status::Wrong,
-    }
-}
-
 // How the replayer is called.
-fn help(rt: &HostRuntime) -> Status {
-    done(print(
+fn help(rt: &HostRuntime) -> Result<(), outside::Unwritten> {
+    print(
         rt,
         b"usage: replay [--status] ltu|ntu [SILENCE] < LOG\n\
               Tells the story of an SDSL start-up log: one code a line, 0 to 8; 0*300 is 300 ticks.\n\
@@ -346,15 +340,15 @@ fn help(rt: &HostRuntime) -> Status {
               \x20            2 wrong use, or a log that is refused or cannot be read or told\n\
               \x20 --version  prints the version\n\
               \x20 --help     prints this\n",
-    ))
+    )
 }
 
 // Does what is asked, and answers the status.
-fn run(rt: &HostRuntime, asked: Asked) -> Status {
+fn run(rt: &HostRuntime, asked: Asked) -> Result<Status, outside::Unwritten> {
     match asked.task {
-        Task::Help => help(rt),
-        Task::Version => done(outside::print_version(rt, &NAME)),
-        Task::Refuse(at) => refuse(rt, at),
+        Task::Help => help(rt)?,
+        Task::Version => outside::print_version(rt, &NAME)?,
+        Task::Refuse(at) => return Ok(refuse(rt, at)),
         Task::Tell => {
             let end = match asked.end {
                 Some(i) => said_at(rt, i, end_named),
@@ -364,15 +358,16 @@ fn run(rt: &HostRuntime, asked: Asked) -> Status {
                 Some(i) => said_at(rt, i, silence_of),
                 None => 0,
             };
-            tell_card(rt, end, silence)
+            return Ok(tell_card(rt, end, silence));
         },
     }
+    Ok(Status::Good)
 }
 
 // Does as the arguments say.
 fn main(rt: HostRuntime) {
     let asked = arguments(&rt);
-    let status = run(&rt, asked);
+    let status = run(&rt, asked).unwrap_or(Status::Wrong);
     if asked.status {
         outside::tell_status(status.digit());
     }

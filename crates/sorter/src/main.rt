@@ -39,6 +39,7 @@ enum Task {
 }
 
 // What the arguments so far ask for.
+// Stays: each program has its own, since each has other fields and rules for a word; what they do alike is crate outside's.
 #[derive(Clone, Copy)]
 struct Asked {
     // To sort, or the first of the others.
@@ -138,6 +139,7 @@ impl Asked {
 }
 
 // What all arguments ask for; the places of the cards' names are put into files.
+// Stays: a room with a count beside it (Asked::cards), since there is no heap for a Vec.
 fn arguments(rt: &HostRuntime, files: &mut [usize]) -> Asked
     requires { length files.old ≡ 65536 }
 {
