@@ -154,7 +154,7 @@ def handed(files, function, argument):
 def lent_wrong(files, archive):
     """The room that is lent is given to the checks, which only look, and to what copies the sync bits, scrambles and clears the pad."""
     due = {
-        ("send", "frame"): ["refusal", "scrambled"],
+        ("send", "frame"): ["allowed", "scrambled"],
         ("scrambled", "room"): ["clocked", "octets::clear"],
         ("clocked", "room"): ["octets::copy", "recurrence::run"],
     }
