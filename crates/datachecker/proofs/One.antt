@@ -1,23 +1,19 @@
 -- One result per call. Assumes nothing.
-use mathlib.Core.Path.{◌≡◌, refl, sym, ap, ap₂, ◌∙◌}
+use mathlib.Core.Path.{◌≡◌, refl, sym, ap₂, ◌∙◌}
 use mathlib.Core.List.{List}
 use Prim.Native.Nat.{ℕ}
-use denote.Ref.{Bor}
 use Rattle.std.specs.Prelude.{Result, ⊤}
 use Rattle.answer.specs.declared.Refused.{Refused}
 use Rattle.answer.specs.Given.{answer_of}
 use Rattle.answer.proofs.Given.{result-one}
-use Rattle.dataframe.specs.declared.Room.{Room}
-use Rattle.datacrc.proofs.One.{is-room-one}
 use Rattle.datachecker.specs.declared.Verdict.{Verdict}
 use Rattle.datachecker.specs.Promises.{DataChecked, Found, VerdictGiven}
 
-found-one : (form k : ℕ) (frame : Bor (List ℕ)) (v w : Verdict) → Found form k frame v → Found form k frame w → v ≡ w
+found-one : (form k : ℕ) (frame : List ℕ) (v w : Verdict) → Found form k frame v → Found form k frame w → v ≡ w
 found-one form k frame v w p q =
-    ap (λ (x : Room). record { room = x; stuffing = v.stuffing; crc = v.crc }) (is-room-one form k frame v.room w.room p.room_is q.room_is)
-    ∙ ap₂ (λ (x y : ℕ). record { room = w.room; stuffing = x; crc = y }) (p.stuffing_is ∙ sym q.stuffing_is) (p.crc_is ∙ sym q.crc_is)
+    ap₂ (λ (x y : ℕ). record { stuffing = x; crc = y }) (p.stuffing_is ∙ sym q.stuffing_is) (p.crc_is ∙ sym q.crc_is)
 
-pub judge-one : (form k word next : ℕ) (frame : Bor (List ℕ)) (r r' : Result Verdict Refused)
+pub judge-one : (form k word next : ℕ) (frame : List ℕ) (r r' : Result Verdict Refused)
     → VerdictGiven form k word next frame r → VerdictGiven form k word next frame r' → r ≡ r'
 judge-one form k word next frame r r' p q =
     result-one r r' (p.checked.answered ∙ sym q.checked.answered) (λ v w e f. found-one form k frame v w (rw e at p.given) (rw f at q.given))

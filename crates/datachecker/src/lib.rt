@@ -14,10 +14,9 @@ ghost use Rattle.datachecker.specs.Promises.{DataChecked, VerdictGiven};
 use answer::Refused;
 use dataframe::{Form, Room};
 
-// What checking finds: the room of a frame that is right, how many stuffing bits the frame has, and the six check bits that stand in it.
+// What checking finds in a frame that is right: how many stuffing bits it has, and the six check bits that stand in it.
 #[derive(Clone, Copy)]
-pub struct Verdict<'a> {
-    pub room: Room<'a>,
+pub struct Verdict {
     pub stuffing: u32,
     pub crc: u32,
 }
@@ -96,20 +95,13 @@ fn stuffing_of(room: Room<'_>, sync: u32, next: u32, due: u32) -> Result<u32, Re
 }
 
 // What is wrong with a frame, or what was found on the way.
-pub fn judge<'a>(
-    form: u32,
-    size: u32,
-    sync: u32,
-    next: u32,
-    frame: &'a [u8],
-) -> Result<Verdict<'a>, Refused>
-    ensures { VerdictGiven form size sync next frame.entry result }
+pub fn judge(form: u32, size: u32, sync: u32, next: u32, frame: &[u8]) -> Result<Verdict, Refused>
+    ensures { VerdictGiven form size sync next frame.now result }
 {
     let room = datacrc::room(form, size, frame)?;
     let six = datacrc::sixes_in(room);
     let stuffing = stuffing_of(room, sync, next, six.due)?;
     Ok(Verdict {
-        room,
         stuffing,
         crc: six.carried,
     })

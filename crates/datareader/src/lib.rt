@@ -78,7 +78,11 @@ pub fn read(
         return Err(Refused::Length);
     }
     let found = datachecker::judge(form, size, sync, next, frame)?;
-    let room = found.room;
+    let room = Room {
+        form: Form::try_from(form).unwrap(),
+        size,
+        octets: frame,
+    };
     take_payload(payload, room);
     Ok(Overhead {
         indicators: indicators_in(room),
