@@ -2,7 +2,7 @@
 
 A public function is reached by another crate, or exported and called by a test in C. `results.py --callers` lists by which. The exports of
 crate host_c are the functions of crate host for C, each with the same contract (tests/contracts): they have no rows of their own. Nor have
-the fourteen of crate outside, by name: what they give comes from the system, and no contract can say what that is. Ten of them hand on all that
+the fifteen of crate outside, by name: what they give comes from the system, and no contract can say what that is. Nine of them hand on all that
 they do and have no ensures either. Only programs may use them.
 """
 import pathlib
@@ -12,8 +12,8 @@ import sys
 ROOT = pathlib.Path(__file__).resolve().parents[2]
 EXPORTS = "host_c"
 OUTSIDE = "outside"
-HANDED_ON = {f"{OUTSIDE}::{name}" for name in ("arg_count", "said", "option", "open", "complain", "fail", "print", "print_version", "refuse", "tell_status")}
-OF_THE_SYSTEM = HANDED_ON | {f"{OUTSIDE}::{name}" for name in ("room", "arg", "read_full", "fill")}
+HANDED_ON = {f"{OUTSIDE}::{name}" for name in ("arg_count", "option", "open", "complain", "fail", "print", "print_version", "refuse", "tell_status")}
+OF_THE_SYSTEM = HANDED_ON | {f"{OUTSIDE}::{name}" for name in ("room", "arg", "word", "said", "read_full", "fill")}
 wrong = []
 
 

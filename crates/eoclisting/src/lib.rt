@@ -53,6 +53,9 @@ const FIFTEEN: u32 = 16;
 
 const ZERO: u32 = 17;
 
+// An address from here on is no unit's.
+const UNITS: u32 = eoc::ADDRESSES;
+
 // ---- names
 
 // A unit by its row: by its address, as a destination.
@@ -362,12 +365,13 @@ pub fn line(n: u32, octets: &[u8], room: &mut [u8]) -> Listed
 fn put_left(text: &mut Text<'_>, before: u32, behind: u32)
     ensures { Puts text.old (left_text before behind) text.new }
 {
-    if before != 0 || behind != 0 {
-        forms::form(
+    match (before, behind) {
+        (0, 0) => {},
+        _ => forms::form(
             text,
             b"left out: octets before the first flag: #, behind the last: #\n",
             &[before, behind],
-        );
+        ),
     }
 }
 
@@ -387,7 +391,7 @@ fn put_count(text: &mut Text<'_>, n: u32, good: u32)
 fn put_taken(text: &mut Text<'_>, own: u32, taken: u32)
     ensures { Puts text.old (taken_text own taken) text.new }
 {
-    if own < eoc::ADDRESSES {
+    if own < UNITS {
         text.word(b"; ");
         put_unit(text, own);
         forms::form(text, b" takes #", &[taken]);

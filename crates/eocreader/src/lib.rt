@@ -56,10 +56,9 @@ fn other_escape(s: &[u8]) -> bool
 fn meant(octet: u8) -> u8
     ensures { result ≡ cond (eqb octet flag_mark) flag escape }
 {
-    if octet == eoc::FLAG_MARK {
-        eoc::FLAG
-    } else {
-        eoc::ESCAPE
+    match octet {
+        eoc::FLAG_MARK => eoc::FLAG,
+        _ => eoc::ESCAPE,
     }
 }
 

@@ -70,7 +70,7 @@ pub fn arg(rt: &HostRuntime, i: usize, buf: &mut [u8]) -> Result<usize>
 }
 
 // The same, where one that is too long counts as one of no octets.
-fn word(rt: &HostRuntime, i: usize, buf: &mut [u8]) -> usize
+pub fn word(rt: &HostRuntime, i: usize, buf: &mut [u8]) -> usize
     ensures { result ≤ length buf.new }
 {
     match arg(rt, i, buf) {
@@ -80,7 +80,9 @@ fn word(rt: &HostRuntime, i: usize, buf: &mut [u8]) -> usize
 }
 
 // What argument i says, in this buffer. One that is too long says nothing.
-pub fn said<'a>(rt: &HostRuntime, i: usize, buf: &'a mut [u8]) -> &'a [u8] {
+pub fn said<'a>(rt: &HostRuntime, i: usize, buf: &'a mut [u8]) -> &'a [u8]
+    ensures { length result.now ≤ length buf.old }
+{
     let n = word(rt, i, buf);
     &buf[..n]
 }

@@ -282,7 +282,8 @@ fn said_at<F: Fn(&[u8]) -> u32>(rt: &HostRuntime, i: usize, read: F) -> u32
     requires { F.IsAlwaysCallable read }
 {
     let mut buf: [u8; outside::PATH] = outside::room();
-    read(outside::said(rt, i, &mut buf))
+    let n = outside::word(rt, i, &mut buf);
+    read(&buf[..n])
 }
 
 // What all arguments ask for.

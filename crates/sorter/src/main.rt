@@ -58,7 +58,9 @@ struct Asked {
 
 impl Asked {
     // The same, asking for this, where it is the first such argument.
-    fn asks(mut self, task: Task) -> Asked {
+    fn asks(mut self, task: Task) -> Asked
+        ensures { result.cards ≡ self.cards }
+    {
         if let Task::Sort = self.task {
             self.task = task;
         }
@@ -66,7 +68,9 @@ impl Asked {
     }
 
     // With --like.
-    fn with_like(mut self) -> Asked {
+    fn with_like(mut self) -> Asked
+        ensures { result.cards ≡ self.cards }
+    {
         if self.like.is_some() {
             return self.asks(Task::Twice);
         }
@@ -75,7 +79,9 @@ impl Asked {
     }
 
     // With one option more, which stands at this place.
-    fn with_option(mut self, option: Argument, at: usize) -> Asked {
+    fn with_option(mut self, option: Argument, at: usize) -> Asked
+        ensures { result.cards ≡ self.cards }
+    {
         match option {
             Argument::Status => {
                 self.status = true;
