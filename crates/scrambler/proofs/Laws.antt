@@ -52,15 +52,12 @@ module _ (x : Scrambler) (input : List ℕ) (bits : ℕ) (output : List ℕ) whe
       let four = none 3 _ (drop 4 R) two.1 in
       (ltb-false _ _ one.0, leb-false _ _ four.0)
 
--- a result gives one value
-ok-one : (m n : ℕ) (r : Result ℕ Refused) → r ≡ Ok m → r ≡ Ok n → m ≡ n
-ok-one m n r p q = ap value (sym p ∙ q)
-  where
-    value : Result ℕ Refused → ℕ
-    value (Ok v) = v
-    value (Err e) = 0
-
 -- ---- a whole frame
+
+-- the scrambler of an end to go on with, with the state that the line's run gives
+abbrev pub framed : ℕ → Result ℕ Refused → Result Scrambler Refused
+framed end (Ok n) = Ok (record { end = end; state = n })
+framed end (Err e) = Err e
 
 module _ (x : Scrambler) (frame output : List ℕ) where
   pub frame-sound : answer (frame_refusals x frame output) ≡ 0 → (length frame ≡ 529) × (length output ≡ 529) × (x.state < 2 ^ 23)
@@ -99,23 +96,17 @@ module _ (x : Scrambler) (frame output : List ℕ) where
       subst (λ (n : ℕ). OnLine.RunPromise way n x.state frame 14 4213 (laid output 0 (part 0 14 (bits_of frame))) r s₂) e
       (subst (λ (s : List ℕ). OnLine.RunPromise way tap x.state frame 14 4213 s r s₂) e₁ p)
 
-  -- a frame of which nothing is refused
-  module _ (way : Way) (r : Result ℕ Refused) (s₂ : List ℕ) (p : ClockedPromise way x frame output r s₂) (z : answer (frame_refusals x frame output) ≡ 0) where
-    abbrev s₁ : List ℕ
-    s₁ = laid output 0 (part 0 14 (bits_of frame))
-
-    ran : (r ≡ Ok (after_of way (tap_of x.end) x.state (clocked frame))) × (s₂ ≡ laid s₁ 14 (run_of way (tap_of x.end) x.state (clocked frame)))
-    ran =
-        let w = frame-sound z in
-        let c = run-complete (tap_of x.end) x.state frame 14 4213 (tap-range x.end).0 (tap-range x.end).1 w.2 (omega (arith, w.0)) in
-        run-given (tap_of x.end) x.state frame 14 4213 way s₁ s₂ c r p
-
-    pub frame-taken : (n : ℕ) (s₃ : List ℕ) → r ≡ Ok n → s₃ ≡ laid s₂ 4227 (replicate 5 0)
-        → FramePromise way x frame output (Ok (record { end = x.end; state = n })) s₃
-    frame-taken n s₃ e e₃ =
-        let w = frame-sound z in
-        record {
-          answered = sym z;
-          next = ap (λ (k : ℕ). record { end = x.end; state = k }) (ok-one n _ r e ran.0);
-          left = frame-done way s₁ s₂ s₃ w.0 w.1 refl ran.1 e₃;
-        }
+  -- a frame of which nothing is refused: nor is the line's run, so its state is the scrambler's
+  pub frame-taken : (way : Way) (r : Result ℕ Refused) (s₂ s₃ : List ℕ) → ClockedPromise way x frame output r s₂ → s₃ ≡ laid s₂ 4227 (replicate 5 0)
+      → answer (frame_refusals x frame output) ≡ 0 → FramePromise way x frame output (framed x.end r) s₃
+  frame-taken way r s₂ s₃ p e₃ z =
+      let w = frame-sound z in
+      let s₁ = laid output 0 (part 0 14 (bits_of frame)) in
+      let c = run-complete (tap_of x.end) x.state frame 14 4213 (tap-range x.end).0 (tap-range x.end).1 w.2 (omega (arith, w.0)) in
+      let ran = run-given (tap_of x.end) x.state frame 14 4213 way s₁ s₂ c r p in
+      subst (λ (q : Result ℕ Refused). FramePromise way x frame output (framed x.end q) s₃) (sym ran.0)
+      (record {
+        answered = sym z;
+        next = refl;
+        left = frame-done way s₁ s₂ s₃ w.0 w.1 refl ran.1 e₃;
+      })
