@@ -1,5 +1,5 @@
 -- Laws of ranges: numbers from -(h + 1) to h, one by one and in lists. Assumes nothing.
-use mathlib.Core.Path.{◌≡◌, refl, ap, ◌∙◌}
+use mathlib.Core.Path.{◌≡◌, refl, sym, ap, ◌∙◌}
 use mathlib.Core.Bool.{Bool, true, false, ◌&&◌, and-true, false≢true}
 use mathlib.Core.List.{List, [], ◌∷◌, ◌++◌}
 use Prim.Native.Nat.{ℕ, zero, suc, ◌≤◌, ◌<◌, zero-le}
@@ -9,7 +9,8 @@ use lib.Dec.{leb}
 use lib.IntN.{ℤ, pos, negsuc}
 use lib.ListN.{length, get_or, take, replicate}
 use lib.Signed.{mag}
-use Rattle.std.specs.List.{list_all}
+use Rattle.std.specs.List.{list_all, fold}
+use Rattle.std.proofs.Math.Bool.{and_assoc}
 use Rattle.ranges.specs.Ranges.{between, every}
 
 -- two tests that both hold
@@ -35,6 +36,11 @@ pub every-all : (test : ℤ → Bool) (zs : List ℤ) → list_all test zs ≡ e
 unfolding every
 every-all test [] = refl
 every-all test (z ∷ zs) = ap (λ (t : Bool). test z && t) (every-all test zs)
+
+pub every-folded : (test : ℤ → Bool) (a : Bool) (zs : List ℤ) → fold (λ b z. b && test z) a zs ≡ (a && every test zs)
+unfolding every
+every-folded test a [] = sym (and-true a)
+every-folded test a (z ∷ zs) = every-folded test (a && test z) zs ∙ and_assoc a (test z) (every test zs)
 
 pub every-at : (test : ℤ → Bool) (zs : List ℤ) (i : ℕ) → i < length zs → every test zs ≡ true → test (get_or zs i (pos 0)) ≡ true
 unfolding every
