@@ -27,7 +27,8 @@ pub fn put_number(octets: &mut [u8], k: usize, z: i32)
 {
     if k < octets.len() / NUMBER_OCTETS {
         let at = NUMBER_OCTETS * k;
-        octets[at..at + NUMBER_OCTETS].copy_from_slice(&z.to_le_bytes());
+        let [a, b, c, d] = z.to_le_bytes();
+        octets[at..at + NUMBER_OCTETS].copy_from_slice(&[a, b, c, d]);
     }
 }
 
