@@ -111,6 +111,16 @@ fn next_sync(s: &[u8], p: usize, stop: usize) -> usize
     stop
 }
 
+// The number of what a check gives.
+fn answered(given: Result<(), Refused>) -> u32
+    ensures { result ≡ answer_of given }
+{
+    match given {
+        Ok(()) => answer::DONE,
+        Err(no) => no.number(),
+    }
+}
+
 // What is searched: the end whose bits were heard, and the bits kept with those of a lump behind them.
 #[derive(Clone, Copy)]
 struct Heard<'a> {
@@ -144,7 +154,7 @@ impl<'a> Heard<'a> {
     {
         let mut plain = [0u8; layout::FRAME_OCTETS];
         self.descrambled(at, &mut plain);
-        if checker::check(&plain).is_err() {
+        if answered(checker::check(&plain)) != answer::DONE {
             return false;
         }
         octets::copy(frame, 0, &plain, 0, 8 * layout::FRAME_OCTETS as u32);

@@ -15,7 +15,7 @@ use Rattle.answer.proofs.Laws.{none}
 use Rattle.octets.specs.Bits.{bits_of, octets_of, part, laid}
 use Rattle.octets.proofs.Digits.{append_bits, take-bits}
 use Rattle.octets.proofs.Laws.{bits-length, bits-bits, laid_next, laid_end}
-use Rattle.recurrence.specs.Run.{run_of, after_of}
+use Rattle.recurrence.specs.Run.{run_of}
 use Rattle.recurrence.specs.declared.Way.{Way}
 use Rattle.recurrence.specs.Promises as OnLine
 use Rattle.recurrence.proofs.Answers.{run-complete, run-given}

@@ -102,7 +102,7 @@ impl<'a> Fields<'a> {
         bitfields::put_field(frame, 0, layout::SYNC_BITS, layout::FINAL_SYNC);
         octets::clear(frame, layout::COEFFICIENTS_AT, layout::ALL_COEFFICIENT_BITS);
         let none = Fields {
-            count: 0,
+            count: self.count,
             coefficients: self.coefficients,
             a: 0,
             b: 0,

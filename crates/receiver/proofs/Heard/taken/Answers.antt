@@ -9,19 +9,17 @@ use Rattle.answer.specs.Answer.{answer}
 use Rattle.layout.specs.Refusals.{check_refusals}
 use Rattle.octets.specs.Bits.{bits_of}
 use Rattle.octets.proofs.Laws.{Octets}
-use Rattle.receiver.proofs.Laws.{is-refused, is-right, frame-size, frame-octets, whole-copied}
+use Rattle.receiver.proofs.Laws.{frame-size, frame-octets, whole-copied}
 use Rattle.receiver.proofs.Heard.taken.Goals as goal
 
-pub returns-then-is_err : goal.returns-then-is_err
-returns-then-is_err c =
-    let wrong = is-refused c.check.result (sym c.is_err.ensures.value ∙ c.if-is_err.true) in
-    (sym (ne_eqb _ _ (λ k. wrong (c.check.ensures.answered ∙ ap (λ (t : List ℕ). answer (check_refusals t)) c.descrambled.ensures ∙ k))), refl)
+pub returns-then-answered-ne-DONE : goal.returns-then-answered-ne-DONE
+returns-then-answered-ne-DONE c =
+    (sym (ne_eqb _ _ (λ k. c.if-answered-ne-DONE.true (c.answered.ensures ∙ c.check.ensures.answered ∙ ap (λ (t : List ℕ). answer (check_refusals t)) c.descrambled.ensures ∙ k))), refl)
 
 pub returns : goal.returns
 returns c =
-    let a = c.args in
-    let right = is-right c.check.result (sym c.is_err.ensures.value ∙ c.if-is_err.false) in (
-      sym (eq-eqb _ _ (ap (λ (t : List ℕ). answer (check_refusals t)) (sym c.descrambled.ensures) ∙ sym c.check.ensures.answered ∙ right)),
+    let a = c.args in (
+      sym (eq-eqb _ _ (ap (λ (t : List ℕ). answer (check_refusals t)) (sym c.descrambled.ensures) ∙ sym c.check.ensures.answered ∙ sym c.answered.ensures ∙ c.if-answered-ne-DONE.false)),
       c.copy.ensures
           ∙ whole-copied a.frame.now c.descrambled.new.plain 529
           (λ i. omega (arith, c.slice_known-1.given i))
