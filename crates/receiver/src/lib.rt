@@ -112,6 +112,7 @@ fn next_sync(s: &[u8], p: usize, stop: usize) -> usize
 }
 
 // The number of what a check gives.
+// Stays: a number, since the edit room_written_for_a_candidate of this crate lets all but one of them by.
 fn answered(given: Result<(), Refused>) -> u32
     ensures { result ≡ answer_of given }
 {
