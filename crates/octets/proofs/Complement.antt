@@ -7,8 +7,8 @@ use native.Mathlib.Decide.{dec_lt}
 use native.Mathlib.Omega.{arith}
 use borrow.Author.Tests.{lt-ltb, le-ltb, ltb-true}
 use lib.IntN.{ℤ, pos, negsuc, ◌-ℤ◌}
-use lib.Arith.{digits_mod}
-use lib.Pow.{pow_pos, pow-add, split, shr_lt, mod-mod-pow}
+use lib.Arith.{digits_div, digits_mod}
+use lib.Pow.{pow_pos, pow_mono, pow-add, split, shr_lt, mod-mod-pow}
 use lib.Signed.{mag, lt_z}
 use mir.Syntax.{w32}
 use mir.Val.{SFits, to_z, of_z}
@@ -53,6 +53,33 @@ high_half (suc w) n h l = omega (arith, twice (suc w) (omega arith))
 pub less_one : (d : ℕ) → negsuc 0 -ℤ pos d ≡ negsuc d
 less_one zero = refl
 less_one (suc d) = ap negsuc (omega arith)
+
+none : (n : ℕ) → pos n -ℤ pos 0 ≡ pos n
+none zero = refl
+none (suc n) = ap pos (omega arith)
+
+-- the number, less 2^w where the highest digit is 1
+pub signed_less : (w n : ℕ) → n < 2 ^ w → pos n -ℤ pos ((n + n) / 2 ^ w * 2 ^ w) ≡ signed_of w n
+signed_less w n h = pick (dec_lt (n + n) (2 ^ w))
+  where
+    P : ℕ
+    P = 2 ^ w
+
+    taken : (q : ℕ) → (n + n) / P ≡ q → pos n -ℤ pos ((n + n) / P * P) ≡ pos n -ℤ pos (q * P)
+    taken q e = ap (λ (x : ℕ). pos n -ℤ pos (x * P)) e
+
+    pick : Dec (n + n < P) → pos n -ℤ pos ((n + n) / P * P) ≡ signed_of w n
+    pick (yes l) =
+        let e : n + n ≡ 0 * P + (n + n) = omega arith in
+        let z : 0 * P ≡ 0 = omega arith in
+        taken 0 (ap (λ (x : ℕ). x / P) e ∙ digits_div 0 l) ∙ ap (λ (x : ℕ). pos n -ℤ pos x) z ∙ none n
+        ∙ sym (signed_low w n (low_half w n l))
+    pick (no l) =
+        let m : P ≤ n + n = omega arith in
+        let e : n + n ≡ 1 * P + (n + n - P) = omega arith in
+        let o : 1 * P ≡ P = omega arith in
+        taken 1 (ap (λ (x : ℕ). x / P) e ∙ digits_div 1 (omega arith)) ∙ ap (λ (x : ℕ). pos n -ℤ pos x) o ∙ less n P h
+        ∙ sym (signed_high w n (high_half w n m h) h)
 
 -- the bits that a machine holds of a whole number
 pub cast-twos : (z : ℤ) → SFits w32 z → of_z w32 z ≡ twos_of 32 z
@@ -164,6 +191,15 @@ signed_range w n h l = pick (dec_lt n (2 ^ (w - 1)))
     pick (no p) =
         let q : 2 ^ (w - 1) ≤ n = omega arith in
         subst (λ (z : ℤ). mag z < 2 ^ (w - 1)) (sym (signed_high w n q l)) (omega (arith, twice w h))
+
+-- of 32 digits or fewer it fits an i32
+pub signed_fits : (w n : ℕ) → w ≤ 32 → n < 2 ^ w → SFits w32 (signed_of w n)
+signed_fits zero n h l = subst (SFits w32) (sym (signed_low 0 n l)) (record { sfits = omega arith })
+signed_fits (suc w) n h l =
+    let i : w ≤ 31 = omega arith in
+    let p : 2 ^ w ≤ 2 ^ 31 = pow_mono i in
+    let e : suc w - 1 ≡ w = omega arith in
+    record { sfits = omega (arith, p, signed_range (suc w) n (omega arith) l, ap (λ (x : ℕ). 2 ^ x) e) }
 
 -- a number that fits an i32 is read back from its bits
 pub read-i32 : (z : ℤ) → mag z < 2 ^ 31 → to_z w32 (of_z w32 z) ≡ z

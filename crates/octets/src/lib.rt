@@ -289,16 +289,15 @@ pub fn is_clear(s: &[u8], at: usize, n: u32) -> bool
         && octets_clear(s, i, i + ((n - head) / 8) as usize)
 }
 
-// The whole number that the w low digits of n stand for in two's complement; a width over 32 counts as 32.
+// The whole number that the w low digits of n stand for in two's complement: their value, less 2 to the power w where the highest is 1;
+// a width over 32 counts as 32.
 pub fn signed(w: u32, n: u32) -> i32
     ensures { Signed w n result }
 {
     let size = 1u64 << w.min(WIDEST);
     let v = (n as u64) % size;
-    if v + v < size {
-        return v as i32;
-    }
-    -1 - ((size - 1 - v) as i32)
+    let top = (v + v) / size;
+    (v as i64 - (top * size) as i64) as i32
 }
 
 // The value of the 32 digits of a whole number in two's complement.

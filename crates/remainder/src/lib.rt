@@ -84,14 +84,16 @@ fn joined(x: u64, t: u64, n: u32) -> u64
     folded(low) ^ high
 }
 
-// The word that stands for a start and so many words from octet i on.
+// The word that stands for a start and so many words from octet i on. Each is read as eight octets of their own: so the compiler
+// makes one load of it, and looks for no end.
 fn words(start: u16, s: &[u8], i: usize, count: usize) -> u64
     requires { (1 ≤ count) × (i + 8 * count ≤ length s.now) }
     ensures { register_of 16 generator start (part (8 * i) (64 * count) (bits_of s.now)) ≡ register_of 16 generator 0 (digits_of 64 result) }
 {
     let mut x = octets::word(s, i) ^ u64::from(bitfields::turned(DEGREE, u32::from(start)));
     for k in 1..count {
-        let w = octets::word(s, i + 8 * k);
+        let at = i + 8 * k;
+        let w = octets::word(&s[at..at + 8], 0);
         x = folded(x) ^ w;
     }
     x

@@ -1,17 +1,27 @@
 -- `remainder::words` meets its contract. After k words x stands for them and the start.
 use mathlib.Core.Path.{◌≡◌, sym, ap, ◌∙◌}
-use Prim.Native.Nat.{ℕ, ◌+◌, ◌*◌}
+use mathlib.Core.List.{List}
+use Prim.Native.Nat.{ℕ, ◌+◌, ◌-◌, ◌*◌, ◌≤◌}
 use native.Mathlib.Omega.{arith}
 use lib.Bits.{bit_xor}
 use lib.Dec.{lit≤}
-use Rattle.octets.specs.Bits.{digits_of, bits_of, part}
+use lib.ListN.{length, take, drop}
+use Rattle.octets.specs.Bits.{digits_of, value_of, bits_of, part}
+use Rattle.octets.proofs.Fields.{part-part}
 use Rattle.octets.proofs.Turn.{turn_of}
-use Rattle.octets.proofs.Words.{field-digits}
+use Rattle.octets.proofs.Words.{octets-part, field-digits}
 use Rattle.remainder.specs.Division.{generator}
 use Rattle.remainder.specs.Register.{register_of}
 use Rattle.remainder.proofs.Errors.{generator-degree}
 use Rattle.remainder.proofs.Quotient.{start-in, word_more}
 use Rattle.remainder.proofs.words.Goals as goal
+
+-- eight octets by themselves hold the bits that they hold among the others
+alone : (s : List ℕ) (p : ℕ) → p + 8 ≤ length s → part 0 64 (bits_of (take (p + 8 - p) (drop p s))) ≡ part (8 * p) 64 (bits_of s)
+alone s p h =
+    let e : p + 8 - p ≡ 8 = omega arith in
+    ap (λ (n : ℕ). part 0 64 (bits_of (take n (drop p s)))) e ∙ ap (part 0 64) (octets-part s p 8 h)
+    ∙ part-part (bits_of s) 0 64 (8 * p) 64 (8 * p) (lit≤ tt) (omega arith)
 
 pub loop-k-init : goal.loop-k-init
 loop-k-init c =
@@ -31,10 +41,10 @@ loop-k-preserved c =
     let l = c.loop-k in
     let a = c.args in
     let s = a.s.now in
-    let p = 8 * (a.i + 8 * l.k) in
     let e : 64 * l.k + 64 ≡ 64 * (l.k + 1) = omega arith in
-    let f : p ≡ 8 * a.i + 64 * l.k = omega arith in
-    let d = ap (digits_of 64) w.ensures ∙ field-digits s p 64 (omega arith) ∙ ap (λ (q : ℕ). part q 64 (bits_of s)) f in (
+    let d : digits_of 64 w.result ≡ part (8 * a.i + 64 * l.k) 64 (bits_of s) =
+    ap (digits_of 64) (w.ensures ∙ ap value_of (alone s _ (omega arith))) ∙ field-digits s _ 64 (omega arith)
+    ∙ ap (λ (q : ℕ). part q 64 (bits_of s)) (omega arith) in (
       omega arith,
       omega arith,
       word_more 16 generator (lit≤ tt) generator-degree s (8 * a.i) a.start c.ranges.start.fits (64 * l.k) 64 (64 * (l.k + 1)) (digits_of 64 l.x) (digits_of 64 w.result) e
