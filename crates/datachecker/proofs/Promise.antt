@@ -140,7 +140,7 @@ module _ (r : Room) (word next : ℕ) where
       }
 
   pub then-refused : (form k : ℕ) (frame : Bor (List ℕ)) (e : Refused) → IsRoomOf form k frame r → StuffingGiven r word next (Err e)
-      → VerdictGiven form k word next frame.now (Err e)
+      → VerdictGiven form k word next frame (Err e)
   then-refused form k frame e i s =
       record {
         given = tt;
@@ -148,10 +148,12 @@ module _ (r : Room) (word next : ℕ) where
       }
 
   pub found-right : (form k : ℕ) (frame : Bor (List ℕ)) (n six : ℕ) → IsRoomOf form k frame r → StuffingGiven r word next (Ok n) → six ≡ (carried_by r).crc
-      → VerdictGiven form k word next frame.now (Ok (record { stuffing = n; crc = six }))
+      → VerdictGiven form k word next frame (Ok (record { stuffing = n; crc = six }))
   found-right form k frame n six i s e =
       record {
         given = record {
+          room = r;
+          room_is = i;
           stuffing_is = by-room (λ f m o. n ≡ (overhead_in f m (bits_of o.now)).stuffing) form k frame r i s.given;
           crc_is = by-room (λ f m o. six ≡ (overhead_in f m (bits_of o.now)).crc) form k frame r i e;
         };

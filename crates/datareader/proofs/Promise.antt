@@ -21,7 +21,7 @@ use Rattle.dataframe.specs.Frame.{overhead_in, payload_in, Due}
 use Rattle.dataframe.specs.Refusals.{crc_refusals, frame_refusals, check_refusals, read_refusals}
 use Rattle.dataframe.proofs.Refused.{Fit, fit}
 use Rattle.datachecker.specs.declared.Verdict.{Verdict}
-use Rattle.datachecker.specs.Promises.{DataChecked, Found}
+use Rattle.datachecker.specs.Promises.{DataChecked}
 use Rattle.datareader.specs.Promises.{DataRead}
 use Rattle.datareader.proofs.Laws.{overhead-is}
 
@@ -70,17 +70,18 @@ module _ (form k word next : ℕ) (frame octets : List ℕ) where
   known (Ok g) p c = refl
   known (Err e) p c = absurd (omega (arith, p.1, (right c).known))
 
-  pub done : length octets ≡ 6 * k → (v : Verdict) → Found form k frame v → DataChecked form k word next frame 0 → (g : Form) → form_number g ≡ form
+  pub done : length octets ≡ 6 * k → (v : Verdict) → v.stuffing ≡ (overhead_in form k B).stuffing → v.crc ≡ (overhead_in form k B).crc
+      → DataChecked form k word next frame 0 → (g : Form) → form_number g ≡ form
       → (i e s : ℕ) (exit : List ℕ) → i ≡ (overhead_in (form_number g) k B).indicators → e ≡ (overhead_in (form_number g) k B).eoc
       → s ≡ (overhead_in (form_number g) k B).spare → exit ≡ payload_in (form_number g) k B
       → DataRead form k word next frame octets (Ok (record { indicators = i; eoc = e; spare = s; stuffing = v.stuffing; crc = v.crc })) exit
-  done l v f c g q i e s exit ei ee es ex =
+  done l v et er c g q i e s exit ei ee es ex =
       let y : 0 ≡ answer R = c.answered ∙ sym (long l) in
       let o = λ (n : ℕ). overhead_in n k B in
       record {
         answered = y;
         found = overhead-is form k B i e s v.stuffing v.crc (ei ∙ ap (λ (n : ℕ). (o n).indicators) q) (ee ∙ ap (λ (n : ℕ). (o n).eoc) q)
-            (es ∙ ap (λ (n : ℕ). (o n).spare) q) f.stuffing_is f.crc_is;
+            (es ∙ ap (λ (n : ℕ). (o n).spare) q) et er;
         payload_left = ex ∙ ap (λ (n : ℕ). payload_in n k B) q ∙ sym (given (answer R) octets (payload_in form k B) (sym y));
         due_right = λ z. c.due_right z;
         due_wrong = λ w. absurd (omega (arith, w));

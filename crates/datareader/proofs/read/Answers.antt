@@ -32,6 +32,6 @@ pub returns : goal.returns
 returns c =
     let a = c.args in
     let v = c.in_ok-found in
-    done a.form a.size a.sync a.next a.frame.now a.payload.now c.if-payload-size.false v.found v.ensures.given v.ensures.checked c.unwrap.result
+    done a.form a.size a.sync a.next a.frame.now a.payload.now c.if-payload-size.false v.found v.ensures.given.stuffing_is v.ensures.given.crc_is v.ensures.checked c.unwrap.result
     (MatchResult-at_ok _ _ _ c.unwrap.ensures c.try_from.ensures) c.indicators_in.result c.eoc_in.result c.spare_in.result c.take_payload.new.payload
     c.indicators_in.ensures c.eoc_in.ensures c.spare_in.ensures c.take_payload.ensures
