@@ -22,7 +22,7 @@ judge-one form k word next frame r r' p q =
 
 -- and one room
 pub found-room-one : (form k : ℕ) (frame : Bor (List ℕ)) (v w : Verdict) (p : Found form k frame v) (q : Found form k frame w) → p.room ≡ q.room
-found-room-one form k frame v w p q = is-room-one form k frame p.room q.room p.room_is q.room_is
+found-room-one form k frame v w p q = is-room-one _ _ frame p.room q.room p.room_is q.room_is
 
 -- the number of an answer
 pub check-one : (form k word next : ℕ) (frame : List ℕ) (r r' : ℕ) → DataChecked form k word next frame r → DataChecked form k word next frame r' → r ≡ r'

@@ -94,7 +94,8 @@ fn stuffing_of(room: Room<'_>, sync: u32, next: u32, due: u32) -> Result<u32, Re
     Ok(stuffing)
 }
 
-// What is wrong with a frame, or what was found on the way. The room that its promise names is that of this form, size and frame.
+// What is wrong with a frame, or what was found on the way. Where nothing is wrong, form, size and frame make a room (`Found`); a caller that
+// wants it makes it, as datareader does.
 pub fn judge(form: u32, size: u32, sync: u32, next: u32, frame: &[u8]) -> Result<Verdict, Refused>
     ensures { VerdictGiven form size sync next frame.entry result }
 {
